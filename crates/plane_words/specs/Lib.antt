@@ -1,0 +1,4 @@
+-- The words that every crate cites.
+pub mod Causes
+pub mod Growth
+pub mod InOrder
