@@ -4,6 +4,7 @@
 //! count of its faults, and a call answers [`Failed`] only where that count rose.
 #![tactic(auto)]
 
+mod append;
 mod input;
 mod items;
 mod mem_sink;
@@ -15,6 +16,7 @@ mod source;
 mod tests;
 mod text;
 
+pub use append::append_text;
 pub use input::{InputError, read_to_end};
 pub use items::Items;
 pub use mem_sink::MemSink;

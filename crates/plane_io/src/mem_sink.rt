@@ -98,6 +98,7 @@ impl Sink for MemSink {
         ensures passes { OnOk result ((¬ (Contains self.old.failing self.new.calls)) × (self.new.refused ≡ self.old.refused)) }
         ensures nothing { OnErr result (self.new.bytes ≡ self.old.bytes) }
         ensures faultless { OnOk result (self.new.faults ≡ self.old.faults) }
+        ensures later { self.old.refused ≤ self.new.refused }
 
         // Within its room no growth is refused, and the room stays.
         ensures within { length self.old.bytes + length bytes.now ≤ self.old.room → self.new.refused ≡ self.old.refused }

@@ -9,7 +9,7 @@ pub trait Sink {
     /// The bytes that were written so far, where the sink tells them.
     ghost held: { Self → Option (List ℕ) };
 
-    /// How often a call has failed; it stands still at 2^64 - 1.
+    /// A count that rises at least where a call fails, never falls, and stands still at 2^64 - 1.
     ghost faults: { Self → ℕ };
 
     /// Writes all of the bytes. Where that fails, a front of them was written, perhaps none of them.

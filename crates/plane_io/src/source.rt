@@ -9,10 +9,10 @@ pub trait Source {
     /// The bytes that are left, where the source tells them.
     ghost left: { Self → Option (List ℕ) };
 
-    /// How often a call has failed; it stands still at 2^64 - 1.
+    /// A count that rises at least where a call fails, never falls, and stands still at 2^64 - 1.
     ghost faults: { Self → ℕ };
 
-    /// Reads some bytes into the front of `into`, and answers how many. 0 means the end.
+    /// Reads some bytes into the front of `into`, which is not empty, and answers how many. 0 means the end.
     fn read(&mut self, into: &mut [u8]) -> Result<usize, Failed>
         requires { 0 < length into.old }
         ensures fits { IfOk result (λ count. count ≤ length into.new) }

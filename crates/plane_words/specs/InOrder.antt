@@ -1,4 +1,4 @@
--- Lists of a set in an order. A set has one such list, so where a list is said to be in order nothing is left open.
+-- Lists of a set in an order. Where the order tells values apart a set has one such list, so nothing is left open.
 use Rattle.std.specs.Prelude.{◌≡◌, List, Contains, Bool, true}
 use Rattle.std.specs.declared.cmp.Ordering.{Ordering}
 use Rattle.std.specs.declared.cmp.Ordering.TheVariants.{Equal}

@@ -4,6 +4,8 @@
 #![tactic(auto)]
 
 ghost use Rattle.std.specs.Prelude.{ℕ, ◌≡◌, ◌+◌, List, Bool};
+ghost use Rattle.std.specs.declared.cmp.Ordering.{Ordering};
+ghost use Rattle.std.specs.Cmp.{IsTotalOrder};
 ghost use Rattle.plane_words.specs.Causes.{RoseBy, Rose, DidNotRise};
 ghost use Rattle.plane_words.specs.InOrder.{ListsInOrder, TellsApart};
 
@@ -26,8 +28,8 @@ pub fn no_rise_is_no_rise()
 {
 }
 
-/// There is one list of a set in an order that tells its values apart.
-pub fn one_list_in_order<K: Ord>()
-    ensures { (member : K → Bool) (xs ys : List K) → TellsApart K.cmp → ListsInOrder K.cmp member xs → ListsInOrder K.cmp member ys → xs ≡ ys }
+/// There is one list of a set in a total order that tells its values apart.
+pub fn one_list_in_order<K>()
+    ensures { (cmp : K → K → Ordering) (member : K → Bool) (xs ys : List K) → IsTotalOrder cmp → TellsApart cmp → ListsInOrder cmp member xs → ListsInOrder cmp member ys → xs ≡ ys }
 {
 }

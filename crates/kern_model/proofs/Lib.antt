@@ -1,0 +1,9 @@
+pub mod NameLemmas
+pub mod OrderLemmas
+pub mod LineLemmas
+pub mod KernelLemmas
+pub mod MemberLemmas
+pub mod SetLemmas
+pub mod HeightLemmas
+pub mod PlanLemmas
+pub mod AdmitLemmas

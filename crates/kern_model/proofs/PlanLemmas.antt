@@ -1,0 +1,132 @@
+-- A map from places to objects gives the calls in their order.
+use Rattle.std.proofs.Common.{ℕ, zero, suc, ◌≡◌, ◌⊎◌, inl, inr, List, [], ◌∷◌, ◌++◌, map, Some, None, Option, true, false, Bool, cond, refl, ap, sym, subst, ◌∙◌, Contains}
+use Rattle.std.specs.Prelude.{◌&&◌, not, ◌↔◌}
+use Rattle.std.specs.Ordering.{nat_cmp, ordering_then, is_eq}
+use Rattle.std.specs.declared.cmp.Ordering.{Ordering}
+use Rattle.std.specs.declared.cmp.Ordering.TheVariants.{Less, Equal, Greater}
+use Rattle.std.specs.List.{AllByRecursion}
+use Rattle.std.specs.List.Sorted.{IsStrictlySortedBy}
+use Rattle.std.specs.Cmp.{IsTotalOrder, Equal-is, tied_itself, nat_cmp_total}
+use Rattle.std.specs.Cmp.Lexicographic.{slice_cmp, nat_list_cmp_total}
+use Rattle.std.specs.BTreeMap.{BTreeMap, get, is_at, IsOrdered}
+use Rattle.std.specs.FinSet as set
+use Rattle.std.proofs.lemmas.Cmp.{on_total, then_total}
+use Rattle.std.proofs.lemmas.Map.Lookups.{CmpEqualImpliesEq, exact_bytes, exact_unsigned, exact_pairs}
+use Rattle.std.proofs.lemmas.Map.Views.{btree_map_get_iff}
+use Rattle.std.proofs.lemmas.List.Elements.{Contains-append_left, Contains-push, Contains-push_cases}
+use Rattle.plane_words.specs.InOrder.{ListsInOrder}
+use Rattle.kern_model.specs.declared.object.Object.{Object}
+use Rattle.kern_model.specs.declared.object.Call.{Call}
+use Rattle.kern_model.specs.declared.object.Call.TheVariants.{Put, Take}
+use Rattle.kern_model.specs.declared.plan.Place.{Place}
+use Rattle.kern_model.specs.ObjectOrder.{Objects, object_cmp, call_key}
+use Rattle.kern_model.specs.Line.{IsPrintable, put_line, line_of}
+use Rattle.kern_model.specs.Place.{place_of, place_cmp}
+use Rattle.kern_model.specs.CallOrder.{call_cmp, is_call, AreCalls, height_of, rank}
+use Rattle.kern_model.proofs.LineLemmas.{object_of_line}
+use Rattle.kern_model.proofs.MemberLemmas.{all_members, member_of_all, map_member, member_of_map, ComesFrom}
+use Rattle.kern_model.proofs.SetLemmas.{set_of_member, member_of_set}
+use Rattle.kern_model.proofs.HeightLemmas.{level}
+
+pub places_total : IsTotalOrder place_cmp
+places_total = then_total (on_total (λ p. p.rank) nat_cmp_total) (on_total (λ p. p.line) nat_list_cmp_total)
+
+pub places_apart : CmpEqualImpliesEq place_cmp
+places_apart a b h = ap (λ (p : ℕ × List ℕ). record { rank = p.0; line = p.1 }) (exact_pairs nat_cmp (slice_cmp nat_cmp) exact_unsigned exact_bytes (a.rank, a.line) (b.rank, b.line) h)
+
+at_place : (p q : Place) → is_at (place_cmp p) q ≡ true → p ≡ q
+at_place p q h = places_apart p q ((Equal-is (place_cmp p q)).0 h)
+
+-- what a map has: the objects of a list, each at its place
+pub record Holds (at : Place → Option Object) (objects : List Object) : Type 0 where
+  pub sound : (q : Place) (o : Object) → at q ≡ Some o → (q ≡ place_of o) × IsPrintable o × Contains objects o
+  pub complete : (o : Object) → Contains objects o → at (place_of o) ≡ Some o
+
+-- after one more object was put at its place, the map has one more object
+pub holds_more : (old new : Place → Option Object) (objects : List Object) (place : Place) (o : Object) → place ≡ place_of o → IsPrintable o → ((q : Place) → new q ≡ cond (is_at (place_cmp place) q) (Some o) (old q)) → Holds old objects → Holds new (objects ++ o ∷ [])
+holds_more old new objects place o is printable updates holds = record {
+  sound = λ q x found. sound q x (is_at (place_cmp place) q) refl (sym (updates q) ∙ found);
+  complete = λ x member. elim (Contains-push_cases objects o x member) as (λ _. new (place_of x) ≡ Some x) [
+    | inl before ↦ updates (place_of x) ∙ kept x before (is_at (place_cmp place) (place_of x)) refl
+    | inr same ↦ updates (place_of x) ∙ ap (λ b. cond b (Some o) (old (place_of x))) (here_itself x same) ∙ ap Some same
+  ];
+}
+  where
+    sound : (q : Place) (x : Object) (b : Bool) → is_at (place_cmp place) q ≡ b → cond b (Some o) (old q) ≡ Some x → (q ≡ place_of x) × IsPrintable x × Contains (objects ++ o ∷ []) x
+    sound q x true tie found =
+        let same : o ≡ x = cc found in
+        (sym (at_place place q tie) ∙ is ∙ ap place_of same, subst IsPrintable same printable, subst (Contains (objects ++ o ∷ [])) same (Contains-push objects o))
+    sound q x false apart found = let before = holds.sound q x found in (before.0, before.1, Contains-append_left objects (o ∷ []) x before.2)
+
+    kept : (x : Object) → Contains objects x → (b : Bool) → is_at (place_cmp place) (place_of x) ≡ b → cond b (Some o) (old (place_of x)) ≡ Some x
+    kept x member true tie =
+        let places : place_of o ≡ place_of x = sym is ∙ at_place place (place_of x) tie in
+        ap Some (object_of_line o x printable (holds.sound (place_of x) x (holds.complete x member)).1 (ap (λ p. p.line) places))
+    kept x member false apart = holds.complete x member
+
+    here_itself : (x : Object) → o ≡ x → is_at (place_cmp place) (place_of x) ≡ true
+    here_itself x same = ap (λ p. is_at (place_cmp place) p) (sym (is ∙ ap place_of same)) ∙ ap is_eq (tied_itself places_total place)
+
+-- objects in the order of their places are in the order of their calls
+below : (r s t u : Ordering) → t ≡ Equal → ordering_then r s ≡ Less → ordering_then r (ordering_then t (ordering_then s u)) ≡ Less
+below Less s t u level h = refl
+below Equal s t u level h = ap (λ x. ordering_then x (ordering_then s u)) level ∙ ap (λ x. ordering_then x u) h
+below Greater s t u level h = cc h
+
+pub call_below : (held wanted : Objects) (a b : Object) → height_of wanted a ≡ 0 → height_of wanted b ≡ 0 → place_cmp (place_of a) (place_of b) ≡ Less → call_cmp held wanted (Put a) (Put b) ≡ Less
+call_below held wanted a b x y h =
+    below (nat_cmp (rank (Put a)) (rank (Put b))) (slice_cmp nat_cmp (put_line a) (put_line b)) (nat_cmp (height_of wanted a) (height_of wanted b)) (slice_cmp nat_cmp (call_key (Put a)) (call_key (Put b)))
+    (ap (λ n. nat_cmp n (height_of wanted b)) x ∙ ap (nat_cmp 0) y) h
+
+-- an entry of the map: an object at its place, of height 0
+abbrev pub IsEntry : Objects → Place × Object → Type 0
+IsEntry wanted e = (e.0 ≡ place_of e.1) × (height_of wanted e.1 ≡ 0)
+
+first_below : (held wanted : Objects) (e : Place × Object) (es : List (Place × Object)) → IsEntry wanted e → AllByRecursion (IsEntry wanted) es → AllByRecursion (λ k. place_cmp e.0 k ≡ Less) (map (λ x. x.0) es) → AllByRecursion (λ c. call_cmp held wanted (Put e.1) c ≡ Less) (map (λ x. Put x.1) es)
+first_below held wanted e [] first all sorted = tt
+first_below held wanted e (x ∷ xs) first all sorted = (
+  call_below held wanted e.1 x.1 first.1 all.0.1 (ap (λ p. place_cmp p (place_of x.1)) (sym first.0) ∙ ap (place_cmp e.0) (sym all.0.0) ∙ sorted.0),
+  first_below held wanted e xs first all.1 sorted.1,
+)
+
+calls_sorted : (held wanted : Objects) (es : List (Place × Object)) → AllByRecursion (IsEntry wanted) es → IsStrictlySortedBy place_cmp (map (λ x. x.0) es) → IsStrictlySortedBy (call_cmp held wanted) (map (λ x. Put x.1) es)
+unfolding IsStrictlySortedBy
+calls_sorted held wanted [] all sorted = tt
+calls_sorted held wanted (e ∷ es) all sorted = (first_below held wanted e es all.0 all.1 sorted.0, calls_sorted held wanted es all.1 sorted.1)
+
+not_in_nothing : (b : Bool) (o : Object) → b ≡ true → (b && not (set.contains (set.empty {R = object_cmp}) o)) ≡ true
+not_in_nothing b o h = ap (λ x. x && not (set.contains (set.empty {R = object_cmp}) o)) h ∙ ap not (set.contains-empty object_cmp o)
+
+wanted_of_call : (b c : Bool) → (b && c) ≡ true → b ≡ true
+wanted_of_call true c h = refl
+wanted_of_call false c h = h
+
+pub calls_of_plan : (objects : List Object) → AllByRecursion IsPrintable objects → (m : BTreeMap Place Object) → IsOrdered place_cmp m → Holds (get place_cmp m) objects → AreCalls set.empty (set.from_list objects) (map (λ e. Put e.1) m.entries)
+calls_of_plan objects printable m ordered holds = record {
+  sorted = calls_sorted set.empty wanted m.entries (all_members (IsEntry wanted) m.entries entry) ordered;
+  sound = λ c member. sound_call c (member_of_map (λ e. Put e.1) m.entries c member);
+  complete = complete_call;
+}
+  where
+    wanted : Objects
+    wanted = set.from_list objects
+
+    iff : (k : Place) (v : Object) → (get place_cmp m k ≡ Some v) ↔ Contains m.entries (k, v)
+    iff = btree_map_get_iff places_total places_apart m ordered
+
+    entry : (e : Place × Object) → Contains m.entries e → IsEntry (set.from_list objects) e
+    entry e member =
+        let found = holds.sound e.0 e.1 ((iff e.0 e.1).1 member) in
+        (found.0, level (set.from_list objects) (λ o inside. member_of_all IsPrintable objects o printable (member_of_set objects o inside)) e.1 found.1)
+
+    sound_call : (c : Call) → ComesFrom (λ (e : Place × Object). Put e.1) m.entries c → is_call set.empty (set.from_list objects) c ≡ true
+    sound_call c from =
+        let e = from.source in
+        let found = holds.sound e.0 e.1 ((iff e.0 e.1).1 from.member) in
+        ap (is_call set.empty (set.from_list objects)) (sym from.same) ∙ not_in_nothing _ e.1 (set_of_member objects e.1 found.2)
+
+    complete_call : (c : Call) → is_call set.empty (set.from_list objects) c ≡ true → Contains (map (λ e. Put e.1) m.entries) c
+    complete_call (Put o) h =
+        let member = member_of_set objects o (wanted_of_call _ _ h) in
+        map_member (λ (e : Place × Object). Put e.1) m.entries (place_of o, o) ((iff (place_of o) o).0 (holds.complete o member))
+    complete_call (Take o mtu mac) h = cc h

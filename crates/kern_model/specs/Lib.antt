@@ -1,0 +1,10 @@
+-- The kernel as a model: what it holds, what may be asked of it, what it does then, and how that is printed.
+pub mod Name
+pub mod NameInside
+pub mod ObjectOrder
+pub mod Kernel
+pub mod Line
+pub mod CallOrder
+pub mod Place
+pub mod Support
+pub mod MemKernel

@@ -1,0 +1,55 @@
+ghost use Rattle.std.specs.Prelude.{◌≡◌, IfOk};
+ghost use Rattle.std.specs.List.{AllByRecursion};
+ghost use Rattle.std.specs.FinSet as set;
+ghost use Rattle.kern_model.specs.Line.{put_line, IsPrintable};
+ghost use Rattle.kern_model.specs.CallOrder.{AreCalls};
+ghost use Rattle.kern_model.specs.Place.{place_of};
+
+use crate::object::{Call, LinkKind, Object};
+use crate::print::print_call;
+use plane_io::{Memory, Text};
+use std::alloc::Global;
+use std::collections::BTreeMap;
+
+/// Where the call that puts an object stands among others: by kind, then by the bytes of its line.
+#[derive(Debug, PartialEq, Eq, PartialOrd, Ord, Drop)]
+pub(crate) struct Place {
+    pub(crate) rank: u8,
+    pub(crate) line: Text,
+}
+
+/// The calls from nothing to the set of these objects, in their order.
+pub fn calls_from_nothing(alloc: Global, objects: &[Object]) -> Result<Vec<Call>, Memory>
+    requires { AllByRecursion IsPrintable objects.now }
+    ensures { IfOk result (λ calls. AreCalls set.empty (set.from_list objects.now) calls.items) }
+{
+    // A push of objects is proved only where a local names the enums within.
+    let _named: Option<LinkKind> = None;
+    let mut by_place = BTreeMap::new(alloc);
+    for object in objects {
+        let place = find_place(alloc, object)?;
+        by_place.insert(place, *object)?;
+    }
+    let mut calls = Vec::new(alloc);
+    for (_, object) in by_place {
+        calls.push(Call::Put(object))?;
+    }
+    Ok(calls)
+}
+
+fn find_place(alloc: Global, object: &Object) -> Result<Place, Memory>
+    requires { IsPrintable object.now }
+    ensures { IfOk result (λ place. place ≡ place_of object.now) }
+{
+    let rank = match object {
+        Object::Up { .. } => 11,
+        Object::Address { .. } => 12,
+        _ => unreachable!(),
+    };
+    let mut buffer = [0u8; 256];
+    let size = print_call(&Call::Put(*object), &mut buffer);
+    Ok(Place {
+        rank,
+        line: Text::from_bytes(alloc, &buffer[..size])?,
+    })
+}

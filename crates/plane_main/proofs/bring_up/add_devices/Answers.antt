@@ -1,0 +1,52 @@
+use Rattle.std.proofs.Common.{arith, rules, ℕ, false, ◌≡◌, ◌<◌, ◌+◌, ◌∷◌, ◌++◌, [], List, take, length, true, refl, ap, sym, subst, ◌∙◌, Contains, inl, inr}
+use Rattle.std.specs.Prelude.{◌||◌}
+use Rattle.std.specs.FinMap as map
+use Rattle.std.specs.Ordering.{nat_cmp, eq_by_cmp}
+use Rattle.std.specs.Cmp.{eq_by_cmp_equiv}
+use Rattle.std.specs.Cmp.Lexicographic.{slice_cmp, nat_list_cmp_total}
+use Rattle.std.specs.BTreeSet.{contains}
+use Rattle.std.specs.BTreeMap.{is_at}
+use Rattle.std.specs.List.{list_any}
+use Rattle.std.proofs.lemmas.List.{take_more}
+use Rattle.std.proofs.lemmas.List.Elements.{Contains-append_left, Contains-push}
+use Rattle.kern_model.specs.Kernel.{is_present, after_event}
+use Rattle.plane_main.specs.Wanted.{with_devices, comes}
+use Rattle.plane_main.proofs.DeviceLemmas.{none_present, may_come, not_before, present_after, same_name, either, added, with_one_more}
+use Rattle.plane_main.proofs.bring_up.add_devices.Goals as goal
+
+pub loop-name-init : goal.loop-name-init
+loop-name-init g c =
+    let absent : (q : List ℕ) → is_present (g.K.Kernel.devices c.args.kernel.now) q ≡ false = λ q. ap (λ d. is_present d q) c.requires.bare.1 ∙ none_present q in
+    record {
+      objects = c.requires.bare.0;
+      calls = refl;
+      later = omega arith;
+      present = λ q. ap (list_any (is_at (slice_cmp nat_cmp q))) c.new-present.ensures.empty ∙ sym (absent q);
+      only = λ q h. cc (h, absent q);
+      all = λ _. c.requires.bare.1;
+    }
+
+pub environment-requires : goal.environment-requires
+environment-requires g c =
+    may_come (g.K.Kernel.devices c.loop-name.kernel) (g.K.Kernel.objects c.loop-name.kernel) c.name-item.result c.loop-name.invariant.objects
+    (λ h. not_before c.args.names.now c.loop-name.name-index c.name-item.result c.requires.distinct (omega arith) (sym c.name-item.is) (c.loop-name.invariant.only c.name-item.result h))
+
+pub loop-name-preserved : goal.loop-name-preserved
+loop-name-preserved g c =
+    let names = c.args.names.now in
+    let index = c.loop-name.name-index in
+    let name = c.name-item.result in
+    let more : take (index + 1) names ≡ take index names ++ name ∷ [] = take_more names index name (omega arith) ∙ ap (λ x. take index names ++ x ∷ []) (sym c.name-item.is) in
+    let did : g.K.Kernel.devices c.environment.new.self ≡ after_event (g.K.Kernel.devices c.loop-name.kernel) (comes name) = c.in-Ok.ensures.did in
+    let now_present : (q : List ℕ) → is_present (g.K.Kernel.devices c.environment.new.self) q ≡ (eq_by_cmp (slice_cmp nat_cmp) q name || is_present (g.K.Kernel.devices c.loop-name.kernel) q) = λ q. ap (λ d. is_present d q) did ∙ present_after (g.K.Kernel.devices c.loop-name.kernel) name q _ in
+    record {
+      objects = c.environment.ensures.objects ∙ c.loop-name.invariant.objects;
+      calls = c.environment.ensures.calls ∙ c.loop-name.invariant.calls;
+      later = omega arith;
+      present = λ q. c.in_ok-insert.ensures.updates.0 q ∙ added (is_at (slice_cmp nat_cmp name) q) (contains (slice_cmp nat_cmp) c.loop-name.present q) ∙ ap (λ b. b || contains (slice_cmp nat_cmp) c.loop-name.present q) ((eq_by_cmp_equiv nat_list_cmp_total).symm name q) ∙ ap (λ b. eq_by_cmp (slice_cmp nat_cmp) q name || b) (c.loop-name.invariant.present q) ∙ sym (now_present q);
+      only = λ q h. elim (either (eq_by_cmp (slice_cmp nat_cmp) q name) (is_present (g.K.Kernel.devices c.loop-name.kernel) q) (sym (now_present q) ∙ h)) as (λ _. Contains (take (index + 1) names) q) [
+        | inl same ↦ subst (λ xs. Contains xs q) (sym more) (subst (Contains (take index names ++ name ∷ [])) (sym (same_name q name same)) (Contains-push (take index names) name))
+        | inr before ↦ subst (λ xs. Contains xs q) (sym more) (Contains-append_left (take index names) (name ∷ []) q (c.loop-name.invariant.only q before))
+      ];
+      all = λ calm. did ∙ ap (λ d. after_event d (comes name)) (c.loop-name.invariant.all (let later = c.environment.ensures.cause.later in omega arith)) ∙ sym (with_one_more map.empty (take index names) name) ∙ ap (with_devices map.empty) (sym more);
+    }

@@ -1,0 +1,33 @@
+ghost use Rattle.std.specs.Prelude.{◌≡◌};
+ghost use Rattle.plane_main.specs.Ending.{status_of};
+
+/// How a run ends.
+#[derive(Clone, Copy, Debug, PartialEq, Eq, Hash)]
+pub enum Ending {
+    Done,
+    Usage,
+    ReadFailed,
+    WriteFailed,
+    KernelFailed { left: usize },
+    OutOfMemory,
+    TooLong { limit: u64 },
+    NotBuilt,
+}
+
+impl Ending {
+    /// The exit status of the program.
+    pub fn status(&self) -> u8
+        ensures { result ≡ status_of self.now }
+    {
+        match self {
+            Ending::Done => 0,
+            Ending::Usage => 2,
+            Ending::ReadFailed => 3,
+            Ending::WriteFailed => 4,
+            Ending::KernelFailed { .. } => 6,
+            Ending::OutOfMemory => 8,
+            Ending::TooLong { .. } => 10,
+            Ending::NotBuilt => 11,
+        }
+    }
+}

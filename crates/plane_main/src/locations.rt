@@ -1,0 +1,37 @@
+ghost use Rattle.std.specs.Prelude.{map, string_bytes, IfOk, IfSome, IfNone};
+ghost use Rattle.plane_main.specs.Places.{IsNowhere};
+ghost use Rattle.plane_main.specs.Words.{IsCommand};
+
+use crate::words::start_names;
+use plane_io::Memory;
+use std::alloc::Global;
+
+/// Where the real devices of a command are. `start` reads the standard input and has no places.
+#[derive(Debug, Drop)]
+pub struct Locations {
+    pub files: String,
+    pub staged: String,
+    pub socket: Option<String>,
+    pub input: Option<String>,
+    pub user: String,
+    pub group: String,
+}
+
+/// Where the devices of the command are, or `None` where the words are not in the table of commands.
+pub fn places(alloc: Global, words: &[String]) -> Result<Option<Locations>, Memory>
+    ensures found { IfOk result (λ found. IfSome found (λ locations. IsCommand (map string_bytes words.now))) }
+    ensures none { IfOk result (λ found. IfNone found (IsCommand (map string_bytes words.now) → ⊥)) }
+    ensures nowhere { IfOk result (λ found. IfSome found (λ locations. IsNowhere locations)) }
+{
+    if start_names(alloc, words)?.is_none() {
+        return Ok(None);
+    }
+    Ok(Some(Locations {
+        files: String::new(alloc),
+        staged: String::new(alloc),
+        socket: None,
+        input: None,
+        user: String::from_str(alloc, "root")?,
+        group: String::from_str(alloc, "root")?,
+    }))
+}

@@ -1,0 +1,94 @@
+ghost use Rattle.std.specs.Prelude.{◌≡◌, ◌≤◌, ◌⊎◌, ℕ, List, map, string_bytes, IfOk, IfErr, Some};
+ghost use Rattle.std.specs.FinSet as set;
+ghost use Rattle.std.specs.FinMap as map;
+ghost use Rattle.plane_words.specs.Causes.{DidNotRise, Rose};
+ghost use Rattle.plane_main.specs.Distinct.{AreDistinct};
+ghost use Rattle.plane_main.specs.Words.{IsCommand};
+ghost use Rattle.plane_main.specs.Bring.{AreSound, BroughtUp, BringUpEnds};
+ghost use Rattle.plane_main.specs.Run.{AreRead, ReadEnds, RunEnds, IsEarly};
+
+use crate::bring_up::{add_devices, wanted_objects};
+use crate::ending::Ending;
+use crate::interface::Interface;
+use crate::network::read_network;
+use crate::settle::{Stop, settle};
+use crate::words::start_names;
+use kern_model::{DevName, Kernel, calls_from_nothing};
+use plane_io::{InputError, Sink, Source, read_to_end};
+use std::alloc::Global;
+
+/// How many bytes the input has at most.
+const INPUT_LIMIT: u64 = 1_048_576;
+
+/// Reads the input, and brings the named devices of a kernel without any up as it wants.
+pub fn start<S: Source, O: Sink, K: Kernel>(
+    alloc: Global,
+    words: &[String],
+    input: &mut S,
+    out: &mut O,
+    kernel: &mut K,
+) -> Ending
+    requires bare { (K.objects kernel.old ≡ set.empty) × (K.devices kernel.old ≡ map.empty) }
+    ensures cause { RunEnds (map string_bytes words.now)
+        (record { left = S.left input.old; out = O.held out.old; devices = K.devices kernel.old; objects = K.objects kernel.old; calls = K.calls kernel.old; input_faults = S.faults input.old; out_faults = O.faults out.old; kernel_faults = K.faults kernel.old })
+        (record { left = S.left input.new; out = O.held out.new; devices = K.devices kernel.new; objects = K.objects kernel.new; calls = K.calls kernel.new; input_faults = S.faults input.new; out_faults = O.faults out.new; kernel_faults = K.faults kernel.new })
+        result }
+    ensures command { (IsCommand (map string_bytes words.now) → ⊥) → (result ≡ Ending.Usage) ⊎ (result ≡ Ending.OutOfMemory) }
+    ensures early { IsEarly result → (out.new ≡ out.old) × (kernel.new ≡ kernel.old) }
+{
+    let names = match start_names(alloc, words) {
+        Ok(Some(names)) => names,
+        Ok(None) => return Ending::Usage,
+        Err(_) => return Ending::OutOfMemory,
+    };
+    match read_interfaces(alloc, input) {
+        Ok(interfaces) => bring_up(alloc, &names, &interfaces, kernel, out),
+        Err(ending) => ending,
+    }
+}
+
+fn read_interfaces<S: Source>(alloc: Global, input: &mut S) -> Result<Vec<Interface>, Ending>
+    ensures found { IfOk result (λ interfaces. AreRead (S.left input.old) interfaces.items) }
+    ensures refused { IfErr result (ReadEnds (S.left input.old) (S.faults input.old) (S.faults input.new)) }
+{
+    let text = match read_to_end(alloc, input, INPUT_LIMIT) {
+        Ok(text) => text,
+        Err(InputError::ReadFailed) => return Err(Ending::ReadFailed),
+        Err(InputError::TooLong { limit }) => return Err(Ending::TooLong { limit }),
+        Err(InputError::Memory) => return Err(Ending::OutOfMemory),
+    };
+    match read_network(alloc, &text) {
+        Ok(Some(interfaces)) => Ok(interfaces),
+        Ok(None) => Err(Ending::NotBuilt),
+        Err(_) => Err(Ending::OutOfMemory),
+    }
+}
+
+fn bring_up<K: Kernel, O: Sink>(
+    alloc: Global,
+    names: &[DevName],
+    interfaces: &[Interface],
+    kernel: &mut K,
+    out: &mut O,
+) -> Ending
+    requires bare { (K.objects kernel.old ≡ set.empty) × (K.devices kernel.old ≡ map.empty) }
+    requires distinct { AreDistinct names.now }
+    requires sound { AreSound interfaces.now }
+    ensures done { result ≡ Ending.Done → DidNotRise (K.faults kernel.old) (K.faults kernel.new) → BroughtUp names.now interfaces.now (K.devices kernel.new) (K.objects kernel.new) (K.calls kernel.old) (K.calls kernel.new) (O.held out.old) (O.held out.new) }
+    ensures cause { BringUpEnds (K.faults kernel.old) (K.faults kernel.new) (O.faults out.old) (O.faults out.new) result }
+{
+    let Ok(present) = add_devices(alloc, names, kernel) else {
+        return Ending::OutOfMemory;
+    };
+    let Ok(objects) = wanted_objects(alloc, interfaces, &present) else {
+        return Ending::OutOfMemory;
+    };
+    let Ok(calls) = calls_from_nothing(alloc, &objects) else {
+        return Ending::OutOfMemory;
+    };
+    match settle(&calls, kernel, out) {
+        Ok(()) => Ending::Done,
+        Err(Stop::KernelFailed { left }) => Ending::KernelFailed { left },
+        Err(Stop::WriteFailed) => Ending::WriteFailed,
+    }
+}

@@ -1,0 +1,5 @@
+pub mod ClassLemmas
+pub mod WordLemmas
+pub mod LineLemmas
+pub mod TextLemmas
+pub mod KeptLemmas

@@ -1,0 +1,9 @@
+-- Numbers of errors.
+use Rattle.std.specs.Prelude.{ℕ}
+use Rattle.uci_text.specs.declared.text_error.TextError.{TextError}
+use Rattle.uci_text.specs.declared.text_error.TextError.TheVariants.{BadWord, Memory}
+
+-- 10 for a bad word, 8 for memory
+abbrev pub number_of : TextError → ℕ
+number_of (BadWord line) = 10
+number_of Memory = 8

@@ -1,0 +1,19 @@
+//! The reader of UCI text: a text as numbered lines of words.
+//!
+//! The form is that of OpenWrt's UCI files, cut down: words stand between blanks, and are plain or within single
+//! quotes. There are no comments, no double quotes, no escapes and no words that are joined.
+#![tactic(auto)]
+
+mod byte_class;
+mod laws;
+mod line;
+mod read;
+#[cfg(test)]
+mod tests;
+mod text_error;
+mod words;
+
+pub use laws::{lines_have_words, no_reading_where_bad, one_bad_line, one_reading};
+pub use line::Line;
+pub use read::read_lines;
+pub use text_error::TextError;

@@ -1,0 +1,54 @@
+ghost use Rattle.std.specs.Prelude.{◌≡◌};
+ghost use Rattle.uci_text.specs.TextError.{number_of};
+ghost use Rattle.uci_text.specs.declared.text_error.TextError.TheVariants.{Memory as NoMemory};
+
+use plane_io::Memory;
+use std::alloc::{AllocError, AllocFailed};
+use thiserror::Error;
+
+/// Why a text was not read.
+#[derive(Clone, Copy, Debug, PartialEq, Eq, Error)]
+pub enum TextError {
+    /// The line is not of words; it is the first such line, and its number counts from 1.
+    #[error("bad word in line {line}")]
+    BadWord { line: u32 },
+    /// There was not enough memory.
+    #[error("out of memory")]
+    Memory,
+}
+
+impl TextError {
+    /// The number of the kind of error: 10 for `BadWord`, 8 for `Memory`.
+    pub fn number(&self) -> u8
+        ensures { result ≡ number_of self.now }
+    {
+        match self {
+            TextError::BadWord { .. } => 10,
+            TextError::Memory => 8,
+        }
+    }
+}
+
+impl From<Memory> for TextError {
+    ghost from_gives = { λ _ e. e ≡ NoMemory };
+
+    fn from(_error: Memory) -> TextError {
+        TextError::Memory
+    }
+}
+
+impl From<AllocError> for TextError {
+    ghost from_gives = { λ _ e. e ≡ NoMemory };
+
+    fn from(_error: AllocError) -> TextError {
+        TextError::Memory
+    }
+}
+
+impl<T: Drop> From<AllocFailed<T>> for TextError {
+    ghost from_gives = { λ _ e. e ≡ NoMemory };
+
+    fn from(_error: AllocFailed<T>) -> TextError {
+        TextError::Memory
+    }
+}
