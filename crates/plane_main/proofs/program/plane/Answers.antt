@@ -2,7 +2,7 @@ use Rattle.std.proofs.Common.{◌≡◌, ap, sym, subst, ◌∙◌, map, string_
 use Rattle.plane_main.specs.Start.{IsEither}
 use Rattle.plane_main.specs.Run.{Outside}
 use Rattle.plane_main.proofs.RunLemmas.{done_of_status, status_of_either, no_form}
-use Rattle.plane_main.proofs.plane.plane.Goals as goal
+use Rattle.plane_main.proofs.program.plane.Goals as goal
 
 pub returns-clause-silent : goal.returns-clause-silent
 returns-clause-silent g c zero = c.report.ensures.silent (done_of_status c.start-ending.result (sym c.status.ensures ∙ zero))

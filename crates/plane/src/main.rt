@@ -1,0 +1,30 @@
+//! `plane`: carries a command out over the real devices of the process and a kernel that is a model.
+#![tactic(auto)]
+
+use kern_model::MemKernel;
+use plane_main::plane;
+use plane_real::{StdSink, StdSource};
+use std::env;
+use std::io;
+use std::process::ExitCode;
+use std::rt::Env;
+
+// The words of the command line, without the name of the program.
+fn words(rt: &(impl Env + AllocGlobal)) -> io::Result<Vec<String>> {
+    let mut words = Vec::new(rt.alloc());
+    for word in env::args(rt)?.skip(1) {
+        words.push(word)?;
+    }
+    Ok(words)
+}
+
+fn main(rt: HostRuntime) -> ExitCode {
+    let alloc = rt.alloc();
+    let words = words(&rt).unwrap_or(Vec::new(alloc));
+    let mut input = StdSource::new(rt.stdin());
+    let mut out = StdSink::new(rt.stdout());
+    let mut err = StdSink::new(rt.stderr());
+    let mut kernel = MemKernel::unlogged(alloc);
+    let status = plane(alloc, &words, &mut input, &mut out, &mut err, &mut kernel);
+    ExitCode::from(status)
+}

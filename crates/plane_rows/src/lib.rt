@@ -1,0 +1,9 @@
+//! Worked examples of the whole program, run over devices in memory.
+#![tactic(auto)]
+
+#[cfg(test)]
+mod faults;
+#[cfg(test)]
+mod session;
+#[cfg(test)]
+mod start;

@@ -1,0 +1,84 @@
+use crate::session::{Failing, LAN, run};
+use std::test::Fail;
+
+const TWO: &str =
+    "config interface wan\noption proto static\noption netmask 255.0.0.0\noption ipaddr 10.0.0.1\noption device eth1\n\nconfig interface 'lan'\n\toption device 'eth0'\n\toption proto 'static'\n\toption ipaddr '192.168.1.1'\n\toption netmask '255.255.255.0'";
+
+const DHCP: &str =
+    "config interface 'lan'\n\toption device 'eth0'\n\toption proto 'dhcp'\n\toption ipaddr '192.168.1.1'\n\toption netmask '255.255.255.0'\n";
+
+const IPV6: &str =
+    "config interface 'lan'\n\toption device 'eth0'\n\toption proto 'static'\n\toption ipaddr '::1'\n\toption netmask '255.255.255.0'\n";
+
+const TWICE: &str =
+    "config interface a\noption device eth0\noption proto static\noption ipaddr 10.0.0.1\noption netmask 255.0.0.0\nconfig interface b\noption device eth0\noption proto static\noption ipaddr 10.0.0.1\noption netmask 255.0.0.0\n";
+
+const UP: &str = "link set dev eth0 up\naddr add 192.168.1.1/24 dev eth0\n";
+
+const USAGE: &str = "plane: usage\n";
+
+const NOT_BUILT: &str = "plane: not built\n";
+
+#[test]
+fn interfaces_are_brought_up(rt: HostRuntime) -> Result<(), Fail> {
+    let alloc = rt.alloc();
+    let table = [
+        ("start eth0", LAN, UP),
+        ("start eth1", LAN, ""),
+        ("start eth0", "", ""),
+        ("start eth0", "\n \t \n", ""),
+        ("start eth1 eth0 lo", LAN, UP),
+        (
+            "start eth1 eth0",
+            TWO,
+            "link set dev eth0 up\nlink set dev eth1 up\naddr add 10.0.0.1/8 dev eth1\naddr add 192.168.1.1/24 dev eth0\n",
+        ),
+        (
+            "start eth1",
+            TWO,
+            "link set dev eth1 up\naddr add 10.0.0.1/8 dev eth1\n",
+        ),
+        (
+            "start eth0",
+            TWICE,
+            "link set dev eth0 up\naddr add 10.0.0.1/8 dev eth0\n",
+        ),
+    ];
+    for (words, text, lines) in table {
+        let ran = run(alloc, words, text.as_bytes(), Failing::default())?;
+        assert_eq!(rt; ran.status, 0, "{words}");
+        assert_eq!(rt; ran.out.bytes(), lines.as_bytes(), "{words}");
+        assert!(rt; ran.err.bytes().is_empty());
+        assert_eq!(rt; ran.calls, ran.objects);
+    }
+    Ok(())
+}
+
+#[test]
+fn other_words_and_texts_are_refused(rt: HostRuntime) -> Result<(), Fail> {
+    let alloc = rt.alloc();
+    let table = [
+        ("bogus", LAN, 2, USAGE),
+        ("", LAN, 2, USAGE),
+        ("start", LAN, 2, USAGE),
+        ("start eth0 eth0", LAN, 2, USAGE),
+        ("start eth0.2", LAN, 2, USAGE),
+        ("start .", LAN, 2, USAGE),
+        ("start 1234567890123456", LAN, 2, USAGE),
+        ("start eth0.02 eth0.4095 eth0", LAN, 0, ""),
+        ("start eth0", DHCP, 11, NOT_BUILT),
+        ("start eth0", IPV6, 11, NOT_BUILT),
+        ("start eth0", "config interface lan\n", 11, NOT_BUILT),
+        ("start eth0", "# no words\n", 11, NOT_BUILT),
+    ];
+    for (words, text, status, told) in table {
+        let ran = run(alloc, words, text.as_bytes(), Failing::default())?;
+        assert_eq!(rt; ran.status, status, "{words}");
+        assert_eq!(rt; ran.err.bytes(), told.as_bytes(), "{words}");
+        if status != 0 {
+            assert!(rt; ran.out.bytes().is_empty());
+            assert_eq!(rt; ran.calls, 0);
+        }
+    }
+    Ok(())
+}
