@@ -4,10 +4,9 @@
 use kern_model::MemKernel;
 use plane_main::plane;
 use plane_real::{StdSink, StdSource};
-use std::env;
-use std::io;
 use std::process::ExitCode;
 use std::rt::Env;
+use std::{env, io};
 
 // The words of the command line, without the name of the program.
 fn words(rt: &(impl Env + AllocGlobal)) -> io::Result<Vec<String>> {
