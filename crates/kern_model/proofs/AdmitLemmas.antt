@@ -2,19 +2,17 @@
 use Rattle.std.proofs.Common.{ℕ, ◌≡◌, ◌⊎◌, inl, inr, List, [], ◌∷◌, true, false, Bool, refl, ap, sym, subst, ◌∙◌, Contains}
 use Rattle.std.specs.Prelude.{◌&&◌, ◌||◌, not, ⊤}
 use Rattle.std.specs.Ordering.{eq_by_cmp, is_eq}
-use Rattle.std.specs.declared.cmp.Ordering.{Ordering}
-use Rattle.std.specs.declared.cmp.Ordering.TheVariants.{Less, Equal}
+use Rattle.std.specs.declared.cmp.Ordering.TheVariants.{Less}
 use Rattle.std.specs.List.{AllByRecursion, list_all, list_any}
 use Rattle.std.specs.List.Sorted.{IsStrictlySortedBy}
 use Rattle.std.specs.Cmp.{Equal-is, tied_itself}
 use Rattle.std.specs.FinSet as set
-use Rattle.kern_model.specs.declared.object.LinkKind.TheVariants.{Bridge, Vlan}
 use Rattle.kern_model.specs.declared.object.Object.{Object}
 use Rattle.kern_model.specs.declared.object.Object.TheVariants as object
 use Rattle.kern_model.specs.declared.object.Call.{Call}
 use Rattle.kern_model.specs.declared.object.Call.TheVariants.{Put, Take}
 use Rattle.kern_model.specs.ObjectOrder.{Objects, object_cmp}
-use Rattle.kern_model.specs.Kernel.{Devices, is_present, exists, is_link_named, has_lower_up, admits, admits_put, after_call}
+use Rattle.kern_model.specs.Kernel.{Devices, exists, is_link_named, has_lower_up, admits_put}
 use Rattle.kern_model.specs.CallOrder.{call_cmp, is_call, AreCalls, after_calls, AreAdmitted}
 use Rattle.kern_model.specs.Support.{IsSupported, AreSupported}
 use Rattle.kern_model.proofs.OrderLemmas.{objects_total, objects_apart, calls_total}
@@ -26,7 +24,7 @@ abbrev IsNoLink : Object → Type 0
 IsNoLink (object.Link n k) = ⊥
 IsNoLink _ = ⊤
 
-abbrev IsPut : Call → Type 0
+abbrev pub IsPut : Call → Type 0
 IsPut (Put o) = ⊤
 IsPut (Take o mtu mac) = ⊥
 
@@ -39,7 +37,7 @@ no_link devices wanted (object.Up n) h = tt
 no_link devices wanted (object.Address d c) h = tt
 no_link devices wanted (object.Route r) h = tt
 
-puts : (wanted : Objects) (c : Call) → is_call set.empty wanted c ≡ true → IsPut c
+pub puts : (wanted : Objects) (c : Call) → is_call set.empty wanted c ≡ true → IsPut c
 puts wanted (Put o) h = tt
 puts wanted (Take o mtu mac) h = cc h
 
@@ -65,7 +63,7 @@ new_or_before s o x h =
       | inr before ↦ inr before
     ]
 
-false_of_not : (b : Bool) → (b ≡ true → ⊥) → b ≡ false
+pub false_of_not : (b : Bool) → (b ≡ true → ⊥) → b ≡ false
 false_of_not true h = absurd (h refl)
 false_of_not false h = refl
 
@@ -84,7 +82,7 @@ held_stays s [] x all h = h
 held_stays s (Put o ∷ cs) x all h = held_stays (set.insert s o) cs x all.1 (held_before s o x h)
 held_stays s (Take o mtu mac ∷ cs) x all h = absurd all.0
 
-put_is_held : (s : Objects) (cs : List Call) (x : Object) → AllByRecursion IsPut cs → Contains cs (Put x) → set.contains (after_calls s cs) x ≡ true
+pub put_is_held : (s : Objects) (cs : List Call) (x : Object) → AllByRecursion IsPut cs → Contains cs (Put x) → set.contains (after_calls s cs) x ≡ true
 put_is_held s [] x all h = absurd (none_in_nil (Put x) h)
 put_is_held s (Take o mtu mac ∷ cs) x all h = absurd all.0
 put_is_held s (Put o ∷ cs) x all h =
@@ -93,7 +91,7 @@ put_is_held s (Put o ∷ cs) x all h =
       | inr later ↦ put_is_held (set.insert s o) cs x all.1 later
     ]
 
-held_or_put : (s : Objects) (cs : List Call) (x : Object) → AllByRecursion IsPut cs → set.contains (after_calls s cs) x ≡ true → (set.contains s x ≡ true) ⊎ Contains cs (Put x)
+pub held_or_put : (s : Objects) (cs : List Call) (x : Object) → AllByRecursion IsPut cs → set.contains (after_calls s cs) x ≡ true → (set.contains s x ≡ true) ⊎ Contains cs (Put x)
 held_or_put s [] x all h = inl h
 held_or_put s (Take o mtu mac ∷ cs) x all h = absurd all.0
 held_or_put s (Put o ∷ cs) x all h =
@@ -105,11 +103,11 @@ held_or_put s (Put o ∷ cs) x all h =
       | inr later ↦ inr (there (Put o) cs (Put x) later)
     ]
 
-wanted_part : (b c : Bool) → (b && c) ≡ true → b ≡ true
+pub wanted_part : (b c : Bool) → (b && c) ≡ true → b ≡ true
 wanted_part true c h = refl
 wanted_part false c h = h
 
-call_of_wanted : (wanted : Objects) (o : Object) → set.contains wanted o ≡ true → is_call set.empty wanted (Put o) ≡ true
+pub call_of_wanted : (wanted : Objects) (o : Object) → set.contains wanted o ≡ true → is_call set.empty wanted (Put o) ≡ true
 call_of_wanted wanted o h = ap (λ b. b && not (set.contains (set.empty {R = object_cmp}) o)) h ∙ ap not (set.contains-empty object_cmp o)
 
 pub reached : (wanted : Objects) (calls : List Call) → AreCalls set.empty wanted calls → after_calls set.empty calls ≡ wanted

@@ -1,5 +1,5 @@
 -- Where no VLAN is made, every height is 0.
-use Rattle.std.proofs.Common.{ℕ, zero, suc, ◌≡◌, ◌+◌, List, [], ◌∷◌, None, Option, true, refl, ap, ◌∙◌, Contains}
+use Rattle.std.proofs.Common.{ℕ, zero, suc, ◌≡◌, ◌+◌, List, [], ◌∷◌, None, Option, true, refl, ap}
 use Rattle.std.specs.List.{AllByRecursion}
 use Rattle.std.specs.Option.{option_map_or}
 use Rattle.std.specs.FinSet as set
@@ -7,7 +7,7 @@ use Rattle.kern_model.specs.declared.object.Object.{Object}
 use Rattle.kern_model.specs.declared.object.Object.TheVariants as object
 use Rattle.kern_model.specs.ObjectOrder.{Objects}
 use Rattle.kern_model.specs.Line.{IsPrintable}
-use Rattle.kern_model.specs.CallOrder.{lower_in, height_within, height, height_of}
+use Rattle.kern_model.specs.CallOrder.{lower_in, height_within, height_of}
 use Rattle.kern_model.proofs.MemberLemmas.{all_members}
 use Rattle.kern_model.proofs.SetLemmas.{set_of_item}
 

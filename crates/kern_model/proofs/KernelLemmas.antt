@@ -4,7 +4,7 @@ use Rattle.std.specs.FinSet as set
 use Rattle.kern_model.specs.declared.object.Object.{Object}
 use Rattle.kern_model.specs.declared.object.Call.{Call}
 use Rattle.kern_model.specs.declared.object.Call.TheVariants.{Put, Take}
-use Rattle.kern_model.specs.ObjectOrder.{object_cmp, Objects}
+use Rattle.kern_model.specs.ObjectOrder.{object_cmp}
 use Rattle.kern_model.specs.Kernel.{Devices, admits, object_of, after_call}
 use Rattle.kern_model.proofs.OrderLemmas.{objects_total, objects_apart}
 

@@ -7,3 +7,4 @@ pub mod SetLemmas
 pub mod HeightLemmas
 pub mod PlanLemmas
 pub mod AdmitLemmas
+pub mod RestLemmas

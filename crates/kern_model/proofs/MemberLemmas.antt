@@ -1,5 +1,5 @@
 -- Members of lists.
-use Rattle.std.proofs.Common.{arith, ℕ, zero, suc, ◌≡◌, ◌<◌, ◌⊎◌, inl, inr, List, [], ◌∷◌, map, length, Contains, refl, ap, sym, subst, ◌∙◌}
+use Rattle.std.proofs.Common.{arith, zero, suc, ◌≡◌, ◌⊎◌, inl, inr, List, [], ◌∷◌, map, Contains, refl, subst}
 use Rattle.std.specs.List.{AllByRecursion}
 
 pub here : {X : Type 0} → (x : X) (xs : List X) → Contains (x ∷ xs) x

@@ -3,7 +3,7 @@ use Rattle.std.specs.Prelude.{ℕ, List, [], ◌∷◌, ◌++◌, ◌≡◌, len
 use Rattle.std.proofs.Common.{ap, ap₂, sym, ◌∙◌, take, drop}
 use Rattle.std.proofs.lemmas.List.{take_at, drop_at}
 use Rattle.std.proofs.lemmas.Cmp.{on_total, then_total}
-use Rattle.std.proofs.lemmas.Map.Lookups.{CmpEqualImpliesEq, exact_bytes}
+use Rattle.std.proofs.lemmas.Map.Lookups.{exact_bytes}
 use Rattle.std.specs.Ordering.{nat_cmp, ordering_then}
 use Rattle.std.specs.declared.cmp.Ordering.{Ordering}
 use Rattle.std.specs.declared.cmp.Ordering.TheVariants.{Less, Equal, Greater}
@@ -12,8 +12,6 @@ use Rattle.std.specs.Cmp.Lexicographic.{slice_cmp, nat_list_cmp_total}
 use Rattle.std.specs.FinSet.{IsAntisymmetric}
 use Rattle.net_addr.specs.declared.address.Addr.{Addr}
 use Rattle.net_addr.specs.declared.address.Addr.TheVariants as family
-use Rattle.net_addr.specs.declared.address.V4.{V4}
-use Rattle.net_addr.specs.declared.address.V6.{V6}
 use Rattle.kern_model.specs.declared.object.Mac.{Mac}
 use Rattle.kern_model.specs.declared.object.RouteObject.{RouteObject}
 use Rattle.kern_model.specs.declared.object.LinkKind.{LinkKind}

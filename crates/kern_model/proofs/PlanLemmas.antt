@@ -1,5 +1,5 @@
 -- A map from places to objects gives the calls in their order.
-use Rattle.std.proofs.Common.{ℕ, zero, suc, ◌≡◌, ◌⊎◌, inl, inr, List, [], ◌∷◌, ◌++◌, map, Some, None, Option, true, false, Bool, cond, refl, ap, sym, subst, ◌∙◌, Contains}
+use Rattle.std.proofs.Common.{ℕ, ◌≡◌, inl, inr, List, [], ◌∷◌, ◌++◌, map, Some, Option, true, false, Bool, cond, refl, ap, sym, subst, ◌∙◌, Contains}
 use Rattle.std.specs.Prelude.{◌&&◌, not, ◌↔◌}
 use Rattle.std.specs.Ordering.{nat_cmp, ordering_then, is_eq}
 use Rattle.std.specs.declared.cmp.Ordering.{Ordering}
@@ -14,13 +14,12 @@ use Rattle.std.proofs.lemmas.Cmp.{on_total, then_total}
 use Rattle.std.proofs.lemmas.Map.Lookups.{CmpEqualImpliesEq, exact_bytes, exact_unsigned, exact_pairs}
 use Rattle.std.proofs.lemmas.Map.Views.{btree_map_get_iff}
 use Rattle.std.proofs.lemmas.List.Elements.{Contains-append_left, Contains-push, Contains-push_cases}
-use Rattle.plane_words.specs.InOrder.{ListsInOrder}
 use Rattle.kern_model.specs.declared.object.Object.{Object}
 use Rattle.kern_model.specs.declared.object.Call.{Call}
 use Rattle.kern_model.specs.declared.object.Call.TheVariants.{Put, Take}
 use Rattle.kern_model.specs.declared.plan.Place.{Place}
 use Rattle.kern_model.specs.ObjectOrder.{Objects, object_cmp, call_key}
-use Rattle.kern_model.specs.Line.{IsPrintable, put_line, line_of}
+use Rattle.kern_model.specs.Line.{IsPrintable, put_line}
 use Rattle.kern_model.specs.Place.{place_of, place_cmp}
 use Rattle.kern_model.specs.CallOrder.{call_cmp, is_call, AreCalls, height_of, rank}
 use Rattle.kern_model.proofs.LineLemmas.{object_of_line}

@@ -1,5 +1,5 @@
 -- Sets of objects and lists of their members.
-use Rattle.std.proofs.Common.{◌≡◌, List, true, false, Contains, sym, ap, ◌∙◌}
+use Rattle.std.proofs.Common.{◌≡◌, List, true, Contains, sym, ◌∙◌}
 use Rattle.std.specs.Ordering.{eq_by_cmp}
 use Rattle.std.specs.Cmp.{Equal-is, eq_by_cmp_equiv}
 use Rattle.std.specs.FinSet as set

@@ -1,5 +1,5 @@
 -- Names of network devices, as Linux takes them (`dev_valid_name`) and within printable ASCII.
-use Rattle.std.specs.Prelude.{ℕ, ◌+◌, ◌-◌, List, [], ◌∷◌, ◌++◌, length, replicate, Bool, ◌&&◌, not, nat_le, ◌==◌, bytes_eq, codes}
+use Rattle.std.specs.Prelude.{ℕ, ◌-◌, List, [], ◌∷◌, ◌++◌, length, replicate, Bool, ◌&&◌, not, nat_le, ◌==◌, bytes_eq}
 use Rattle.std.specs.List.{list_all}
 
 -- a byte from 33 to 126 but `/` and `:`

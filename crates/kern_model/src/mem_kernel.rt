@@ -1,6 +1,6 @@
 ghost use Rattle.std.specs.Prelude.{◌≡◌, ◌≤◌, ◌<◌, ◌+◌, ◌⊎◌, [], Some, None, true, OnOk, OnErr, IfOk, Contains, unwrap_or, vec_len, vec_capacity, ◌++◌, ◌∷◌, if◌then◌else◌};
 ghost use Rattle.kern_model.specs.MemKernel.{objects_of, devices_of};
-ghost use Rattle.plane_words.specs.Causes.{HasCause, Rose, next_count};
+ghost use Rattle.plane_words.specs.Causes.{HasCause, next_count};
 ghost use Rattle.kern_model.specs.Kernel.{admits, object_of, after_call, may_happen, after_event, Logs};
 
 use crate::kernel::Kernel;
@@ -199,7 +199,9 @@ impl Kernel for MemKernel {
         ensures pushed { OnOk result (self.new.objects ≡ self.old.objects ++ object_of call.now ∷ []) }
         ensures number { (self.new.applied ≡ next_count self.old.applied) × (self.new.happened ≡ self.old.happened) }
         ensures lists { (self.new.failing_apply ≡ self.old.failing_apply) × (self.new.failing_environment ≡ self.old.failing_environment) }
-        ensures fails { OnErr result (Contains self.old.failing_apply self.new.applied ⊎ Rose self.old.refused self.new.refused) }
+        ensures listed { Contains self.old.failing_apply self.new.applied → self.new.refused ≡ self.old.refused }
+        ensures fails { OnErr result (Contains self.old.failing_apply self.new.applied ⊎ (self.new.refused ≡ next_count self.old.refused)) }
+        ensures one_fault { OnErr result (self.new.faults ≡ next_count self.old.faults) }
         ensures passes { OnOk result ((¬ (Contains self.old.failing_apply self.new.applied)) × (self.new.refused ≡ self.old.refused)) }
         ensures faultless { OnOk result (self.new.faults ≡ self.old.faults) }
         ensures later { self.old.refused ≤ self.new.refused }
@@ -240,7 +242,9 @@ impl Kernel for MemKernel {
         // A call fails exactly where its number is in the list or a growth was refused.
         ensures number { (self.new.happened ≡ next_count self.old.happened) × (self.new.applied ≡ self.old.applied) }
         ensures lists { (self.new.failing_apply ≡ self.old.failing_apply) × (self.new.failing_environment ≡ self.old.failing_environment) }
-        ensures fails { OnErr result (Contains self.old.failing_environment self.new.happened ⊎ Rose self.old.refused self.new.refused) }
+        ensures listed { Contains self.old.failing_environment self.new.happened → self.new.refused ≡ self.old.refused }
+        ensures fails { OnErr result (Contains self.old.failing_environment self.new.happened ⊎ (self.new.refused ≡ next_count self.old.refused)) }
+        ensures one_fault { OnErr result (self.new.faults ≡ next_count self.old.faults) }
         ensures passes { OnOk result ((¬ (Contains self.old.failing_environment self.new.happened)) × (self.new.refused ≡ self.old.refused)) }
         ensures faultless { OnOk result (self.new.faults ≡ self.old.faults) }
         ensures later { self.old.refused ≤ self.new.refused }

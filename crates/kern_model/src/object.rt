@@ -1,4 +1,4 @@
-ghost use Rattle.std.specs.Prelude.{◌≡◌};
+ghost use Rattle.std.specs.Prelude.{◌≡◌, ◌↔◌, IsTrue};
 ghost use Rattle.kern_model.specs.Kernel.{object_of};
 
 use crate::name::DevName;
@@ -59,7 +59,36 @@ pub enum Call {
     Take { object: Object, mtu: u32, mac: Mac },
 }
 
+impl Object {
+    /// Whether both are one object.
+    pub fn same(&self, other: &Object) -> bool
+        ensures { IsTrue result ↔ (self.now ≡ other.now) }
+    {
+        self == other
+    }
+}
+
 impl Call {
+    /// Whether both are one call.
+    pub fn same(&self, other: &Call) -> bool
+        ensures { IsTrue result ↔ (self.now ≡ other.now) }
+    {
+        match self {
+            Call::Put(object) => match other {
+                Call::Put(other_object) => object.same(other_object),
+                Call::Take { .. } => false,
+            },
+            Call::Take { object, mtu, mac } => match other {
+                Call::Take {
+                    object: other_object,
+                    mtu: other_mtu,
+                    mac: other_mac,
+                } => object.same(other_object) && mtu == other_mtu && mac == other_mac,
+                Call::Put(_) => false,
+            },
+        }
+    }
+
     /// What is put or taken.
     pub fn object(&self) -> Object
         ensures { result ≡ object_of self.now }

@@ -1,4 +1,4 @@
-use crate::{Call, DevName, MemKernel, Object, print_call, read_name};
+use crate::{Call, DevName, MemKernel, Object, calls_from_nothing, print_call, read_name};
 use net_addr::{Addr, Cidr, V4};
 use std::process::Abort;
 use std::test::Fail;
@@ -98,6 +98,27 @@ fn kernels_begin_empty(rt: HostRuntime) -> Result<(), Fail> {
         assert!(rt; kernel.objects().is_empty());
         assert!(rt; kernel.calls().is_empty());
         assert_eq!(rt; kernel.refused(), 0);
+    }
+    Ok(())
+}
+
+#[test]
+fn calls_from_nothing_are_in_order(rt: HostRuntime) -> Result<(), Fail> {
+    let alloc = rt.alloc();
+    let eth0 = name(&rt, "eth0");
+    let lo = name(&rt, "lo");
+    assert_eq!(rt; eth0.text(), b"eth0".as_slice());
+    assert_eq!(rt; lo.text(), b"lo".as_slice());
+    let objects = [
+        Object::Up { name: lo },
+        Object::Up { name: eth0 },
+        Object::Up { name: lo },
+    ];
+    let calls = calls_from_nothing(alloc, &objects)?;
+    let wanted = [Object::Up { name: eth0 }, Object::Up { name: lo }];
+    assert_eq!(rt; calls.len(), wanted.len());
+    for (call, object) in calls.iter().zip(wanted) {
+        assert!(rt; call.same(&Call::Put(object)));
     }
     Ok(())
 }

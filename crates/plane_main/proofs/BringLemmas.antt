@@ -1,6 +1,6 @@
 -- What interfaces want can be asked of the kernel.
-use Rattle.std.proofs.Common.{ℕ, ◌≡◌, ◌⊎◌, inl, inr, List, [], ◌∷◌, ◌++◌, true, false, Bool, refl, ap, sym, subst, ◌∙◌, Contains}
-use Rattle.std.specs.Prelude.{if◌then◌else◌, ◌&&◌, not}
+use Rattle.std.proofs.Common.{ℕ, ◌≡◌, inl, inr, List, [], ◌∷◌, ◌++◌, true, false, Bool, refl, sym, subst, ◌∙◌, Contains}
+use Rattle.std.specs.Prelude.{if◌then◌else◌, ◌&&◌}
 use Rattle.std.specs.List.{AllByRecursion}
 use Rattle.std.specs.FinSet as set
 use Rattle.std.proofs.lemmas.List.Elements.{Contains-append_left, Contains-append_right, Contains-append_cases}
@@ -8,12 +8,12 @@ use Rattle.kern_model.specs.declared.object.Object.{Object}
 use Rattle.kern_model.specs.declared.object.Object.TheVariants as object
 use Rattle.kern_model.specs.declared.object.Call.{Call}
 use Rattle.kern_model.specs.declared.object.Call.TheVariants.{Put, Take}
-use Rattle.kern_model.specs.ObjectOrder.{Objects, object_cmp}
+use Rattle.kern_model.specs.ObjectOrder.{object_cmp}
 use Rattle.kern_model.specs.Kernel.{Devices, is_present}
 use Rattle.kern_model.specs.Line.{IsPrintable, HasLine}
 use Rattle.kern_model.specs.CallOrder.{AreCalls, is_call}
 use Rattle.kern_model.specs.Support.{IsSupported, AreSupported}
-use Rattle.kern_model.proofs.MemberLemmas.{first_or_later, none_in_nil, here, there, all_members, member_of_all}
+use Rattle.kern_model.proofs.MemberLemmas.{first_or_later, none_in_nil, here, all_members, member_of_all}
 use Rattle.kern_model.proofs.SetLemmas.{set_of_member, member_of_set}
 use Rattle.plane_main.specs.declared.interface.Interface.{Interface}
 use Rattle.plane_main.specs.Bring.{IsSound, AreSound}

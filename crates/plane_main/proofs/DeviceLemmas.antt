@@ -1,9 +1,11 @@
 -- Devices that come one after the other.
-use Rattle.std.proofs.Common.{arith, ℕ, zero, suc, ◌≡◌, ◌<◌, ◌⊎◌, inl, inr, List, [], ◌∷◌, ◌++◌, take, length, get_or, true, false, Bool, None, Some, refl, ap, sym, subst, ◌∙◌, Contains, cond}
+use Rattle.std.proofs.Common.{arith, ℕ, zero, suc, ◌≡◌, ◌<◌, ◌≤◌, ◌+◌, ◌⊎◌, inl, inr, List, [], ◌∷◌, ◌++◌, take, length, get_or, true, false, Bool, Some, refl, ap, sym, subst, ◌∙◌, Contains, cond, filter, add-zero, append-nil, length-append}
 use Rattle.std.specs.Prelude.{◌||◌, not, is_some}
 use Rattle.std.specs.List.{list_any}
 use Rattle.std.specs.Ordering.{nat_cmp, eq_by_cmp, is_eq}
-use Rattle.std.specs.Cmp.{Equal-is, eq_by_cmp_equiv}
+use Rattle.std.specs.Cmp.{Equal-is, tied_itself}
+use Rattle.std.proofs.lemmas.List.Elements.{filter-append}
+use Rattle.plane_words.specs.Causes.{Rose}
 use Rattle.std.specs.Cmp.Lexicographic.{slice_cmp, nat_list_cmp_total}
 use Rattle.std.specs.FinSet as set
 use Rattle.std.specs.FinMap as map
@@ -16,6 +18,7 @@ use Rattle.kern_model.proofs.MemberLemmas.{first_or_later, none_in_nil, here, th
 use Rattle.kern_model.proofs.SetLemmas.{set_of_item}
 use Rattle.plane_main.specs.Distinct.{AreDistinct}
 use Rattle.plane_main.specs.Wanted.{with_devices, comes}
+use Rattle.plane_main.specs.Bring.{Came, absent_count}
 
 -- nothing is present at first
 pub none_present : (name : List ℕ) → is_present map.empty name ≡ false
@@ -38,7 +41,7 @@ none_pass p (x ∷ xs) h = absurd (h x (here x xs))
 no_item : (o : Object) → Contains (set.items (set.empty {R = object_cmp})) o → ⊥
 no_item o h = cc (set_of_item set.empty o h, set.contains-empty object_cmp o)
 
-false_of_not : (b : Bool) → (b ≡ true → ⊥) → b ≡ false
+pub false_of_not : (b : Bool) → (b ≡ true → ⊥) → b ≡ false
 false_of_not true h = absurd (h refl)
 false_of_not false h = refl
 
@@ -72,3 +75,56 @@ with_one_more devices (n ∷ names) name = with_one_more (after_event devices (c
 pub added : (b c : Bool) → cond b true c ≡ (b || c)
 added true c = refl
 added false c = refl
+
+-- tests that agree on the members of a list pick the same of them
+filter_agrees : {X : Type 0} (p q : X → Bool) → (xs : List X) → ((x : X) → Contains xs x → p x ≡ q x) → filter p xs ≡ filter q xs
+filter_agrees p q [] h = refl
+filter_agrees p q (x ∷ xs) h =
+    ap (λ b. cond b (x ∷ filter p xs) (filter p xs)) (h x (here x xs)) ∙ ap (λ ys. cond (q x) (x ∷ ys) ys) (filter_agrees p q xs (λ y m. h y (there x xs y m)))
+
+count_agrees : {X : Type 0} (p q : X → Bool) → (xs : List X) → ((x : X) → Contains xs x → p x ≡ q x) → length (filter p xs) ≡ length (filter q xs)
+count_agrees p q xs h = ap length (filter_agrees p q xs h)
+
+count_one_more : {X : Type 0} (p : X → Bool) (xs : List X) (x : X) → length (filter p (xs ++ x ∷ [])) ≡ length (filter p xs) + cond (p x) 1 0
+count_one_more p xs x = ap length (filter-append p xs (x ∷ [])) ∙ length-append (filter p xs) (filter p (x ∷ [])) ∙ ap (λ n. length (filter p xs) + n) (one (p x))
+  where
+    one : (b : Bool) → length (cond b (x ∷ []) []) ≡ cond b 1 0
+    one true = refl
+    one false = refl
+
+-- nothing came at first
+pub came_none : (devices : Devices) (faults : ℕ) → devices ≡ map.empty → Came [] devices faults faults
+came_none devices faults bare = record { present = bare; absent = omega arith }
+
+-- one more device came
+pub came_more : (names : List (List ℕ)) (name : List ℕ) (devices devices' : Devices) (before between now : ℕ) → (Contains names name → ⊥) → is_present devices' name ≡ true → ((q : List ℕ) → Contains names q → is_present devices' q ≡ is_present devices q) → devices' ≡ after_event devices (comes name) → between ≤ now → Came names devices before between → Came (names ++ name ∷ []) devices' before now
+came_more names name devices devices' before between now new is same did later came =
+    let one : filter (is_present devices') (names ++ name ∷ []) ≡ filter (is_present devices) names ++ name ∷ [] =
+    filter-append (is_present devices') names (name ∷ []) ∙ ap (λ b. filter (is_present devices') names ++ cond b (name ∷ []) []) is ∙ ap (λ xs. xs ++ name ∷ []) (filter_agrees (is_present devices') (is_present devices) names same) in
+    let count : absent_count devices' (names ++ name ∷ []) ≡ absent_count devices names =
+    count_one_more (λ n. not (is_present devices' n)) names name ∙ ap (λ b. absent_count devices' names + cond (not b) 1 0) is ∙ add-zero (absent_count devices' names) ∙ count_agrees (λ n. not (is_present devices' n)) (λ n. not (is_present devices n)) names (λ q m. ap not (same q m)) in
+    record {
+      present = did ∙ ap (λ d. after_event d (comes name)) came.present ∙ sym (with_one_more map.empty (filter (is_present devices) names) name) ∙ ap (with_devices map.empty) (sym one);
+      absent = let risen = came.absent in omega arith;
+    }
+
+-- one more device did not come
+pub came_not : (names : List (List ℕ)) (name : List ℕ) (devices devices' : Devices) (before between now : ℕ) → is_present devices name ≡ false → devices' ≡ devices → Rose between now → Came names devices before between → Came (names ++ name ∷ []) devices' before now
+came_not names name devices devices' before between now absent did rose came =
+    let one : filter (is_present devices) (names ++ name ∷ []) ≡ filter (is_present devices) names =
+    filter-append (is_present devices) names (name ∷ []) ∙ ap (λ b. filter (is_present devices) names ++ cond b (name ∷ []) []) absent ∙ append-nil (filter (is_present devices) names) in
+    let count : absent_count devices (names ++ name ∷ []) ≡ absent_count devices names + 1 =
+    count_one_more (λ n. not (is_present devices n)) names name ∙ ap (λ b. absent_count devices names + cond (not b) 1 0) absent in
+    let risen = came.absent in
+    subst (λ d. Came (names ++ name ∷ []) d before now) (sym did) (record {
+      present = came.present ∙ ap (with_devices map.empty) (sym one);
+      absent = omega arith;
+    })
+
+-- a device that came leaves the others as they were
+pub others_stay : (devices : Devices) (names : List (List ℕ)) (name q : List ℕ) (device : Device) → (Contains names name → ⊥) → Contains names q → is_present (map.insert devices name device) q ≡ is_present devices q
+others_stay devices names name q device new member =
+    present_after devices name q device ∙ ap (λ b. b || is_present devices q) (false_of_not (eq_by_cmp (slice_cmp nat_cmp) q name) (λ same. new (subst (Contains names) (same_name q name same) member)))
+
+pub now_there : (devices : Devices) (name : List ℕ) (device : Device) → is_present (map.insert devices name device) name ≡ true
+now_there devices name device = present_after devices name name device ∙ ap (λ r. is_eq r || is_present devices name) (tied_itself nat_list_cmp_total name)

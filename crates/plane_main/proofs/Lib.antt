@@ -4,5 +4,7 @@ pub mod StartLemmas
 pub mod SectionLemmas
 pub mod ItemLemmas
 pub mod DeviceLemmas
+pub mod SettleLemmas
 pub mod BringLemmas
 pub mod RunLemmas
+pub mod EndLemmas

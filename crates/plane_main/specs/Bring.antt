@@ -1,21 +1,29 @@
--- What it is to bring interfaces up.
-use Rattle.std.specs.Prelude.{ℕ, ◌≡◌, List, Option, true, ⊤}
+-- What it is to bring interfaces up, to its end or a part of the way.
+use Rattle.std.specs.Prelude.{ℕ, ◌≡◌, ◌+◌, ◌<◌, List, [], filter, length, not, Option, true}
 use Rattle.std.specs.List.{AllByRecursion}
 use Rattle.std.specs.FinSet as set
 use Rattle.std.specs.FinMap as map
-use Rattle.plane_words.specs.Causes.{Rose}
-use Rattle.plane_words.specs.Growth.{Grows}
+use Rattle.plane_words.specs.Causes.{Rose, RoseBy}
 use Rattle.net_addr.specs.Width.{IsCidr}
 use Rattle.kern_model.specs.declared.object.Call.{Call}
 use Rattle.kern_model.specs.Name.{is_name}
 use Rattle.kern_model.specs.ObjectOrder.{Objects}
-use Rattle.kern_model.specs.Kernel.{Devices, LogsAll}
+use Rattle.kern_model.specs.Kernel.{Devices, is_present}
 use Rattle.kern_model.specs.CallOrder.{AreCalls}
 use Rattle.plane_main.specs.declared.interface.Interface.{Interface}
 use Rattle.plane_main.specs.declared.ending.Ending.{Ending}
 use Rattle.plane_main.specs.declared.ending.Ending.TheVariants as ending
 use Rattle.plane_main.specs.Wanted.{wanted, with_devices}
-use Rattle.plane_main.specs.Texts.{lines_of}
+use Rattle.plane_main.specs.Settle.{Settled, SettledInPart}
+
+-- what a run changes outside, before it or after it
+pub record Outside : Type 0 where
+  pub out : Option (List ℕ)
+  pub devices : Devices
+  pub objects : Objects
+  pub calls : Option (List Call)
+  pub out_faults : ℕ
+  pub kernel_faults : ℕ
 
 -- the device and the address of an interface are of their form
 abbrev pub IsSound : Interface → Type 0
@@ -24,20 +32,55 @@ IsSound interface = (is_name interface.device ≡ true) × IsCidr interface.cidr
 abbrev pub AreSound : List Interface → Type 0
 AreSound interfaces = AllByRecursion IsSound interfaces
 
--- the kernel has the named devices and exactly what the interfaces want on them, by the calls that lead there from
--- nothing, whose lines were written
-pub record BroughtUp (names : List (List ℕ)) (interfaces : List Interface) (devices : Devices) (objects : Objects) (calls calls' : Option (List Call)) (out out' : Option (List ℕ)) : Type 0 where
-  pub made : List Call
-  pub present : devices ≡ with_devices map.empty names
-  pub held : objects ≡ wanted interfaces devices
-  pub order : AreCalls set.empty objects made
-  pub printed : Grows out out' (lines_of made)
-  pub logged : LogsAll calls calls' made
+-- how many of the named devices are absent
+abbrev pub absent_count : Devices → List (List ℕ) → ℕ
+absent_count devices names = length (filter (λ name. not (is_present devices name)) names)
 
--- the endings of bringing up, and their causes
-abbrev pub BringUpEnds : ℕ → ℕ → ℕ → ℕ → Ending → Type 0
-BringUpEnds kernel kernel' out out' ending.Done = ⊤
-BringUpEnds kernel kernel' out out' ending.OutOfMemory = ⊤
-BringUpEnds kernel kernel' out out' (ending.KernelFailed left) = Rose kernel kernel'
-BringUpEnds kernel kernel' out out' ending.WriteFailed = Rose out out'
-BringUpEnds kernel kernel' out out' _ = ⊥
+-- Of the named devices some came, and the kernel failed at least once for each of the others.
+pub record Came (names : List (List ℕ)) (devices : Devices) (before now : ℕ) : Type 0 where
+  pub present : devices ≡ with_devices map.empty (filter (is_present devices) names)
+  pub absent : RoseBy (absent_count devices names) before now
+
+-- all calls that lead from nothing to what the interfaces want were made, and their lines written
+pub record Finished (names : List (List ℕ)) (interfaces : List Interface) (before after : Outside) : Type 0 where
+  pub calls : List Call
+  pub came : Came names after.devices before.kernel_faults after.kernel_faults
+  pub order : AreCalls set.empty (wanted interfaces after.devices) calls
+  pub settled : Settled calls [] set.empty after.objects before.calls after.calls before.out after.out
+  pub held : after.objects ≡ wanted interfaces after.devices
+
+-- A call failed: the calls before it were made and their lines written. As many calls are left as told: those that put
+-- what is wanted and not held.
+pub record StoppedAtCall (left : ℕ) (names : List (List ℕ)) (interfaces : List Interface) (before after : Outside) : Type 0 where
+  pub calls : List Call
+  pub rest : List Call
+  pub present : after.devices ≡ with_devices map.empty (filter (is_present after.devices) names)
+  pub absent : RoseBy (absent_count after.devices names + 1) before.kernel_faults after.kernel_faults
+  pub order : AreCalls set.empty (wanted interfaces after.devices) calls
+  pub settled : Settled calls rest set.empty after.objects before.calls after.calls before.out after.out
+  pub due : AreCalls after.objects (wanted interfaces after.devices) rest
+  pub count : length rest ≡ left
+  pub some : 0 < left
+
+-- a line was not written, or not wholly: the calls up to its own were made, and the lines before it written
+pub record StoppedAtLine (names : List (List ℕ)) (interfaces : List Interface) (before after : Outside) : Type 0 where
+  pub calls : List Call
+  pub rest : List Call
+  pub came : Came names after.devices before.kernel_faults after.kernel_faults
+  pub order : AreCalls set.empty (wanted interfaces after.devices) calls
+  pub settled : SettledInPart calls rest set.empty after.objects before.calls after.calls before.out after.out
+  pub cause : Rose before.out_faults after.out_faults
+
+-- no object was put and nothing was written; devices may have been added
+pub record NothingMade (before after : Outside) : Type 0 where
+  pub out : after.out ≡ before.out
+  pub objects : after.objects ≡ set.empty
+  pub calls : after.calls ≡ before.calls
+
+-- the endings of bringing up, and what they leave
+abbrev pub BringUpEnds : List (List ℕ) → List Interface → Outside → Outside → Ending → Type 0
+BringUpEnds names interfaces before after ending.Done = Finished names interfaces before after
+BringUpEnds names interfaces before after ending.OutOfMemory = NothingMade before after
+BringUpEnds names interfaces before after (ending.KernelFailed left) = StoppedAtCall left names interfaces before after
+BringUpEnds names interfaces before after ending.WriteFailed = StoppedAtLine names interfaces before after
+BringUpEnds names interfaces before after _ = ⊥

@@ -6,6 +6,7 @@ pub mod Form
 pub mod Options
 pub mod Wanted
 pub mod Texts
+pub mod Settle
 pub mod Ending
 pub mod Bring
 pub mod Start

@@ -1,57 +1,74 @@
--- The causes of the endings of a run.
-use Rattle.std.specs.Prelude.{ℕ, ◌≡◌, List, Option, Some, None, ⊤}
-use Rattle.std.specs.FinMap as map
+-- Why a run ends so, and what it leaves.
+use Rattle.std.specs.Prelude.{ℕ, ◌≡◌, ◌≤◌, List, length, Option, ⊤}
 use Rattle.plane_words.specs.Causes.{Rose, DidNotRise}
-use Rattle.plane_io.specs.Source.{HadMoreThan}
-use Rattle.kern_model.specs.declared.object.Call.{Call}
-use Rattle.kern_model.specs.ObjectOrder.{Objects}
-use Rattle.kern_model.specs.Kernel.{Devices}
+use Rattle.plane_words.specs.Growth.{Grows, GrowsByFront}
+use Rattle.plane_io.specs.Source.{IsAllThatWasLeft, HadMoreThan}
 use Rattle.plane_main.specs.declared.interface.Interface.{Interface}
 use Rattle.plane_main.specs.declared.ending.Ending.{Ending}
 use Rattle.plane_main.specs.declared.ending.Ending.TheVariants as ending
-use Rattle.plane_main.specs.Words.{IsCommand}
+use Rattle.plane_main.specs.Ending.{status_of, text_of}
+use Rattle.plane_main.specs.Words.{IsStart, IsCommand}
 use Rattle.plane_main.specs.Form.{IsNetwork}
-use Rattle.plane_main.specs.Start.{IsOfForm, StartDone, input_limit}
+use Rattle.plane_main.specs.Start.{IsOfForm, input_limit}
+use Rattle.plane_main.specs.Bring.{Outside, Finished, StoppedAtCall, StoppedAtLine, NothingMade}
 
--- what a run sees of the outside, before it or after it
-pub record Outside : Type 0 where
+-- what a run sees of its input: what was left and is left now, where the source tells, and its counts of faults then
+-- and now
+pub record Input : Type 0 where
   pub left : Option (List ℕ)
-  pub out : Option (List ℕ)
-  pub devices : Devices
-  pub objects : Objects
-  pub calls : Option (List Call)
-  pub input_faults : ℕ
-  pub out_faults : ℕ
-  pub kernel_faults : ℕ
+  pub left_now : Option (List ℕ)
+  pub faults : ℕ
+  pub faults_now : ℕ
 
--- a text that a source had left, where it tells
-abbrev pub IsText : Option (List ℕ) → List ℕ → Type 0
-IsText left text = (told : List ℕ) → left ≡ Some told → told ≡ text
-
--- the interfaces are those of a text that was left
-pub record AreRead (left : Option (List ℕ)) (interfaces : List Interface) : Type 0 where
+-- the input was read to its end, and the interfaces are those of its text, which is within the limit
+pub record AreRead (input : Input) (interfaces : List Interface) : Type 0 where
   pub text : List ℕ
-  pub told : IsText left text
+  pub all : IsAllThatWasLeft input.left input.left_now text
+  pub within : length text ≤ input_limit
   pub network : IsNetwork text interfaces
 
--- no interfaces were read, and why
-abbrev pub ReadEnds : Option (List ℕ) → ℕ → ℕ → Ending → Type 0
-ReadEnds left before now ending.ReadFailed = Rose before now
-ReadEnds left before now (ending.TooLong limit) = (limit ≡ input_limit) × HadMoreThan input_limit left
-ReadEnds left before now ending.NotBuilt = (text : List ℕ) → left ≡ Some text → IsOfForm text → ⊥
-ReadEnds left before now ending.OutOfMemory = ⊤
-ReadEnds left before now _ = ⊥
+-- the input was read to its end, and its text is within the limit and not of the form
+pub record IsNotBuilt (input : Input) : Type 0 where
+  pub text : List ℕ
+  pub all : IsAllThatWasLeft input.left input.left_now text
+  pub within : length text ≤ input_limit
+  pub refused : IsOfForm text → ⊥
 
--- why a run ends so
-abbrev pub RunEnds : List (List ℕ) → Outside → Outside → Ending → Type 0
-RunEnds words before after ending.Done = DidNotRise before.kernel_faults after.kernel_faults → (text : List ℕ) → before.left ≡ Some text → StartDone words text after.devices after.objects before.calls after.calls before.out after.out
-RunEnds words before after ending.Usage = IsCommand words → ⊥
-RunEnds words before after ending.ReadFailed = Rose before.input_faults after.input_faults
-RunEnds words before after ending.WriteFailed = Rose before.out_faults after.out_faults
-RunEnds words before after (ending.KernelFailed left) = Rose before.kernel_faults after.kernel_faults
-RunEnds words before after ending.OutOfMemory = ⊤
-RunEnds words before after (ending.TooLong limit) = (limit ≡ input_limit) × HadMoreThan input_limit before.left
-RunEnds words before after ending.NotBuilt = IsCommand words × ((text : List ℕ) → before.left ≡ Some text → IsOfForm text → ⊥)
+-- no interfaces were read, and why
+abbrev pub ReadEnds : Input → Ending → Type 0
+ReadEnds input ending.ReadFailed = Rose input.faults input.faults_now
+ReadEnds input (ending.TooLong limit) = (limit ≡ input_limit) × HadMoreThan input_limit input.left
+ReadEnds input ending.NotBuilt = IsNotBuilt input
+ReadEnds input ending.OutOfMemory = ⊤
+ReadEnds input _ = ⊥
+
+-- the words name devices, the text gives interfaces, and this was done with them
+pub record Ran (words : List (List ℕ)) (input : Input) (Did : List (List ℕ) → List Interface → Type 0) : Type 0 where
+  pub names : List (List ℕ)
+  pub interfaces : List Interface
+  pub command : IsStart words names
+  pub read : AreRead input interfaces
+  pub did : Did names interfaces
+
+-- why a run ends so, and what it leaves
+abbrev pub RunEnds : List (List ℕ) → Input → Outside → Outside → Ending → Type 0
+RunEnds words input before after ending.Done = Ran words input (λ names interfaces. Finished names interfaces before after)
+RunEnds words input before after ending.Usage = IsCommand words → ⊥
+RunEnds words input before after ending.ReadFailed = IsCommand words × Rose input.faults input.faults_now
+RunEnds words input before after ending.WriteFailed = Ran words input (λ names interfaces. StoppedAtLine names interfaces before after)
+RunEnds words input before after (ending.KernelFailed left) = Ran words input (λ names interfaces. StoppedAtCall left names interfaces before after)
+RunEnds words input before after ending.OutOfMemory = NothingMade before after
+RunEnds words input before after (ending.TooLong limit) = IsCommand words × (limit ≡ input_limit) × HadMoreThan input_limit input.left
+RunEnds words input before after ending.NotBuilt = IsCommand words × IsNotBuilt input
+
+-- A run ends with an ending: its status is the answer, and its text is on the error output, wholly where the count of
+-- faults there did not rise, and otherwise in front.
+pub record Ended (words : List (List ℕ)) (input : Input) (before after : Outside) (err err' : Option (List ℕ)) (faults faults' : ℕ) (answer : ℕ) : Type 0 where
+  pub ending : Ending
+  pub status : status_of ending ≡ answer
+  pub cause : RunEnds words input before after ending
+  pub told : GrowsByFront err err' (text_of ending)
+  pub wholly : DidNotRise faults faults' → Grows err err' (text_of ending)
 
 -- the endings before which nothing was done outside but reading
 abbrev pub IsEarly : Ending → Type 0

@@ -4,10 +4,10 @@ ghost use Rattle.std.specs.FinMap as map;
 ghost use Rattle.std.specs.Ordering.{nat_cmp};
 ghost use Rattle.std.specs.Cmp.Lexicographic.{slice_cmp};
 ghost use Rattle.std.specs.BTreeSet.{contains};
-ghost use Rattle.plane_words.specs.Causes.{DidNotRise};
 ghost use Rattle.kern_model.specs.Kernel.{is_present};
 ghost use Rattle.plane_main.specs.Distinct.{AreDistinct};
-ghost use Rattle.plane_main.specs.Wanted.{all_objects_of, with_devices};
+ghost use Rattle.plane_main.specs.Wanted.{all_objects_of};
+ghost use Rattle.plane_main.specs.Bring.{Came};
 
 use crate::interface::Interface;
 use kern_model::{DevEvent, DevName, Kernel, LinkKind, Mac, Object};
@@ -25,7 +25,7 @@ pub fn add_devices<K: Kernel>(
     requires bare { (K.objects kernel.old ≡ set.empty) × (K.devices kernel.old ≡ map.empty) }
     requires distinct { AreDistinct names.now }
     ensures present { IfOk result (λ present. (name : List ℕ) → contains (slice_cmp nat_cmp) present name ≡ is_present (K.devices kernel.new) name) }
-    ensures all { IfOk result (λ present. DidNotRise (K.faults kernel.old) (K.faults kernel.new) → K.devices kernel.new ≡ with_devices map.empty names.now) }
+    ensures came { IfOk result (λ present. Came names.now (K.devices kernel.new) (K.faults kernel.old) (K.faults kernel.new)) }
     ensures objects { K.objects kernel.new ≡ set.empty }
     ensures calls { K.calls kernel.new ≡ K.calls kernel.old }
     ensures later { K.faults kernel.old ≤ K.faults kernel.new }
@@ -54,6 +54,7 @@ pub fn wanted_objects(
 ) -> Result<Vec<Object>, Memory>
     ensures { IfOk result (λ objects. objects.items ≡ all_objects_of (contains (slice_cmp nat_cmp) present.now) interfaces.now) }
 {
+    // The checker proves the pushes below only where this type is named.
     let _named: Option<LinkKind> = None;
     let mut objects = Vec::new(alloc);
     for interface in interfaces {

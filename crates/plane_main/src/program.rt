@@ -1,11 +1,10 @@
-ghost use Rattle.std.specs.Prelude.{◌≡◌, ◌≤◌, ◌⊎◌, ◌∷◌, [], ℕ, List, length, map, string_bytes, Some};
+ghost use Rattle.std.specs.Prelude.{◌≡◌, ◌<◌, ◌∷◌, [], ℕ, List, length, map, string_bytes, Some, Contains};
 ghost use Rattle.std.specs.FinSet as set;
 ghost use Rattle.std.specs.FinMap as map;
 ghost use Rattle.plane_words.specs.Causes.{DidNotRise};
-ghost use Rattle.plane_words.specs.Growth.{Grows};
 ghost use Rattle.plane_main.specs.Words.{IsCommand};
-ghost use Rattle.plane_main.specs.Ending.{text_of};
-ghost use Rattle.plane_main.specs.Start.{IsOfForm, IsInput, NoneRose, StartDone, IsEither};
+ghost use Rattle.plane_main.specs.Start.{IsOfForm, IsInput, NoneRose, IsEither, input_limit};
+ghost use Rattle.plane_main.specs.Run.{Ended};
 
 use crate::ending::Ending;
 use crate::report::report;
@@ -17,8 +16,8 @@ use std::alloc::Global;
 /// The program: carries a command out over the devices that it is given, and answers its exit status.
 ///
 /// `start DEV..` reads a `network` text from the input, and brings its interfaces up on the devices of those names. The
-/// words are without the name of the program. What a run answers in which a device failed is not said yet, nor of an
-/// input over the limit. Status 8 is want of memory, which may end any run.
+/// words are without the name of the program. A device that the kernel does not take is absent. Status 8 is want of
+/// memory: then no object was put and nothing was written to the output, but devices may have been added.
 pub fn plane<S: Source, O: Sink, E: Sink, K: Kernel>(
     alloc: Global,
     words: &[String],
@@ -29,36 +28,41 @@ pub fn plane<S: Source, O: Sink, E: Sink, K: Kernel>(
 ) -> u8
     requires bare { (K.objects kernel.old ≡ set.empty) × (K.devices kernel.old ≡ map.empty) }
 
-    // Where no device failed and the input is within its limit, the status is 0, 2, 8 or 11.
-    ensures status { NoneRose ((S.faults input.old, S.faults input.new) ∷ (O.faults out.old, O.faults out.new) ∷ (E.faults err.old, E.faults err.new) ∷ (K.faults kernel.old, K.faults kernel.new) ∷ []) →
-        (text : List ℕ) → IsInput (S.left input.old) text → (result ≡ 0) ⊎ ((result ≡ 2) ⊎ ((result ≡ 8) ⊎ (result ≡ 11))) }
+    // How a run ends: its status, why it ends so, what it leaves, and its text on the error output.
+    ensures ended { Ended (map string_bytes words.now) (record { left = S.left input.old; left_now = S.left input.new; faults = S.faults input.old; faults_now = S.faults input.new })
+        (record { out = O.held out.old; devices = K.devices kernel.old; objects = K.objects kernel.old; calls = K.calls kernel.old; out_faults = O.faults out.old; kernel_faults = K.faults kernel.old })
+        (record { out = O.held out.new; devices = K.devices kernel.new; objects = K.objects kernel.new; calls = K.calls kernel.new; out_faults = O.faults out.new; kernel_faults = K.faults kernel.new })
+        (E.held err.old) (E.held err.new) (E.faults err.old) (E.faults err.new) result }
 
-    // 0 comes only where the words are a command and the text is of the form: then the calls were made and printed.
-    ensures done { NoneRose ((S.faults input.old, S.faults input.new) ∷ (O.faults out.old, O.faults out.new) ∷ (E.faults err.old, E.faults err.new) ∷ (K.faults kernel.old, K.faults kernel.new) ∷ []) →
-        (text : List ℕ) → IsInput (S.left input.old) text → result ≡ 0 →
-        StartDone (map string_bytes words.now) text (K.devices kernel.new) (K.objects kernel.new) (K.calls kernel.old) (K.calls kernel.new) (O.held out.old) (O.held out.new) }
-    ensures silent { result ≡ 0 → err.new ≡ err.old }
+    // The statuses, and those of runs in which no count of the input, the output or the kernel rose.
+    ensures status { Contains (0 ∷ 2 ∷ 3 ∷ 4 ∷ 6 ∷ 8 ∷ 10 ∷ 11 ∷ []) result }
+    ensures calm_status { NoneRose ((S.faults input.old, S.faults input.new) ∷ (O.faults out.old, O.faults out.new) ∷ (K.faults kernel.old, K.faults kernel.new) ∷ []) → Contains (0 ∷ 2 ∷ 8 ∷ 10 ∷ 11 ∷ []) result }
 
-    // And it comes wherever they are, or 8.
-    ensures built { NoneRose ((S.faults input.old, S.faults input.new) ∷ (O.faults out.old, O.faults out.new) ∷ (E.faults err.old, E.faults err.new) ∷ (K.faults kernel.old, K.faults kernel.new) ∷ []) →
-        (text : List ℕ) → IsInput (S.left input.old) text → IsCommand (map string_bytes words.now) → IsOfForm text → IsEither 0 8 result }
-
-    // 2 comes exactly where the words are not in the table of commands, or 8.
-    ensures usage { result ≡ 2 → IsCommand (map string_bytes words.now) → ⊥ }
+    // Words that are not in the table of commands end the run with 2, or 8.
     ensures no_command { (IsCommand (map string_bytes words.now) → ⊥) → IsEither 2 8 result }
 
-    // 11 comes exactly where the words are a command and the text is not of the form, or 8.
-    ensures not_built { (text : List ℕ) → IsInput (S.left input.old) text → result ≡ 11 → IsCommand (map string_bytes words.now) × (IsOfForm text → ⊥) }
-    ensures no_form { NoneRose ((S.faults input.old, S.faults input.new) ∷ (O.faults out.old, O.faults out.new) ∷ (E.faults err.old, E.faults err.new) ∷ (K.faults kernel.old, K.faults kernel.new) ∷ []) →
-        (text : List ℕ) → IsInput (S.left input.old) text → IsCommand (map string_bytes words.now) → (IsOfForm text → ⊥) → IsEither 11 8 result }
+    // Where the words are a command, an input over the limit ends the run with 10, or 8, if the count of the input did not
+    // rise.
+    ensures long_input { (text : List ℕ) → S.left input.old ≡ Some text → input_limit < length text → DidNotRise (S.faults input.old) (S.faults input.new) → IsCommand (map string_bytes words.now) → IsEither 10 8 result }
 
-    // With 2 and 11 nothing was written to the output, and no call of the kernel was made.
-    ensures untouched { (result ≡ 2) ⊎ (result ≡ 11) → (out.new ≡ out.old) × (kernel.new ≡ kernel.old) }
+    // Where they are, an input within the limit that is not of the form ends the run with 11, or 8, if that count did not
+    // rise.
+    ensures no_form { (text : List ℕ) → IsInput (S.left input.old) text → DidNotRise (S.faults input.old) (S.faults input.new) → IsCommand (map string_bytes words.now) → (IsOfForm text → ⊥) → IsEither 11 8 result }
 
-    // The text on the error output.
-    ensures usage_told { DidNotRise (E.faults err.old) (E.faults err.new) → result ≡ 2 → Grows (E.held err.old) (E.held err.new) (text_of Ending.Usage) }
-    ensures memory_told { DidNotRise (E.faults err.old) (E.faults err.new) → result ≡ 8 → Grows (E.held err.old) (E.held err.new) (text_of Ending.OutOfMemory) }
-    ensures not_built_told { DidNotRise (E.faults err.old) (E.faults err.new) → result ≡ 11 → Grows (E.held err.old) (E.held err.new) (text_of Ending.NotBuilt) }
+    // Where they are, an input of the form ends the run with 0, or 8, if no count of the input, the output or the kernel
+    // rose.
+    ensures built { NoneRose ((S.faults input.old, S.faults input.new) ∷ (O.faults out.old, O.faults out.new) ∷ (K.faults kernel.old, K.faults kernel.new) ∷ []) →
+        (text : List ℕ) → IsInput (S.left input.old) text → IsCommand (map string_bytes words.now) → IsOfForm text → IsEither 0 8 result }
+
+    // Where the words are not in the table, nothing was read, nothing was written to the output, and the kernel was not
+    // called, also with 8.
+    ensures unread { (IsCommand (map string_bytes words.now) → ⊥) → (input.new ≡ input.old) × (out.new ≡ out.old) × (kernel.new ≡ kernel.old) }
+
+    // With 2, 3, 10 and 11 nothing was written to the output, and no call of the kernel was made.
+    ensures untouched { Contains (2 ∷ 3 ∷ 10 ∷ 11 ∷ []) result → (out.new ≡ out.old) × (kernel.new ≡ kernel.old) }
+
+    // With 0 nothing was written to the error output.
+    ensures silent { result ≡ 0 → err.new ≡ err.old }
 {
     let ending = start(alloc, words, input, out, kernel);
     let _ = report(&ending, err);

@@ -1,10 +1,9 @@
 ghost use Rattle.std.specs.Prelude.{◌≡◌, ◌≤◌, ◌⊎◌, ℕ, List, map, string_bytes, IfOk, IfErr, Some};
 ghost use Rattle.std.specs.FinSet as set;
 ghost use Rattle.std.specs.FinMap as map;
-ghost use Rattle.plane_words.specs.Causes.{DidNotRise, Rose};
 ghost use Rattle.plane_main.specs.Distinct.{AreDistinct};
 ghost use Rattle.plane_main.specs.Words.{IsCommand};
-ghost use Rattle.plane_main.specs.Bring.{AreSound, BroughtUp, BringUpEnds};
+ghost use Rattle.plane_main.specs.Bring.{AreSound, BringUpEnds};
 ghost use Rattle.plane_main.specs.Run.{AreRead, ReadEnds, RunEnds, IsEarly};
 
 use crate::bring_up::{add_devices, wanted_objects};
@@ -20,7 +19,7 @@ use std::alloc::Global;
 /// How many bytes the input has at most.
 const INPUT_LIMIT: u64 = 1_048_576;
 
-/// Reads the input, and brings the named devices of a kernel without any up as it wants.
+/// Adds the named devices to a kernel that has none, and brings the interfaces of the input up on them.
 pub fn start<S: Source, O: Sink, K: Kernel>(
     alloc: Global,
     words: &[String],
@@ -29,11 +28,11 @@ pub fn start<S: Source, O: Sink, K: Kernel>(
     kernel: &mut K,
 ) -> Ending
     requires bare { (K.objects kernel.old ≡ set.empty) × (K.devices kernel.old ≡ map.empty) }
-    ensures cause { RunEnds (map string_bytes words.now)
-        (record { left = S.left input.old; out = O.held out.old; devices = K.devices kernel.old; objects = K.objects kernel.old; calls = K.calls kernel.old; input_faults = S.faults input.old; out_faults = O.faults out.old; kernel_faults = K.faults kernel.old })
-        (record { left = S.left input.new; out = O.held out.new; devices = K.devices kernel.new; objects = K.objects kernel.new; calls = K.calls kernel.new; input_faults = S.faults input.new; out_faults = O.faults out.new; kernel_faults = K.faults kernel.new })
+    ensures cause { RunEnds (map string_bytes words.now) (record { left = S.left input.old; left_now = S.left input.new; faults = S.faults input.old; faults_now = S.faults input.new })
+        (record { out = O.held out.old; devices = K.devices kernel.old; objects = K.objects kernel.old; calls = K.calls kernel.old; out_faults = O.faults out.old; kernel_faults = K.faults kernel.old })
+        (record { out = O.held out.new; devices = K.devices kernel.new; objects = K.objects kernel.new; calls = K.calls kernel.new; out_faults = O.faults out.new; kernel_faults = K.faults kernel.new })
         result }
-    ensures command { (IsCommand (map string_bytes words.now) → ⊥) → (result ≡ Ending.Usage) ⊎ (result ≡ Ending.OutOfMemory) }
+    ensures unread { (IsCommand (map string_bytes words.now) → ⊥) → (input.new ≡ input.old) × (out.new ≡ out.old) × (kernel.new ≡ kernel.old) }
     ensures early { IsEarly result → (out.new ≡ out.old) × (kernel.new ≡ kernel.old) }
 {
     let names = match start_names(alloc, words) {
@@ -48,8 +47,8 @@ pub fn start<S: Source, O: Sink, K: Kernel>(
 }
 
 fn read_interfaces<S: Source>(alloc: Global, input: &mut S) -> Result<Vec<Interface>, Ending>
-    ensures found { IfOk result (λ interfaces. AreRead (S.left input.old) interfaces.items) }
-    ensures refused { IfErr result (ReadEnds (S.left input.old) (S.faults input.old) (S.faults input.new)) }
+    ensures found { IfOk result (λ interfaces. AreRead (record { left = S.left input.old; left_now = S.left input.new; faults = S.faults input.old; faults_now = S.faults input.new }) interfaces.items) }
+    ensures refused { IfErr result (ReadEnds (record { left = S.left input.old; left_now = S.left input.new; faults = S.faults input.old; faults_now = S.faults input.new })) }
 {
     let text = match read_to_end(alloc, input, INPUT_LIMIT) {
         Ok(text) => text,
@@ -74,8 +73,10 @@ fn bring_up<K: Kernel, O: Sink>(
     requires bare { (K.objects kernel.old ≡ set.empty) × (K.devices kernel.old ≡ map.empty) }
     requires distinct { AreDistinct names.now }
     requires sound { AreSound interfaces.now }
-    ensures done { result ≡ Ending.Done → DidNotRise (K.faults kernel.old) (K.faults kernel.new) → BroughtUp names.now interfaces.now (K.devices kernel.new) (K.objects kernel.new) (K.calls kernel.old) (K.calls kernel.new) (O.held out.old) (O.held out.new) }
-    ensures cause { BringUpEnds (K.faults kernel.old) (K.faults kernel.new) (O.faults out.old) (O.faults out.new) result }
+    ensures cause { BringUpEnds names.now interfaces.now
+        (record { out = O.held out.old; devices = K.devices kernel.old; objects = K.objects kernel.old; calls = K.calls kernel.old; out_faults = O.faults out.old; kernel_faults = K.faults kernel.old })
+        (record { out = O.held out.new; devices = K.devices kernel.new; objects = K.objects kernel.new; calls = K.calls kernel.new; out_faults = O.faults out.new; kernel_faults = K.faults kernel.new })
+        result }
 {
     let Ok(present) = add_devices(alloc, names, kernel) else {
         return Ending::OutOfMemory;

@@ -1,4 +1,4 @@
-use Rattle.std.proofs.Common.{◌≡◌, ◌++◌, List, take, map, Some, Contains}
+use Rattle.std.proofs.Common.{◌≡◌, ◌++◌, take, map, Some, Contains}
 use Rattle.std.specs.BTreeMap.{get}
 use Rattle.kern_model.specs.declared.object.Object.{Object}
 use Rattle.kern_model.specs.declared.object.Call.TheVariants.{Put}

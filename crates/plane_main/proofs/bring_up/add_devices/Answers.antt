@@ -1,6 +1,5 @@
-use Rattle.std.proofs.Common.{arith, rules, ℕ, false, ◌≡◌, ◌<◌, ◌+◌, ◌∷◌, ◌++◌, [], List, take, length, true, refl, ap, sym, subst, ◌∙◌, Contains, inl, inr}
+use Rattle.std.proofs.Common.{arith, ℕ, false, ◌≡◌, ◌+◌, ◌∷◌, ◌++◌, [], List, take, refl, ap, sym, subst, ◌∙◌, Contains, inl, inr}
 use Rattle.std.specs.Prelude.{◌||◌}
-use Rattle.std.specs.FinMap as map
 use Rattle.std.specs.Ordering.{nat_cmp, eq_by_cmp}
 use Rattle.std.specs.Cmp.{eq_by_cmp_equiv}
 use Rattle.std.specs.Cmp.Lexicographic.{slice_cmp, nat_list_cmp_total}
@@ -10,8 +9,9 @@ use Rattle.std.specs.List.{list_any}
 use Rattle.std.proofs.lemmas.List.{take_more}
 use Rattle.std.proofs.lemmas.List.Elements.{Contains-append_left, Contains-push}
 use Rattle.kern_model.specs.Kernel.{is_present, after_event}
-use Rattle.plane_main.specs.Wanted.{with_devices, comes}
-use Rattle.plane_main.proofs.DeviceLemmas.{none_present, may_come, not_before, present_after, same_name, either, added, with_one_more}
+use Rattle.plane_main.specs.Wanted.{comes}
+use Rattle.plane_main.specs.Bring.{Came}
+use Rattle.plane_main.proofs.DeviceLemmas.{none_present, may_come, not_before, present_after, same_name, either, added, came_none, came_more, came_not, now_there, others_stay, false_of_not}
 use Rattle.plane_main.proofs.bring_up.add_devices.Goals as goal
 
 pub loop-name-init : goal.loop-name-init
@@ -23,7 +23,7 @@ loop-name-init g c =
       later = omega arith;
       present = λ q. ap (list_any (is_at (slice_cmp nat_cmp q))) c.new-present.ensures.empty ∙ sym (absent q);
       only = λ q h. cc (h, absent q);
-      all = λ _. c.requires.bare.1;
+      came = came_none (g.K.Kernel.devices c.args.kernel.now) (g.K.Kernel.faults c.args.kernel.now) c.requires.bare.1;
     }
 
 pub environment-requires : goal.environment-requires
@@ -37,6 +37,7 @@ loop-name-preserved g c =
     let index = c.loop-name.name-index in
     let name = c.name-item.result in
     let more : take (index + 1) names ≡ take index names ++ name ∷ [] = take_more names index name (omega arith) ∙ ap (λ x. take index names ++ x ∷ []) (sym c.name-item.is) in
+    let new : Contains (take index names) name → ⊥ = not_before names index name c.requires.distinct (omega arith) (sym c.name-item.is) in
     let did : g.K.Kernel.devices c.environment.new.self ≡ after_event (g.K.Kernel.devices c.loop-name.kernel) (comes name) = c.in-Ok.ensures.did in
     let now_present : (q : List ℕ) → is_present (g.K.Kernel.devices c.environment.new.self) q ≡ (eq_by_cmp (slice_cmp nat_cmp) q name || is_present (g.K.Kernel.devices c.loop-name.kernel) q) = λ q. ap (λ d. is_present d q) did ∙ present_after (g.K.Kernel.devices c.loop-name.kernel) name q _ in
     record {
@@ -48,5 +49,32 @@ loop-name-preserved g c =
         | inl same ↦ subst (λ xs. Contains xs q) (sym more) (subst (Contains (take index names ++ name ∷ [])) (sym (same_name q name same)) (Contains-push (take index names) name))
         | inr before ↦ subst (λ xs. Contains xs q) (sym more) (Contains-append_left (take index names) (name ∷ []) q (c.loop-name.invariant.only q before))
       ];
-      all = λ calm. did ∙ ap (λ d. after_event d (comes name)) (c.loop-name.invariant.all (let later = c.environment.ensures.cause.later in omega arith)) ∙ sym (with_one_more map.empty (take index names) name) ∙ ap (with_devices map.empty) (sym more);
+      came = subst (λ xs. Came xs (g.K.Kernel.devices c.environment.new.self) (g.K.Kernel.faults c.args.kernel.now) (g.K.Kernel.faults c.environment.new.self)) (sym more)
+          (came_more (take index names) name (g.K.Kernel.devices c.loop-name.kernel) (g.K.Kernel.devices c.environment.new.self) (g.K.Kernel.faults c.args.kernel.now) (g.K.Kernel.faults c.loop-name.kernel) (g.K.Kernel.faults c.environment.new.self)
+          new
+          (ap (λ d. is_present d name) did ∙ now_there (g.K.Kernel.devices c.loop-name.kernel) name _)
+          (λ q member. ap (λ d. is_present d q) did ∙ others_stay (g.K.Kernel.devices c.loop-name.kernel) (take index names) name q _ new member)
+          did c.environment.ensures.cause.later c.loop-name.invariant.came);
+    }
+
+pub loop-name-preserved-in_default : goal.loop-name-preserved-in_default
+loop-name-preserved-in_default g c =
+    let names = c.args.names.now in
+    let index = c.loop-name.name-index in
+    let name = c.name-item.result in
+    let before = g.K.Kernel.devices c.loop-name.kernel in
+    let after = g.K.Kernel.devices c.environment.new.self in
+    let more : take (index + 1) names ≡ take index names ++ name ∷ [] = take_more names index name (omega arith) ∙ ap (λ x. take index names ++ x ∷ []) (sym c.name-item.is) in
+    let new : Contains (take index names) name → ⊥ = not_before names index name c.requires.distinct (omega arith) (sym c.name-item.is) in
+    let did : after ≡ before = c.in_default.ensures.err in
+    let absent : is_present before name ≡ false = false_of_not (is_present before name) (λ h. new (c.loop-name.invariant.only name h)) in
+    record {
+      objects = c.environment.ensures.objects ∙ c.loop-name.invariant.objects;
+      calls = c.environment.ensures.calls ∙ c.loop-name.invariant.calls;
+      later = let later = c.environment.ensures.cause.later in let so_far = c.loop-name.invariant.later in omega arith;
+      present = λ q. c.loop-name.invariant.present q ∙ ap (λ d. is_present d q) (sym did);
+      only = λ q h. subst (λ xs. Contains xs q) (sym more) (Contains-append_left (take index names) (name ∷ []) q (c.loop-name.invariant.only q (ap (λ d. is_present d q) (sym did) ∙ h)));
+      came = subst (λ xs. Came xs after (g.K.Kernel.faults c.args.kernel.now) (g.K.Kernel.faults c.environment.new.self)) (sym more)
+          (came_not (take index names) name before after (g.K.Kernel.faults c.args.kernel.now) (g.K.Kernel.faults c.loop-name.kernel) (g.K.Kernel.faults c.environment.new.self)
+          absent did c.in_default.ensures.cause.failed c.loop-name.invariant.came);
     }

@@ -1,12 +1,10 @@
 use Rattle.std.proofs.Common.{◌≡◌, ◌≤◌, ℕ, List, take, true, Contains}
 use Rattle.std.specs.FinSet as set
-use Rattle.std.specs.FinMap as map
 use Rattle.std.specs.Ordering.{nat_cmp}
 use Rattle.std.specs.Cmp.Lexicographic.{slice_cmp}
 use Rattle.std.specs.BTreeSet.{contains}
-use Rattle.plane_words.specs.Causes.{DidNotRise}
 use Rattle.kern_model.specs.Kernel.{is_present}
-use Rattle.plane_main.specs.Wanted.{with_devices}
+use Rattle.plane_main.specs.Bring.{Came}
 use Rattle.plane_main.proofs.bring_up.add_devices.Given as goal
 
 -- the devices so far are present where the kernel took them, and nothing else is
@@ -17,5 +15,5 @@ invariant-loop-name g l = record {
   later : g.K.Kernel.faults l.fn.kernel ≤ g.K.Kernel.faults l.kernel;
   present : (q : List ℕ) → contains (slice_cmp nat_cmp) l.present q ≡ is_present (g.K.Kernel.devices l.kernel) q;
   only : (q : List ℕ) → is_present (g.K.Kernel.devices l.kernel) q ≡ true → Contains (take l.name-index l.names) q;
-  all : DidNotRise (g.K.Kernel.faults l.fn.kernel) (g.K.Kernel.faults l.kernel) → g.K.Kernel.devices l.kernel ≡ with_devices map.empty (take l.name-index l.names);
+  came : Came (take l.name-index l.names) (g.K.Kernel.devices l.kernel) (g.K.Kernel.faults l.fn.kernel) (g.K.Kernel.faults l.kernel);
 }

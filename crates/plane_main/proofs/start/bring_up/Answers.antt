@@ -1,18 +1,18 @@
-use Rattle.std.proofs.Common.{arith, ◌≡◌, refl, ap, sym, subst, ◌∙◌}
+use Rattle.std.proofs.Common.{◌≡◌, ap, sym, subst, ◌∙◌}
+use Rattle.std.specs.Prelude.{Err}
 use Rattle.std.specs.List.{AllByRecursion}
 use Rattle.std.specs.FinSet as set
 use Rattle.std.specs.Ordering.{nat_cmp}
 use Rattle.std.specs.Cmp.Lexicographic.{slice_cmp}
 use Rattle.std.specs.BTreeSet.{contains}
-use Rattle.plane_words.specs.Growth.{Grows}
-use Rattle.kern_model.specs.Kernel.{LogsAll}
 use Rattle.kern_model.specs.Line.{IsPrintable, HasLine}
-use Rattle.kern_model.specs.CallOrder.{AreCalls, AreAdmitted, after_calls}
+use Rattle.kern_model.specs.CallOrder.{AreCalls, AreAdmitted}
 use Rattle.kern_model.specs.Support.{AreSupported}
-use Rattle.kern_model.proofs.AdmitLemmas.{admitted, reached}
+use Rattle.kern_model.proofs.AdmitLemmas.{admitted}
 use Rattle.plane_main.specs.Wanted.{all_objects_of, wanted}
-use Rattle.plane_main.specs.Texts.{lines_of}
 use Rattle.plane_main.proofs.BringLemmas.{objects_printable, objects_supported, calls_have_lines, wanted_by_test}
+use Rattle.plane_main.specs.Bring.{Outside}
+use Rattle.plane_main.proofs.EndLemmas.{finished, stopped_at_call, stopped_at_line}
 use Rattle.plane_main.proofs.start.bring_up.Goals as goal
 
 pub calls_from_nothing-requires : goal.calls_from_nothing-requires
@@ -37,19 +37,52 @@ settle-requires-clause-lines g c =
     let printable : AllByRecursion IsPrintable c.deref.result.now = subst (AllByRecursion IsPrintable) (sym objects) (objects_printable test c.args.interfaces.now c.requires.sound) in
     subst (AllByRecursion HasLine) (sym c.deref-2.ensures.value) (calls_have_lines c.deref.result.now c.in-Ok-calls_from_nothing.calls.items printable c.in-Ok-calls_from_nothing.ensures)
 
-pub returns-in-Ok-settle-clause-done : goal.returns-in-Ok-settle-clause-done
-returns-in-Ok-settle-clause-done g c _ calm =
+pub returns-in-Ok-settle : goal.returns-in-Ok-settle
+returns-in-Ok-settle g c =
+    let devices = g.K.Kernel.devices c.add_devices.new.kernel in
     let test = contains (slice_cmp nat_cmp) c.in-Ok.present in
-    let calls = c.in-Ok-calls_from_nothing.calls.items in
-    let are = c.in-Ok-calls_from_nothing.ensures in
-    let objects : c.deref.result.now ≡ all_objects_of test c.args.interfaces.now = c.deref.ensures.value ∙ c.in-Ok-wanted_objects.ensures in
-    let held : g.K.Kernel.objects c.settle.new.kernel ≡ set.from_list c.deref.result.now =
-    c.in-Ok-settle.ensures.held ∙ ap (λ o. after_calls o c.deref-2.result.now) c.add_devices.ensures.objects ∙ ap (after_calls set.empty) c.deref-2.ensures.value ∙ reached (set.from_list c.deref.result.now) calls are in
+    let interfaces = c.args.interfaces.now in
+    let objects : c.deref.result.now ≡ all_objects_of test interfaces = c.deref.ensures.value ∙ c.in-Ok-wanted_objects.ensures in
+    let same : set.from_list c.deref.result.now ≡ wanted interfaces devices = ap set.from_list objects ∙ wanted_by_test devices test interfaces c.in-Ok.ensures.present in
+    let order : AreCalls set.empty (wanted interfaces devices) c.deref-2.result.now = subst (AreCalls set.empty (wanted interfaces devices)) (sym c.deref-2.ensures.value) (subst (λ w. AreCalls set.empty w c.in-Ok-calls_from_nothing.calls.items) same c.in-Ok-calls_from_nothing.ensures) in
+    let before : Outside = record { out = g.O.Sink.held c.args.out.now; devices = g.K.Kernel.devices c.args.kernel.now; objects = g.K.Kernel.objects c.args.kernel.now; calls = g.K.Kernel.calls c.args.kernel.now; out_faults = g.O.Sink.faults c.args.out.now; kernel_faults = g.K.Kernel.faults c.args.kernel.now } in
+    let after : Outside = record { out = g.O.Sink.held c.settle.new.out; devices = g.K.Kernel.devices c.settle.new.kernel; objects = g.K.Kernel.objects c.settle.new.kernel; calls = g.K.Kernel.calls c.settle.new.kernel; out_faults = g.O.Sink.faults c.settle.new.out; kernel_faults = g.K.Kernel.faults c.settle.new.kernel } in
     record {
-      made = calls;
-      present = c.settle.ensures.devices ∙ c.in-Ok.ensures.all (let later = c.settle.ensures.later.0 in omega arith);
-      held = held ∙ ap set.from_list objects ∙ wanted_by_test (g.K.Kernel.devices c.add_devices.new.kernel) test c.args.interfaces.now c.in-Ok.ensures.present ∙ ap (wanted c.args.interfaces.now) (sym c.settle.ensures.devices);
-      order = subst (λ o. AreCalls set.empty o calls) (sym held) are;
-      printed = subst (λ cs. Grows (g.O.Sink.held c.args.out.now) (g.O.Sink.held c.settle.new.out) (lines_of cs)) c.deref-2.ensures.value c.in-Ok-settle.ensures.written;
-      logged = subst (λ before. LogsAll before (g.K.Kernel.calls c.settle.new.kernel) calls) c.add_devices.ensures.calls (subst (LogsAll (g.K.Kernel.calls c.add_devices.new.kernel) (g.K.Kernel.calls c.settle.new.kernel)) c.deref-2.ensures.value c.in-Ok-settle.ensures.logged);
+      cause = finished c.args.names.now interfaces before after devices c.deref-2.result.now (g.K.Kernel.faults c.add_devices.new.kernel) (g.K.Kernel.objects c.add_devices.new.kernel) (g.K.Kernel.calls c.add_devices.new.kernel)
+          c.in-Ok.ensures.came c.settle.ensures.devices order c.add_devices.ensures.objects c.add_devices.ensures.calls c.settle.ensures.later.0 c.in-Ok-settle.ensures.done;
+    }
+
+pub returns-in-Err-KernelFailed : goal.returns-in-Err-KernelFailed
+returns-in-Err-KernelFailed g c =
+    let devices = g.K.Kernel.devices c.add_devices.new.kernel in
+    let test = contains (slice_cmp nat_cmp) c.in-Ok.present in
+    let interfaces = c.args.interfaces.now in
+    let objects : c.deref.result.now ≡ all_objects_of test interfaces = c.deref.ensures.value ∙ c.in-Ok-wanted_objects.ensures in
+    let same : set.from_list c.deref.result.now ≡ wanted interfaces devices = ap set.from_list objects ∙ wanted_by_test devices test interfaces c.in-Ok.ensures.present in
+    let order : AreCalls set.empty (wanted interfaces devices) c.deref-2.result.now = subst (AreCalls set.empty (wanted interfaces devices)) (sym c.deref-2.ensures.value) (subst (λ w. AreCalls set.empty w c.in-Ok-calls_from_nothing.calls.items) same c.in-Ok-calls_from_nothing.ensures) in
+    let before : Outside = record { out = g.O.Sink.held c.args.out.now; devices = g.K.Kernel.devices c.args.kernel.now; objects = g.K.Kernel.objects c.args.kernel.now; calls = g.K.Kernel.calls c.args.kernel.now; out_faults = g.O.Sink.faults c.args.out.now; kernel_faults = g.K.Kernel.faults c.args.kernel.now } in
+    let after : Outside = record { out = g.O.Sink.held c.settle.new.out; devices = g.K.Kernel.devices c.settle.new.kernel; objects = g.K.Kernel.objects c.settle.new.kernel; calls = g.K.Kernel.calls c.settle.new.kernel; out_faults = g.O.Sink.faults c.settle.new.out; kernel_faults = g.K.Kernel.faults c.settle.new.kernel } in
+    let left = c.in-Err-KernelFailed.left in
+    let is = c.in-Err-KernelFailed.is ∙ ap Err c.in-Err-KernelFailed.field-0-is in
+    let stop = c.settle.ensures.kernel_failed left is in
+    record {
+      cause = stopped_at_call c.args.names.now interfaces before after devices c.deref-2.result.now (g.K.Kernel.faults c.add_devices.new.kernel) (g.K.Kernel.objects c.add_devices.new.kernel) (g.K.Kernel.calls c.add_devices.new.kernel)
+          c.in-Ok.ensures.came c.settle.ensures.devices order c.add_devices.ensures.objects c.add_devices.ensures.calls left stop.0 stop.1 stop.2 (c.settle.ensures.kernel_cause left is) stop.3;
+    }
+
+pub returns : goal.returns
+returns g c =
+    let devices = g.K.Kernel.devices c.add_devices.new.kernel in
+    let test = contains (slice_cmp nat_cmp) c.in-Ok.present in
+    let interfaces = c.args.interfaces.now in
+    let objects : c.deref.result.now ≡ all_objects_of test interfaces = c.deref.ensures.value ∙ c.in-Ok-wanted_objects.ensures in
+    let same : set.from_list c.deref.result.now ≡ wanted interfaces devices = ap set.from_list objects ∙ wanted_by_test devices test interfaces c.in-Ok.ensures.present in
+    let order : AreCalls set.empty (wanted interfaces devices) c.deref-2.result.now = subst (AreCalls set.empty (wanted interfaces devices)) (sym c.deref-2.ensures.value) (subst (λ w. AreCalls set.empty w c.in-Ok-calls_from_nothing.calls.items) same c.in-Ok-calls_from_nothing.ensures) in
+    let before : Outside = record { out = g.O.Sink.held c.args.out.now; devices = g.K.Kernel.devices c.args.kernel.now; objects = g.K.Kernel.objects c.args.kernel.now; calls = g.K.Kernel.calls c.args.kernel.now; out_faults = g.O.Sink.faults c.args.out.now; kernel_faults = g.K.Kernel.faults c.args.kernel.now } in
+    let after : Outside = record { out = g.O.Sink.held c.settle.new.out; devices = g.K.Kernel.devices c.settle.new.kernel; objects = g.K.Kernel.objects c.settle.new.kernel; calls = g.K.Kernel.calls c.settle.new.kernel; out_faults = g.O.Sink.faults c.settle.new.out; kernel_faults = g.K.Kernel.faults c.settle.new.kernel } in
+    let is = c.in-Err-WriteFailed.is ∙ ap Err c.in-Err-WriteFailed.field-0-is in
+    let stop = c.settle.ensures.write_failed is in
+    record {
+      cause = stopped_at_line c.args.names.now interfaces before after devices c.deref-2.result.now (g.K.Kernel.faults c.add_devices.new.kernel) (g.K.Kernel.objects c.add_devices.new.kernel) (g.K.Kernel.calls c.add_devices.new.kernel)
+          c.in-Ok.ensures.came c.settle.ensures.devices order c.add_devices.ensures.objects c.add_devices.ensures.calls stop.0 c.settle.ensures.later.0 (c.settle.ensures.write_cause is) stop.1;
     }
