@@ -1,6 +1,7 @@
 -- How bringing up ends, from the devices that came and the calls that were made.
-use Rattle.std.proofs.Common.{arith, ℕ, ◌≡◌, ◌≤◌, ◌<◌, List, [], length, Option, ap, sym, subst, ◌∙◌, append-nil}
+use Rattle.std.proofs.Common.{arith, ℕ, ◌≡◌, ◌≤◌, ◌<◌, List, [], ◌++◌, length, Option, ap, sym, subst, ◌∙◌, append-nil}
 use Rattle.std.specs.FinSet as set
+use Rattle.std.proofs.lemmas.List.Elements.{Contains-append_left}
 use Rattle.plane_words.specs.Causes.{Rose}
 use Rattle.kern_model.specs.declared.object.Call.{Call}
 use Rattle.kern_model.specs.ObjectOrder.{Objects}
@@ -11,7 +12,8 @@ use Rattle.kern_model.proofs.RestLemmas.{rest_leads_on}
 use Rattle.plane_main.specs.declared.interface.Interface.{Interface}
 use Rattle.plane_main.specs.Wanted.{wanted}
 use Rattle.plane_main.specs.Settle.{Settled, SettledInPart}
-use Rattle.plane_main.specs.Bring.{Outside, Came, Finished, StoppedAtCall, StoppedAtLine}
+use Rattle.plane_main.specs.Bring.{Outside, Came, Finished, StoppedAtCall, StoppedAtLine, due_count}
+use Rattle.plane_main.proofs.CountLemmas.{count_due, made_is_wanted}
 
 module _ (names : List (List ℕ)) (interfaces : List Interface) (before after : Outside) (devices : Devices) (calls : List Call) (faults : ℕ) (objects : Objects) (log : Option (List Call))
     (came : Came names devices before.kernel_faults faults) (stay : after.devices ≡ devices) (order : AreCalls set.empty (wanted interfaces devices) calls) (bare : objects ≡ set.empty) (quiet : log ≡ before.calls) where
@@ -42,7 +44,9 @@ module _ (names : List (List ℕ)) (interfaces : List Interface) (before after :
   pub stopped_at_call : (left : ℕ) (rest : List Call) → length rest ≡ left → 0 < left → Rose faults after.kernel_faults → Settled calls rest objects after.objects log after.calls before.out after.out → StoppedAtCall left names interfaces before after
   stopped_at_call left rest count some rose s =
       let t = settled_after rest s in
-      let on = rest_leads_on (wanted interfaces after.devices) t.made rest (subst (AreCalls set.empty (wanted interfaces after.devices)) t.parts order_after) in
+      let parts : AreCalls set.empty (wanted interfaces after.devices) (t.made ++ rest) = subst (AreCalls set.empty (wanted interfaces after.devices)) t.parts order_after in
+      let on = rest_leads_on (wanted interfaces after.devices) t.made rest parts in
+      let within = made_is_wanted (wanted interfaces after.devices) t.made (λ c member. parts.sound c (Contains-append_left t.made rest c member)) in
       record {
         calls = calls;
         rest = rest;
@@ -52,6 +56,7 @@ module _ (names : List (List ℕ)) (interfaces : List Interface) (before after :
         settled = t;
         due = subst (λ o. AreCalls o (wanted interfaces after.devices) rest) (sym t.done.held) on;
         count = count;
+        objects = ap (λ o. due_count o (wanted interfaces after.devices)) t.done.held ∙ count_due (after_calls set.empty t.made) (wanted interfaces after.devices) rest within on ∙ count;
         some = some;
       }
 

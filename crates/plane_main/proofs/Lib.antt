@@ -8,3 +8,5 @@ pub mod SettleLemmas
 pub mod BringLemmas
 pub mod RunLemmas
 pub mod EndLemmas
+pub mod CountLemmas
+pub mod DueLemmas

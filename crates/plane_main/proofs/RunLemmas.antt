@@ -69,7 +69,7 @@ not_over input interfaces text read told over =
     let within = read.within in
     omega arith
 
-within_limit : (left : Option (List ℕ)) (text : List ℕ) → IsInput left text → HadMoreThan input_limit left → ⊥
+pub within_limit : (left : Option (List ℕ)) (text : List ℕ) → IsInput left text → HadMoreThan input_limit left → ⊥
 within_limit None text input more = cc input.told
 within_limit (Some l) text input more =
     let same : l ≡ text = cc input.told in

@@ -49,8 +49,12 @@ pub record Finished (names : List (List ℕ)) (interfaces : List Interface) (bef
   pub settled : Settled calls [] set.empty after.objects before.calls after.calls before.out after.out
   pub held : after.objects ≡ wanted interfaces after.devices
 
--- A call failed: the calls before it were made and their lines written. As many calls are left as told: those that put
--- what is wanted and not held.
+-- how many objects are in one of what is held and what is wanted, and not in the other
+abbrev pub due_count : Objects → Objects → ℕ
+due_count held wanted = set.len (set.difference held wanted) + set.len (set.difference wanted held)
+
+-- A call failed: the calls before it were made and their lines written. The number that is told is that of the calls
+-- that are left, which put what is wanted and not held, and that of the objects that are due.
 pub record StoppedAtCall (left : ℕ) (names : List (List ℕ)) (interfaces : List Interface) (before after : Outside) : Type 0 where
   pub calls : List Call
   pub rest : List Call
@@ -60,6 +64,7 @@ pub record StoppedAtCall (left : ℕ) (names : List (List ℕ)) (interfaces : Li
   pub settled : Settled calls rest set.empty after.objects before.calls after.calls before.out after.out
   pub due : AreCalls after.objects (wanted interfaces after.devices) rest
   pub count : length rest ≡ left
+  pub objects : due_count after.objects (wanted interfaces after.devices) ≡ left
   pub some : 0 < left
 
 -- a line was not written, or not wholly: the calls up to its own were made, and the lines before it written

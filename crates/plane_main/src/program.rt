@@ -1,8 +1,11 @@
-ghost use Rattle.std.specs.Prelude.{◌≡◌, ◌<◌, ◌∷◌, [], ℕ, List, length, map, string_bytes, Some, Contains};
+ghost use Rattle.std.specs.Prelude.{◌≡◌, ◌↔◌, ◌<◌, ◌∷◌, [], ℕ, List, length, map, string_bytes, Some, Contains};
 ghost use Rattle.std.specs.FinSet as set;
 ghost use Rattle.std.specs.FinMap as map;
 ghost use Rattle.plane_words.specs.Causes.{DidNotRise};
+ghost use Rattle.plane_main.specs.declared.interface.Interface.{Interface};
 ghost use Rattle.plane_main.specs.Words.{IsCommand};
+ghost use Rattle.plane_main.specs.Form.{IsNetwork};
+ghost use Rattle.plane_main.specs.Wanted.{wanted};
 ghost use Rattle.plane_main.specs.Start.{IsOfForm, IsInput, NoneRose, IsEither, input_limit};
 ghost use Rattle.plane_main.specs.Run.{Ended};
 
@@ -53,6 +56,13 @@ pub fn plane<S: Source, O: Sink, E: Sink, K: Kernel>(
     // rose.
     ensures built { NoneRose ((S.faults input.old, S.faults input.new) ∷ (O.faults out.old, O.faults out.new) ∷ (K.faults kernel.old, K.faults kernel.new) ∷ []) →
         (text : List ℕ) → IsInput (S.left input.old) text → IsCommand (map string_bytes words.now) → IsOfForm text → IsEither 0 8 result }
+
+    // Where they are, an input of the form ends the run with 6 exactly where objects are due then, and with 0 exactly where
+    // none are, unless it ends with 3, 4 or 8.
+    ensures due { (text : List ℕ) (interfaces : List Interface) → IsInput (S.left input.old) text → IsCommand (map string_bytes words.now) → IsNetwork text interfaces → (Contains (3 ∷ 4 ∷ 8 ∷ []) result → ⊥) →
+        (result ≡ 6) ↔ (K.objects kernel.new ≡ wanted interfaces (K.devices kernel.new) → ⊥) }
+    ensures nothing_due { (text : List ℕ) (interfaces : List Interface) → IsInput (S.left input.old) text → IsCommand (map string_bytes words.now) → IsNetwork text interfaces → (Contains (3 ∷ 4 ∷ 8 ∷ []) result → ⊥) →
+        (result ≡ 0) ↔ (K.objects kernel.new ≡ wanted interfaces (K.devices kernel.new)) }
 
     // Where the words are not in the table, nothing was read, nothing was written to the output, and the kernel was not
     // called, also with 8.

@@ -3,6 +3,8 @@ use Rattle.plane_main.specs.Start.{IsEither}
 use Rattle.plane_main.specs.Ending.{text_of}
 use Rattle.plane_main.specs.Bring.{Outside}
 use Rattle.plane_main.specs.Run.{Input}
+use Rattle.plane_main.specs.Wanted.{wanted}
+use Rattle.plane_main.proofs.DueLemmas.{IsDecided, decided, six_if_due, zero_if_none_due}
 use Rattle.plane_main.proofs.RunLemmas.{done_of_status, no_command, long_input, no_form, calm_end, calm_status, is_status, in_front, wholly}
 use Rattle.plane_main.proofs.program.plane.Goals as goal
 
@@ -60,3 +62,21 @@ returns-clause-calm_status g c calm =
     let before : Outside = record { out = g.O.Sink.held c.args.out.now; devices = g.K.Kernel.devices c.args.kernel.now; objects = g.K.Kernel.objects c.args.kernel.now; calls = g.K.Kernel.calls c.args.kernel.now; out_faults = g.O.Sink.faults c.args.out.now; kernel_faults = g.K.Kernel.faults c.args.kernel.now } in
     let after : Outside = record { out = g.O.Sink.held c.start-ending.new.out; devices = g.K.Kernel.devices c.start-ending.new.kernel; objects = g.K.Kernel.objects c.start-ending.new.kernel; calls = g.K.Kernel.calls c.start-ending.new.kernel; out_faults = g.O.Sink.faults c.start-ending.new.out; kernel_faults = g.K.Kernel.faults c.start-ending.new.kernel } in
     subst (Contains (0 ∷ 2 ∷ 8 ∷ 10 ∷ 11 ∷ [])) (sym c.status.ensures) (calm_status words input before after c.start-ending.result c.start-ending.ensures.cause calm.0 calm.1.0 calm.1.1.0)
+
+pub returns-clause-due : goal.returns-clause-due
+returns-clause-due g c text interfaces is command network free =
+    let words = map string_bytes c.args.words.now in
+    let input : Input = record { left = g.S.Source.left c.args.input.now; left_now = g.S.Source.left c.start-ending.new.input; faults = g.S.Source.faults c.args.input.now; faults_now = g.S.Source.faults c.start-ending.new.input } in
+    let before : Outside = record { out = g.O.Sink.held c.args.out.now; devices = g.K.Kernel.devices c.args.kernel.now; objects = g.K.Kernel.objects c.args.kernel.now; calls = g.K.Kernel.calls c.args.kernel.now; out_faults = g.O.Sink.faults c.args.out.now; kernel_faults = g.K.Kernel.faults c.args.kernel.now } in
+    let after : Outside = record { out = g.O.Sink.held c.start-ending.new.out; devices = g.K.Kernel.devices c.start-ending.new.kernel; objects = g.K.Kernel.objects c.start-ending.new.kernel; calls = g.K.Kernel.calls c.start-ending.new.kernel; out_faults = g.O.Sink.faults c.start-ending.new.out; kernel_faults = g.K.Kernel.faults c.start-ending.new.kernel } in
+    let decision = decided words input before after interfaces text command is network c.start-ending.result c.start-ending.ensures.cause (λ held. free (subst (Contains (3 ∷ 4 ∷ 8 ∷ [])) (sym c.status.ensures) held)) in
+    six_if_due after.objects (wanted interfaces after.devices) c.status.result (subst (IsDecided after.objects (wanted interfaces after.devices)) (sym c.status.ensures) decision)
+
+pub returns-clause-nothing_due : goal.returns-clause-nothing_due
+returns-clause-nothing_due g c text interfaces is command network free =
+    let words = map string_bytes c.args.words.now in
+    let input : Input = record { left = g.S.Source.left c.args.input.now; left_now = g.S.Source.left c.start-ending.new.input; faults = g.S.Source.faults c.args.input.now; faults_now = g.S.Source.faults c.start-ending.new.input } in
+    let before : Outside = record { out = g.O.Sink.held c.args.out.now; devices = g.K.Kernel.devices c.args.kernel.now; objects = g.K.Kernel.objects c.args.kernel.now; calls = g.K.Kernel.calls c.args.kernel.now; out_faults = g.O.Sink.faults c.args.out.now; kernel_faults = g.K.Kernel.faults c.args.kernel.now } in
+    let after : Outside = record { out = g.O.Sink.held c.start-ending.new.out; devices = g.K.Kernel.devices c.start-ending.new.kernel; objects = g.K.Kernel.objects c.start-ending.new.kernel; calls = g.K.Kernel.calls c.start-ending.new.kernel; out_faults = g.O.Sink.faults c.start-ending.new.out; kernel_faults = g.K.Kernel.faults c.start-ending.new.kernel } in
+    let decision = decided words input before after interfaces text command is network c.start-ending.result c.start-ending.ensures.cause (λ held. free (subst (Contains (3 ∷ 4 ∷ 8 ∷ [])) (sym c.status.ensures) held)) in
+    zero_if_none_due after.objects (wanted interfaces after.devices) c.status.result (subst (IsDecided after.objects (wanted interfaces after.devices)) (sym c.status.ensures) decision)
