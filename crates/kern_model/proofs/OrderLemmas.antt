@@ -1,13 +1,13 @@
 -- The orders of objects and of calls are total, and tell them apart.
-use Rattle.std.specs.Prelude.{ℕ, List, [], ◌∷◌, ◌++◌, ◌≡◌, length, Option, Some, None, refl}
-use Rattle.std.proofs.Common.{ap, ap₂, sym, ◌∙◌, take, drop}
+use Rattle.std.specs.Prelude.{ℕ, List, [], ◌∷◌, ◌++◌, ◌≡◌, ◌<◌, ◌≤◌, ◌⊎◌, length, Option, Some, None, refl}
+use Rattle.std.proofs.Common.{arith, inl, inr, ap, ap₂, sym, subst, ◌∙◌, take, drop}
 use Rattle.std.proofs.lemmas.List.{take_at, drop_at}
 use Rattle.std.proofs.lemmas.Cmp.{on_total, then_total}
 use Rattle.std.proofs.lemmas.Map.Lookups.{exact_bytes}
-use Rattle.std.specs.Ordering.{nat_cmp, ordering_then}
+use Rattle.std.specs.Ordering.{nat_cmp, ordering_then, MatchOrdering}
 use Rattle.std.specs.declared.cmp.Ordering.{Ordering}
 use Rattle.std.specs.declared.cmp.Ordering.TheVariants.{Less, Equal, Greater}
-use Rattle.std.specs.Cmp.{IsTotalOrder, nat_cmp_total}
+use Rattle.std.specs.Cmp.{IsTotalOrder, nat_cmp_total, ranks}
 use Rattle.std.specs.Cmp.Lexicographic.{slice_cmp, nat_list_cmp_total}
 use Rattle.std.specs.FinSet.{IsAntisymmetric}
 use Rattle.net_addr.specs.declared.address.Addr.{Addr}
@@ -140,3 +140,32 @@ calls_apart held wanted a b h =
     let below_rank : heights ≡ Equal = then_equal (nat_cmp (rank a) (rank b)) heights h in
     let below_height : lines ≡ Equal = then_equal (nat_cmp (height_place held wanted a) (height_place held wanted b)) lines below_rank in
     call_of_key a b (exact_bytes (call_key a) (call_key b) (then_equal (slice_cmp nat_cmp (line_of a) (line_of b)) keys below_height))
+
+-- what comes first in the order has no greater rank, and in one rank no greater place by height
+less_or_tied : (r s : Ordering) → ordering_then r s ≡ Less → (r ≡ Less) ⊎ ((r ≡ Equal) × (s ≡ Less))
+less_or_tied Less s h = inl refl
+less_or_tied Equal s h = inr (refl, h)
+less_or_tied Greater s h = cc h
+
+below_of_less : (x y : ℕ) → nat_cmp x y ≡ Less → x < y
+below_of_less x y h = subst (λ r. MatchOrdering r (x < y) (x ≡ y) (y < x)) h (ranks x y)
+
+tied_of_equal : (x y : ℕ) → nat_cmp x y ≡ Equal → x ≡ y
+tied_of_equal x y h = subst (λ r. MatchOrdering r (x < y) (x ≡ y) (y < x)) h (ranks x y)
+
+pub rank_rises : (held wanted : Objects) (a b : Call) → call_cmp held wanted a b ≡ Less → rank a ≤ rank b
+rank_rises held wanted a b h =
+    elim (less_or_tied (nat_cmp (rank a) (rank b)) _ h) as (λ _. rank a ≤ rank b) [
+      | inl less ↦ let below = below_of_less (rank a) (rank b) less in omega arith
+      | inr tied ↦ let same = tied_of_equal (rank a) (rank b) tied.0 in omega arith
+    ]
+
+pub place_rises : (held wanted : Objects) (a b : Call) → rank a ≡ rank b → call_cmp held wanted a b ≡ Less → height_place held wanted a ≤ height_place held wanted b
+place_rises held wanted a b level h =
+    elim (less_or_tied (nat_cmp (rank a) (rank b)) _ h) as (λ _. height_place held wanted a ≤ height_place held wanted b) [
+      | inl less ↦ let below = below_of_less (rank a) (rank b) less in absurd (omega arith)
+      | inr tied ↦ elim (less_or_tied (nat_cmp (height_place held wanted a) (height_place held wanted b)) _ tied.1) as (λ _. height_place held wanted a ≤ height_place held wanted b) [
+        | inl less ↦ let below = below_of_less (height_place held wanted a) (height_place held wanted b) less in omega arith
+        | inr same ↦ let level_place = tied_of_equal (height_place held wanted a) (height_place held wanted b) same.0 in omega arith
+      ]
+    ]

@@ -18,13 +18,17 @@ use Rattle.kern_model.specs.declared.object.Object.{Object}
 use Rattle.kern_model.specs.declared.object.Call.{Call}
 use Rattle.kern_model.specs.declared.object.Call.TheVariants.{Put, Take}
 use Rattle.kern_model.specs.declared.plan.Place.{Place}
-use Rattle.kern_model.specs.ObjectOrder.{Objects, object_cmp, call_key}
-use Rattle.kern_model.specs.Line.{IsPrintable, put_line}
+use Rattle.kern_model.specs.ObjectOrder.{Objects, set_of, call_key}
+use Rattle.kern_model.specs.Kernel.{Devices}
+use Rattle.kern_model.specs.Touched.{is_call}
+use Rattle.kern_model.specs.Line.{IsBroughtUp, put_line}
 use Rattle.kern_model.specs.Place.{place_of, place_cmp}
-use Rattle.kern_model.specs.CallOrder.{call_cmp, is_call, AreCalls, height_of, rank}
-use Rattle.kern_model.proofs.LineLemmas.{object_of_line}
+use Rattle.kern_model.specs.CallOrder.{call_cmp, AreCalls, height_of, rank}
+use Rattle.kern_model.proofs.LineLemmas.{printable_of, object_of_line}
 use Rattle.kern_model.proofs.MemberLemmas.{all_members, member_of_all, map_member, member_of_map, ComesFrom}
-use Rattle.kern_model.proofs.SetLemmas.{set_of_member, member_of_set}
+use Rattle.kern_model.proofs.SetLemmas.{set_of_member, member_of_set, none_in_empty}
+use Rattle.kern_model.proofs.TouchLemmas.{touched_wanted, put_wanted, put_of}
+use Rattle.kern_model.proofs.RestLemmas.{from_nothing_put}
 use Rattle.kern_model.proofs.HeightLemmas.{level}
 
 pub places_total : IsTotalOrder place_cmp
@@ -38,11 +42,11 @@ at_place p q h = places_apart p q ((Equal-is (place_cmp p q)).0 h)
 
 -- what a map has: the objects of a list, each at its place
 pub record Holds (at : Place → Option Object) (objects : List Object) : Type 0 where
-  pub sound : (q : Place) (o : Object) → at q ≡ Some o → (q ≡ place_of o) × IsPrintable o × Contains objects o
+  pub sound : (q : Place) (o : Object) → at q ≡ Some o → (q ≡ place_of o) × IsBroughtUp o × Contains objects o
   pub complete : (o : Object) → Contains objects o → at (place_of o) ≡ Some o
 
 -- after one more object was put at its place, the map has one more object
-pub holds_more : (old new : Place → Option Object) (objects : List Object) (place : Place) (o : Object) → place ≡ place_of o → IsPrintable o → ((q : Place) → new q ≡ cond (is_at (place_cmp place) q) (Some o) (old q)) → Holds old objects → Holds new (objects ++ o ∷ [])
+pub holds_more : (old new : Place → Option Object) (objects : List Object) (place : Place) (o : Object) → place ≡ place_of o → IsBroughtUp o → ((q : Place) → new q ≡ cond (is_at (place_cmp place) q) (Some o) (old q)) → Holds old objects → Holds new (objects ++ o ∷ [])
 holds_more old new objects place o is printable updates holds = record {
   sound = λ q x found. sound q x (is_at (place_cmp place) q) refl (sym (updates q) ∙ found);
   complete = λ x member. elim (Contains-push_cases objects o x member) as (λ _. new (place_of x) ≡ Some x) [
@@ -51,16 +55,16 @@ holds_more old new objects place o is printable updates holds = record {
   ];
 }
   where
-    sound : (q : Place) (x : Object) (b : Bool) → is_at (place_cmp place) q ≡ b → cond b (Some o) (old q) ≡ Some x → (q ≡ place_of x) × IsPrintable x × Contains (objects ++ o ∷ []) x
+    sound : (q : Place) (x : Object) (b : Bool) → is_at (place_cmp place) q ≡ b → cond b (Some o) (old q) ≡ Some x → (q ≡ place_of x) × IsBroughtUp x × Contains (objects ++ o ∷ []) x
     sound q x true tie found =
         let same : o ≡ x = cc found in
-        (sym (at_place place q tie) ∙ is ∙ ap place_of same, subst IsPrintable same printable, subst (Contains (objects ++ o ∷ [])) same (Contains-push objects o))
+        (sym (at_place place q tie) ∙ is ∙ ap place_of same, subst IsBroughtUp same printable, subst (Contains (objects ++ o ∷ [])) same (Contains-push objects o))
     sound q x false apart found = let before = holds.sound q x found in (before.0, before.1, Contains-append_left objects (o ∷ []) x before.2)
 
     kept : (x : Object) → Contains objects x → (b : Bool) → is_at (place_cmp place) (place_of x) ≡ b → cond b (Some o) (old (place_of x)) ≡ Some x
     kept x member true tie =
         let places : place_of o ≡ place_of x = sym is ∙ at_place place (place_of x) tie in
-        ap Some (object_of_line o x printable (holds.sound (place_of x) x (holds.complete x member)).1 (ap (λ p. p.line) places))
+        ap Some (object_of_line o x (printable_of o printable) (printable_of x (holds.sound (place_of x) x (holds.complete x member)).1) (ap (λ p. p.line) places))
     kept x member false apart = holds.complete x member
 
     here_itself : (x : Object) → o ≡ x → is_at (place_cmp place) (place_of x) ≡ true
@@ -93,39 +97,37 @@ unfolding IsStrictlySortedBy
 calls_sorted held wanted [] all sorted = tt
 calls_sorted held wanted (e ∷ es) all sorted = (first_below held wanted e es all.0 all.1 sorted.0, calls_sorted held wanted es all.1 sorted.1)
 
-not_in_nothing : (b : Bool) (o : Object) → b ≡ true → (b && not (set.contains (set.empty {R = object_cmp}) o)) ≡ true
-not_in_nothing b o h = ap (λ x. x && not (set.contains (set.empty {R = object_cmp}) o)) h ∙ ap not (set.contains-empty object_cmp o)
-
-wanted_of_call : (b c : Bool) → (b && c) ≡ true → b ≡ true
-wanted_of_call true c h = refl
-wanted_of_call false c h = h
-
-pub calls_of_plan : (objects : List Object) → AllByRecursion IsPrintable objects → (m : BTreeMap Place Object) → IsOrdered place_cmp m → Holds (get place_cmp m) objects → AreCalls set.empty (set.from_list objects) (map (λ e. Put e.1) m.entries)
-calls_of_plan objects printable m ordered holds = record {
+pub calls_of_plan : (devices : Devices) (objects : List Object) → AllByRecursion IsBroughtUp objects → (m : BTreeMap Place Object) → IsOrdered place_cmp m → Holds (get place_cmp m) objects → AreCalls devices set.empty (set_of objects) (map (λ e. Put e.1) m.entries)
+calls_of_plan devices objects up m ordered holds = record {
   sorted = calls_sorted set.empty wanted m.entries (all_members (IsEntry wanted) m.entries entry) ordered;
   sound = λ c member. sound_call c (member_of_map (λ e. Put e.1) m.entries c member);
   complete = complete_call;
 }
   where
     wanted : Objects
-    wanted = set.from_list objects
+    wanted = set_of objects
 
     iff : (k : Place) (v : Object) → (get place_cmp m k ≡ Some v) ↔ Contains m.entries (k, v)
     iff = btree_map_get_iff places_total places_apart m ordered
 
-    entry : (e : Place × Object) → Contains m.entries e → IsEntry (set.from_list objects) e
+    entry : (e : Place × Object) → Contains m.entries e → IsEntry (set_of objects) e
     entry e member =
         let found = holds.sound e.0 e.1 ((iff e.0 e.1).1 member) in
-        (found.0, level (set.from_list objects) (λ o inside. member_of_all IsPrintable objects o printable (member_of_set objects o inside)) e.1 found.1)
+        (found.0, level (set_of objects) (λ o inside. member_of_all IsBroughtUp objects o up (member_of_set objects o inside)) e.1 found.1)
 
-    sound_call : (c : Call) → ComesFrom (λ (e : Place × Object). Put e.1) m.entries c → is_call set.empty (set.from_list objects) c ≡ true
+    put_from_nothing : (o : Object) → Contains objects o → is_call devices set.empty (set_of objects) (Put o) ≡ true
+    put_from_nothing o member =
+        let is = set_of_member objects o member in
+        put_of set.empty (set_of objects) o is (touched_wanted set.empty (set_of objects) o is (none_in_empty o))
+
+    sound_call : (c : Call) → ComesFrom (λ (e : Place × Object). Put e.1) m.entries c → is_call devices set.empty (set_of objects) c ≡ true
     sound_call c from =
         let e = from.source in
         let found = holds.sound e.0 e.1 ((iff e.0 e.1).1 from.member) in
-        ap (is_call set.empty (set.from_list objects)) (sym from.same) ∙ not_in_nothing _ e.1 (set_of_member objects e.1 found.2)
+        ap (is_call devices set.empty (set_of objects)) (sym from.same) ∙ put_from_nothing e.1 found.2
 
-    complete_call : (c : Call) → is_call set.empty (set.from_list objects) c ≡ true → Contains (map (λ e. Put e.1) m.entries) c
+    complete_call : (c : Call) → is_call devices set.empty (set_of objects) c ≡ true → Contains (map (λ e. Put e.1) m.entries) c
     complete_call (Put o) h =
-        let member = member_of_set objects o (wanted_of_call _ _ h) in
+        let member = member_of_set objects o (put_wanted set.empty (set_of objects) o h) in
         map_member (λ (e : Place × Object). Put e.1) m.entries (place_of o, o) ((iff (place_of o) o).0 (holds.complete o member))
-    complete_call (Take o mtu mac) h = cc h
+    complete_call (Take o mtu mac) h = absurd (from_nothing_put devices (set_of objects) (Take o mtu mac) h)

@@ -1,19 +1,20 @@
--- Which calls put what is wanted and not held, and their order: by kind, then by height over other links,
--- then by the bytes of their lines, then by the objects.
-use Rattle.std.specs.Prelude.{ℕ, ◌≡◌, ◌+◌, ◌-◌, zero, suc, List, [], ◌∷◌, Bool, true, false, ◌&&◌, not, bytes_eq, cond, Option, Some, None, ⊤}
-use Rattle.std.specs.Option.{option_map_or}
+-- The order of the calls between what is held and what is wanted: by kind, then by height over other links, then by the
+-- bytes of their lines, then by the calls themselves.
+use Rattle.std.specs.Prelude.{ℕ, ◌+◌, ◌-◌, List, [], ◌∷◌, ⊤}
 use Rattle.std.specs.Ordering.{nat_cmp, ordering_then}
 use Rattle.std.specs.declared.cmp.Ordering.{Ordering}
 use Rattle.std.specs.Cmp.Lexicographic.{slice_cmp}
 use Rattle.std.specs.FinSet as set
 use Rattle.plane_words.specs.InOrder.{ListsInOrder}
-use Rattle.kern_model.specs.declared.object.LinkKind.TheVariants.{Vlan}
 use Rattle.kern_model.specs.declared.object.Object.{Object}
 use Rattle.kern_model.specs.declared.object.Object.TheVariants as object
 use Rattle.kern_model.specs.declared.object.Call.{Call}
 use Rattle.kern_model.specs.declared.object.Call.TheVariants.{Put, Take}
 use Rattle.kern_model.specs.ObjectOrder.{Objects, call_key}
-use Rattle.kern_model.specs.Kernel.{Devices, admits, after_call}
+use Rattle.kern_model.specs.Standing.{height}
+use Rattle.kern_model.specs.Kernel.{Devices, after_call}
+use Rattle.kern_model.specs.Admission.{Admits}
+use Rattle.kern_model.specs.Touched.{is_call}
 use Rattle.kern_model.specs.Line.{line_of}
 
 -- the kinds of objects, from what stands below to what stands above
@@ -31,21 +32,7 @@ abbrev pub rank : Call → ℕ
 rank (Take o mtu mac) = 6 - kind_rank o
 rank (Put o) = 7 + kind_rank o
 
--- the name under a VLAN
-abbrev pub lower_in : List Object → List ℕ → Option (List ℕ)
-lower_in [] name = None
-lower_in (object.Link other (Vlan lower id mac) ∷ os) name = cond (bytes_eq name other) (Some lower) (lower_in os name)
-lower_in (_ ∷ os) name = lower_in os name
-
--- the height of a VLAN is one more than that of the name under it, that of any other name is 0
-abbrev pub height_within : ℕ → List Object → List ℕ → ℕ
-height_within zero os name = 0
-height_within (suc steps) os name = option_map_or (λ lower. height_within steps os lower + 1) (lower_in os name) 0
-
-abbrev pub height : Objects → List ℕ → ℕ
-height objects name = height_within (set.len objects) (set.items objects) name
-
--- the name by whose height the calls of one kind are ordered
+-- the height of the name by which the calls of one kind are ordered: links are made and brought up from below
 abbrev pub height_of : Objects → Object → ℕ
 height_of objects (object.Link name kind) = height objects name
 height_of objects (object.Up name) = height objects name
@@ -63,14 +50,9 @@ call_cmp held wanted a b =
     (ordering_then (nat_cmp (height_place held wanted a) (height_place held wanted b))
     (ordering_then (slice_cmp nat_cmp (line_of a) (line_of b)) (slice_cmp nat_cmp (call_key a) (call_key b))))
 
--- the calls that put what is wanted and not held; nothing is taken yet
-abbrev pub is_call : Objects → Objects → Call → Bool
-is_call held wanted (Put o) = set.contains wanted o && not (set.contains held o)
-is_call held wanted (Take o mtu mac) = false
-
--- the calls that put what is wanted and not held, in their order
-abbrev pub AreCalls : Objects → Objects → List Call → Type 0
-AreCalls held wanted calls = ListsInOrder (call_cmp held wanted) (is_call held wanted) calls
+-- the calls that lead from what is held to what is wanted, in their order
+abbrev pub AreCalls : Devices → Objects → Objects → List Call → Type 0
+AreCalls devices held wanted calls = ListsInOrder (call_cmp held wanted) (is_call devices held wanted) calls
 
 -- the objects after calls
 abbrev pub after_calls : Objects → List Call → Objects
@@ -80,4 +62,4 @@ after_calls objects (call ∷ calls) = after_calls (after_call objects call) cal
 -- each call is admitted in its turn
 abbrev pub AreAdmitted : Devices → Objects → List Call → Type 0
 AreAdmitted devices objects [] = ⊤
-AreAdmitted devices objects (call ∷ calls) = (admits devices objects call ≡ true) × AreAdmitted devices (after_call objects call) calls
+AreAdmitted devices objects (call ∷ calls) = Admits devices objects call × AreAdmitted devices (after_call objects call) calls

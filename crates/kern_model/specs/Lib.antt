@@ -2,9 +2,13 @@
 pub mod Name
 pub mod NameInside
 pub mod ObjectOrder
+pub mod Standing
 pub mod Kernel
+pub mod Admission
+pub mod Allowed
+pub mod Touched
+pub mod Tests
 pub mod Line
 pub mod CallOrder
 pub mod Place
-pub mod Support
 pub mod MemKernel

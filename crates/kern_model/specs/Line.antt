@@ -1,33 +1,116 @@
--- The lines of calls, as `ip -batch` of iproute2 takes them (ip-link(8), ip-address(8)). A name with `#`, `\` or a
--- quote in it is printed as it is, though `ip -batch` reads these bytes in a way of its own.
-use Rattle.std.specs.Prelude.{◌≡◌, List, [], ◌++◌, codes, ℕ, true, ⊤}
-use Rattle.net_addr.specs.Printed.{cidr_text}
+-- The lines of calls, as `ip -batch` of iproute2 takes them (ip-link(8), ip-address(8), ip-route(8)). A name with `#`,
+-- `\` or a quote in it is printed as it is, though `ip -batch` reads these bytes in a way of its own.
+use Rattle.std.specs.Prelude.{◌≡◌, ◌<◌, ◌^◌, ◌/◌, ◌%◌, ◌==◌, if◌then◌else◌, List, [], ◌∷◌, ◌++◌, codes, decimal, ℕ, true, ⊤, Option, Some, None}
+use Rattle.std.specs.List.{join_by}
+use Rattle.std.specs.Char.{digit_char}
+use Rattle.net_addr.specs.declared.address.Addr.{Addr}
+use Rattle.net_addr.specs.Octets.{AreOctets, IsAddr}
+use Rattle.net_addr.specs.Printed.{addr_text, cidr_text}
 use Rattle.net_addr.specs.Width.{IsCidr}
 use Rattle.kern_model.specs.Name.{is_name}
+use Rattle.kern_model.specs.declared.object.Mac.{Mac}
+use Rattle.kern_model.specs.declared.object.LinkKind.TheVariants.{Bridge, Vlan}
+use Rattle.kern_model.specs.declared.object.RouteObject.{RouteObject}
 use Rattle.kern_model.specs.declared.object.Object.{Object}
 use Rattle.kern_model.specs.declared.object.Object.TheVariants as object
 use Rattle.kern_model.specs.declared.object.Call.{Call}
 use Rattle.kern_model.specs.declared.object.Call.TheVariants.{Put, Take}
 
+-- a byte as two lower-case hexadecimal digits
+abbrev pub hex_pair : ℕ → List ℕ
+hex_pair b = digit_char (b / 16) ∷ digit_char (b % 16) ∷ []
+
+-- bytes as such pairs, with `:` between
+abbrev pub pairs_text : List ℕ → List ℕ
+pairs_text bytes = join_by hex_pair (codes ":") bytes
+
+abbrev pub mac_text : Mac → List ℕ
+mac_text mac = pairs_text mac.0
+
+-- parts of lines that may be absent: the hardware address of a link's own, a gateway, and a number that is not the usual
+-- one, behind its word
+abbrev pub own_address : Option Mac → List ℕ
+own_address None = []
+own_address (Some mac) = codes " address " ++ mac_text mac
+
+abbrev pub gateway : Option Addr → List ℕ
+gateway None = []
+gateway (Some via) = codes " via " ++ addr_text via
+
+abbrev pub unusual : List ℕ → ℕ → ℕ → List ℕ
+unusual word usual number = if number == usual then [] else word ++ decimal number
+
+-- a route behind the words that add or delete it; table 254 is the main one
+abbrev pub route_line : List ℕ → RouteObject → List ℕ
+route_line words r = words ++ cidr_text r.target ++ gateway r.via ++ codes " dev " ++ r.dev ++ unusual (codes " metric ") 0 r.metric ++ unusual (codes " table ") 254 r.table
+
 -- the line that puts an object
 abbrev pub put_line : Object → List ℕ
+put_line (object.Link name (Bridge mac)) = codes "link add name " ++ name ++ own_address mac ++ codes " type bridge"
+put_line (object.Link name (Vlan lower id mac)) = codes "link add link " ++ lower ++ codes " name " ++ name ++ own_address mac ++ codes " type vlan id " ++ decimal id
+put_line (object.Mtu name mtu) = codes "link set dev " ++ name ++ codes " mtu " ++ decimal mtu
+put_line (object.Mac name mac) = codes "link set dev " ++ name ++ codes " address " ++ mac_text mac
+put_line (object.Master port bridge) = codes "link set dev " ++ port ++ codes " master " ++ bridge
 put_line (object.Up name) = codes "link set dev " ++ name ++ codes " up"
 put_line (object.Address dev cidr) = codes "addr add " ++ cidr_text cidr ++ codes " dev " ++ dev
-put_line _ = []
+put_line (object.Route r) = route_line (codes "route add ") r
+
+-- the line that takes an object, after which a device has this MTU and this hardware address of its own again
+abbrev pub take_line : Object → ℕ → Mac → List ℕ
+take_line (object.Link name kind) own_mtu own_mac = codes "link del dev " ++ name
+take_line (object.Mtu name mtu) own_mtu own_mac = codes "link set dev " ++ name ++ codes " mtu " ++ decimal own_mtu
+take_line (object.Mac name mac) own_mtu own_mac = codes "link set dev " ++ name ++ codes " address " ++ mac_text own_mac
+take_line (object.Master port bridge) own_mtu own_mac = codes "link set dev " ++ port ++ codes " nomaster"
+take_line (object.Up name) own_mtu own_mac = codes "link set dev " ++ name ++ codes " down"
+take_line (object.Address dev cidr) own_mtu own_mac = codes "addr del " ++ cidr_text cidr ++ codes " dev " ++ dev
+take_line (object.Route r) own_mtu own_mac = route_line (codes "route del ") r
 
 -- the line of a call, without its newline
 abbrev pub line_of : Call → List ℕ
 line_of (Put o) = put_line o
-line_of (Take o mtu mac) = []
+line_of (Take o mtu mac) = take_line o mtu mac
 
--- the calls that have a line so far
-abbrev pub HasLine : Call → Type 0
-HasLine (Put (object.Up name)) = ⊤
-HasLine (Put (object.Address dev cidr)) = ⊤
-HasLine _ = ⊥
+-- six bytes
+abbrev pub IsMac : Mac → Type 0
+IsMac mac = AreOctets 6 mac.0
 
--- an object to put that has a line, and whose name and address are of their form
+abbrev pub IsOwnAddress : Option Mac → Type 0
+IsOwnAddress None = ⊤
+IsOwnAddress (Some mac) = IsMac mac
+
+abbrev pub IsGateway : Option Addr → Type 0
+IsGateway None = ⊤
+IsGateway (Some via) = IsAddr via
+
+pub record IsRoute (r : RouteObject) : Type 0 where
+  pub target : IsCidr r.target
+  pub via : IsGateway r.via
+  pub named : is_name r.dev ≡ true
+  pub metric : r.metric < 2 ^ 32
+  pub table : r.table < 2 ^ 32
+
+-- the names, addresses and numbers of an object are of their form, as those of the program are
 abbrev pub IsPrintable : Object → Type 0
+IsPrintable (object.Link name (Bridge mac)) = (is_name name ≡ true) × IsOwnAddress mac
+IsPrintable (object.Link name (Vlan lower id mac)) = (is_name name ≡ true) × (is_name lower ≡ true) × (id < 2 ^ 16) × IsOwnAddress mac
+IsPrintable (object.Mtu name mtu) = (is_name name ≡ true) × (mtu < 2 ^ 32)
+IsPrintable (object.Mac name mac) = (is_name name ≡ true) × IsMac mac
+IsPrintable (object.Master port bridge) = (is_name port ≡ true) × (is_name bridge ≡ true)
 IsPrintable (object.Up name) = is_name name ≡ true
 IsPrintable (object.Address dev cidr) = (is_name dev ≡ true) × IsCidr cidr
-IsPrintable _ = ⊥
+IsPrintable (object.Route r) = IsRoute r
+
+-- of one kind, of which the line that takes one tells its name alone: a link, an MTU, a hardware address or a master; and
+-- of one name, which is that of the port for a master
+abbrev pub HaveOneName : Object → Object → Type 0
+HaveOneName (object.Link name kind) (object.Link other other_kind) = name ≡ other
+HaveOneName (object.Mtu name mtu) (object.Mtu other other_mtu) = name ≡ other
+HaveOneName (object.Mac name mac) (object.Mac other other_mac) = name ≡ other
+HaveOneName (object.Master port bridge) (object.Master other other_bridge) = port ≡ other
+HaveOneName _ _ = ⊥
+
+-- a name to bring up, or an address to add, of its form: the objects that are put so far
+abbrev pub IsBroughtUp : Object → Type 0
+IsBroughtUp (object.Up name) = IsPrintable (object.Up name)
+IsBroughtUp (object.Address dev cidr) = IsPrintable (object.Address dev cidr)
+IsBroughtUp _ = ⊥

@@ -1,5 +1,5 @@
 -- An order of objects and of calls that tells all of them apart, so that sets of them can be written as values.
-use Rattle.std.specs.Prelude.{ℕ, List, [], ◌∷◌, ◌++◌, length, Option, Some, None}
+use Rattle.std.specs.Prelude.{ℕ, ◌≡◌, List, [], ◌∷◌, ◌++◌, length, Option, Some, None, true}
 use Rattle.std.specs.Ordering.{nat_cmp}
 use Rattle.std.specs.declared.cmp.Ordering.{Ordering}
 use Rattle.std.specs.Cmp.Lexicographic.{slice_cmp}
@@ -59,3 +59,11 @@ object_cmp a b = slice_cmp nat_cmp (object_key a) (object_key b)
 -- a finite set of objects
 abbrev pub Objects : Type 0
 Objects = set.FinSet object_cmp
+
+-- a set has an object
+abbrev pub Has : Objects → Object → Type 0
+Has objects o = set.contains objects o ≡ true
+
+-- the set of the objects of a list
+abbrev pub set_of : List Object → Objects
+set_of objects = set.from_list objects

@@ -1,18 +1,29 @@
 //! The kernel as a model: devices, objects, the calls that change them, their order and their lines.
 #![tactic(auto)]
 
+mod admission;
+mod held;
 mod kernel;
+#[cfg(test)]
+mod kernel_tests;
 mod laws;
 mod mem_kernel;
 mod name;
 mod object;
 mod plan;
+mod present;
 mod print;
+#[cfg(test)]
+mod print_tests;
 #[cfg(test)]
 mod tests;
 
 pub use kernel::Kernel;
-pub use laws::{calls_lead_from_nothing, distinct_lines, one_list_of_calls};
+pub use laws::{
+    admitted_calls_keep_allowed, calls_go_on_from_nothing, calls_lead_on, distinct_lines,
+    events_keep_allowed, nothing_is_allowed, one_list_of_calls, over_is_by_vlans,
+    vlans_are_one_higher,
+};
 pub use mem_kernel::MemKernel;
 pub use name::{DevName, read_name};
 pub use object::{Call, DevEvent, Device, LinkKind, Mac, Object, RouteObject};

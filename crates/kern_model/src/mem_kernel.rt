@@ -1,11 +1,15 @@
-ghost use Rattle.std.specs.Prelude.{◌≡◌, ◌≤◌, ◌<◌, ◌+◌, ◌⊎◌, [], Some, None, true, OnOk, OnErr, IfOk, Contains, unwrap_or, vec_len, vec_capacity, ◌++◌, ◌∷◌, if◌then◌else◌};
-ghost use Rattle.kern_model.specs.MemKernel.{objects_of, devices_of};
+ghost use Rattle.std.specs.Prelude.{◌≡◌, ◌≤◌, ◌<◌, ◌+◌, ◌⊎◌, ◌↔◌, [], Some, None, true, IsTrue, OnOk, OnErr, IfOk, Contains, unwrap_or, vec_len, vec_capacity, ◌++◌, ◌∷◌, if◌then◌else◌};
 ghost use Rattle.plane_words.specs.Causes.{HasCause, next_count};
-ghost use Rattle.kern_model.specs.Kernel.{admits, object_of, after_call, may_happen, after_event, Logs};
+ghost use Rattle.kern_model.specs.Kernel.{after_call, MayHappen, after_event, objects_after_event, Logs};
+ghost use Rattle.kern_model.specs.Admission.{Admits};
+ghost use Rattle.kern_model.specs.MemKernel.{objects_of, devices_of, objects_after, needs_room};
 
+use crate::admission::{is_admitted, may_happen};
+use crate::held::{change, make_room, remove_standing_on};
 use crate::kernel::Kernel;
 use crate::name::DevName;
 use crate::object::{Call, DevEvent, Device, LinkKind, Object};
+use crate::present::{remove_device, set_carrier};
 use plane_io::{Failed, Memory};
 use std::alloc::{AllocError, Global};
 use std::marker::Model;
@@ -31,11 +35,11 @@ impl Model for MemKernel {
 
     ghost Value = { KernelInMemory };
 
-    ghost use Rattle.std.specs.Prelude.{reverse, vec_capacity, vec_len, ◌-◌, if◌then◌else◌, Some, None};
+    ghost use Rattle.std.specs.Prelude.{vec_capacity, vec_len, ◌-◌, if◌then◌else◌, Some, None};
 
     ghost view = { λ kernel. record {
       objects = kernel.objects.items;
-      devices = reverse kernel.devices.items;
+      devices = kernel.devices.items;
       calls = if kernel.logs then Some kernel.calls.items else None;
       failing_apply = kernel.failing_apply.items;
       failing_environment = kernel.failing_environment.items;
@@ -134,6 +138,20 @@ impl MemKernel {
         }
     }
 
+    /// Whether the kernel admits the call.
+    pub fn admits(&self, call: &Call) -> bool
+        ensures { IsTrue result ↔ Admits (devices_of self.now) (objects_of self.now) call.now }
+    {
+        is_admitted(&self.devices, &self.objects, call)
+    }
+
+    /// Whether the event may happen: a device that comes under a name that does not exist, or one that is present.
+    pub fn may_happen(&self, event: &DevEvent) -> bool
+        ensures { IsTrue result ↔ MayHappen (devices_of self.now) (objects_of self.now) event.now }
+    {
+        may_happen(&self.devices, &self.objects, event)
+    }
+
     /// How many growths were refused for want of memory.
     pub fn refused(&self) -> u64
         ensures { result ≡ self.now.refused }
@@ -155,17 +173,7 @@ fn reserve_call(calls: &mut Vec<Call>, logs: bool) -> Result<(), AllocError>
     calls.reserve(1)
 }
 
-// Adds what the call puts. A push is proved only where a local names the enums within.
-fn hold(objects: &mut Vec<Object>, call: &Call)
-    requires { vec_len objects.old < vec_capacity objects.old }
-    ensures items { objects.new.items ≡ objects.old.items ++ object_of call.now ∷ [] }
-    ensures room { (vec_len objects.new ≡ vec_len objects.old + 1) × (vec_capacity objects.new ≡ vec_capacity objects.old) }
-{
-    let _named: Option<LinkKind> = None;
-    objects.push_reserved(call.object());
-}
-
-// Adds the call where calls are kept. See `hold`.
+// Adds the call where calls are kept. A push is proved only where a local names the enums within.
 fn log(calls: &mut Vec<Call>, logs: bool, call: &Call)
     requires { logs ≡ true → vec_len calls.old < vec_capacity calls.old }
     ensures items { calls.new.items ≡ (if logs then calls.old.items ++ call.now ∷ [] else calls.old.items) }
@@ -187,7 +195,7 @@ impl Kernel for MemKernel {
     ghost faults = { λ kernel. kernel.faults };
 
     fn apply(&mut self, call: &Call) -> Result<(), Failed>
-        requires { admits (devices_of self.old) (objects_of self.old) call.now ≡ true }
+        requires { Admits (devices_of self.old) (objects_of self.old) call.now }
         ensures did { OnOk result (objects_of self.new ≡ after_call (objects_of self.old) call.now) }
         ensures logged { OnOk result (Logs self.old.calls self.new.calls call.now) }
         ensures err { OnErr result ((objects_of self.new ≡ objects_of self.old) × (self.new.calls ≡ self.old.calls)) }
@@ -196,7 +204,7 @@ impl Kernel for MemKernel {
 
         // What is put stands behind the others, once. A call fails exactly where its number is in the list or a growth
         // was refused.
-        ensures pushed { OnOk result (self.new.objects ≡ self.old.objects ++ object_of call.now ∷ []) }
+        ensures changed { OnOk result (self.new.objects ≡ objects_after self.old.objects call.now) }
         ensures number { (self.new.applied ≡ next_count self.old.applied) × (self.new.happened ≡ self.old.happened) }
         ensures lists { (self.new.failing_apply ≡ self.old.failing_apply) × (self.new.failing_environment ≡ self.old.failing_environment) }
         ensures listed { Contains self.old.failing_apply self.new.applied → self.new.refused ≡ self.old.refused }
@@ -206,8 +214,8 @@ impl Kernel for MemKernel {
         ensures faultless { OnOk result (self.new.faults ≡ self.old.faults) }
         ensures later { self.old.refused ≤ self.new.refused }
 
-        // Within its room no growth is refused, and a call takes room for one.
-        ensures within { 0 < self.old.room.objects → 0 < self.old.room.calls → self.new.refused ≡ self.old.refused }
+        // Within its room no growth is refused. A call takes room for one, but for an object only where the list grows.
+        ensures within { (needs_room self.old.objects call.now ≡ true → 0 < self.old.room.objects) → 0 < self.old.room.calls → self.new.refused ≡ self.old.refused }
         ensures room { (self.old.room.objects ≤ self.new.room.objects + 1) × (self.old.room.calls ≤ self.new.room.calls + 1) }
         ensures device_room { self.new.room.devices ≡ self.old.room.devices }
     {
@@ -216,7 +224,7 @@ impl Kernel for MemKernel {
             self.faults = self.faults.saturating_add(1);
             return Err(Failed);
         }
-        if self.objects.reserve(1).is_err() {
+        if make_room(&mut self.objects, call).is_err() {
             self.refused = self.refused.saturating_add(1);
             self.faults = self.faults.saturating_add(1);
             return Err(Failed);
@@ -226,16 +234,16 @@ impl Kernel for MemKernel {
             self.faults = self.faults.saturating_add(1);
             return Err(Failed);
         }
-        hold(&mut self.objects, call);
+        change(&mut self.objects, call);
         log(&mut self.calls, self.logs, call);
         Ok(())
     }
 
     fn environment(&mut self, event: &DevEvent) -> Result<(), Failed>
-        requires { may_happen (devices_of self.old) (objects_of self.old) event.now ≡ true }
+        requires { MayHappen (devices_of self.old) (objects_of self.old) event.now }
         ensures did { OnOk result (devices_of self.new ≡ after_event (devices_of self.old) event.now) }
-        ensures err { OnErr result (devices_of self.new ≡ devices_of self.old) }
-        ensures objects { objects_of self.new ≡ objects_of self.old }
+        ensures stayed { OnOk result (objects_of self.new ≡ objects_after_event (objects_of self.old) event.now) }
+        ensures err { OnErr result ((devices_of self.new ≡ devices_of self.old) × (objects_of self.new ≡ objects_of self.old)) }
         ensures calls { self.new.calls ≡ self.old.calls }
         ensures cause { HasCause self.old.faults self.new.faults result }
 
@@ -252,29 +260,34 @@ impl Kernel for MemKernel {
         // Within its room no growth is refused, and an event takes room for one.
         ensures within { 0 < self.old.room.devices → self.new.refused ≡ self.old.refused }
         ensures room { self.old.room.devices ≤ self.new.room.devices + 1 }
-        ensures other_room { (self.new.room.objects ≡ self.old.room.objects) × (self.new.room.calls ≡ self.old.room.calls) }
+        ensures other_room { (self.old.room.objects ≤ self.new.room.objects) × (self.new.room.calls ≡ self.old.room.calls) }
     {
         self.happened = self.happened.saturating_add(1);
         if self.failing_environment.contains(&self.happened) {
             self.faults = self.faults.saturating_add(1);
             return Err(Failed);
         }
-        if self.devices.reserve(1).is_err() {
-            self.refused = self.refused.saturating_add(1);
-            self.faults = self.faults.saturating_add(1);
-            return Err(Failed);
+        match *event {
+            DevEvent::Add {
+                name,
+                carrier,
+                mtu,
+                mac,
+            } => {
+                if self.devices.reserve(1).is_err() {
+                    self.refused = self.refused.saturating_add(1);
+                    self.faults = self.faults.saturating_add(1);
+                    return Err(Failed);
+                }
+                self.devices
+                    .push_reserved((name, Device { carrier, mtu, mac }));
+            }
+            DevEvent::Remove { name } => {
+                remove_device(&mut self.devices, &name);
+                remove_standing_on(&mut self.objects, &name);
+            }
+            DevEvent::Carrier { name, on } => set_carrier(&mut self.devices, &name, on),
         }
-        let DevEvent::Add {
-            name,
-            carrier,
-            mtu,
-            mac,
-        } = *event
-        else {
-            unreachable!()
-        };
-        self.devices
-            .push_reserved((name, Device { carrier, mtu, mac }));
         Ok(())
     }
 }

@@ -1,5 +1,8 @@
 ghost use Rattle.std.specs.Prelude.{◌≡◌, ◌↔◌, IsTrue};
-ghost use Rattle.kern_model.specs.Kernel.{object_of};
+ghost use Rattle.std.specs.Ordering.{eq_by_cmp};
+ghost use Rattle.kern_model.specs.ObjectOrder.{object_cmp};
+ghost use Rattle.kern_model.specs.Kernel.{object_of, name_of, replaces};
+ghost use Rattle.kern_model.specs.Tests.{is_link_of, is_bridge_of, is_vlan_with, is_vlan_over, is_master_of, is_at};
 
 use crate::name::DevName;
 use net_addr::{Addr, Cidr};
@@ -65,6 +68,122 @@ impl Object {
         ensures { IsTrue result ↔ (self.now ≡ other.now) }
     {
         self == other
+    }
+
+    // As `same`, in the words of the order of objects.
+    pub(crate) fn is(&self, other: &Object) -> bool
+        ensures { result ≡ eq_by_cmp object_cmp self.now other.now }
+    {
+        self.same(other)
+    }
+
+    /// The name whose own values come back when the object is taken; of a master, its port.
+    pub fn name(&self) -> DevName
+        ensures { result ≡ name_of self.now }
+    {
+        match self {
+            Object::Link { name, .. } => *name,
+            Object::Mtu { name, .. } => *name,
+            Object::Mac { name, .. } => *name,
+            Object::Master { port, .. } => *port,
+            Object::Up { name } => *name,
+            Object::Address { dev, .. } => *dev,
+            Object::Route(route) => route.dev,
+        }
+    }
+
+    /// Whether this object takes the place of the other: an MTU or a hardware address that of the one of its name.
+    pub fn replaces(&self, old: &Object) -> bool
+        ensures { result ≡ replaces self.now old.now }
+    {
+        match (self, old) {
+            (Object::Mtu { name, .. }, Object::Mtu { name: other, .. }) => {
+                name.text() == other.text()
+            }
+            (Object::Mac { name, .. }, Object::Mac { name: other, .. }) => {
+                name.text() == other.text()
+            }
+            _ => false,
+        }
+    }
+
+    pub(crate) fn is_link_of(&self, name: &DevName) -> bool
+        ensures { result ≡ is_link_of name.now self.now }
+    {
+        match self {
+            Object::Link { name: other, .. } => other.text() == name.text(),
+            _ => false,
+        }
+    }
+
+    pub(crate) fn is_bridge_of(&self, name: &DevName) -> bool
+        ensures { result ≡ is_bridge_of name.now self.now }
+    {
+        match self {
+            Object::Link {
+                name: other,
+                kind: LinkKind::Bridge { .. },
+            } => other.text() == name.text(),
+            _ => false,
+        }
+    }
+
+    pub(crate) fn is_vlan_with(&self, lower: &DevName, id: u16) -> bool
+        ensures { result ≡ is_vlan_with lower.now id self.now }
+    {
+        match self {
+            Object::Link {
+                kind: LinkKind::Vlan {
+                    lower: other,
+                    id: other_id,
+                    ..
+                },
+                ..
+            } => other.text() == lower.text() && *other_id == id,
+            _ => false,
+        }
+    }
+
+    pub(crate) fn is_vlan_over(&self, lower: &DevName) -> bool
+        ensures { result ≡ is_vlan_over lower.now self.now }
+    {
+        match self {
+            Object::Link {
+                kind: LinkKind::Vlan { lower: other, .. },
+                ..
+            } => other.text() == lower.text(),
+            _ => false,
+        }
+    }
+
+    pub(crate) fn is_master_of(&self, port: &DevName) -> bool
+        ensures { result ≡ is_master_of port.now self.now }
+    {
+        match self {
+            Object::Master { port: other, .. } => other.text() == port.text(),
+            _ => false,
+        }
+    }
+
+    // Whether the object is at that name: a VLAN at the name under it, a master at its port and at its bridge.
+    pub(crate) fn is_at(&self, name: &DevName) -> bool
+        ensures { result ≡ is_at name.now self.now }
+    {
+        match self {
+            Object::Link {
+                kind: LinkKind::Vlan { lower, .. },
+                ..
+            } => lower.text() == name.text(),
+            Object::Link { .. } => false,
+            Object::Mtu { name: other, .. } => other.text() == name.text(),
+            Object::Mac { name: other, .. } => other.text() == name.text(),
+            Object::Master { port, bridge } => {
+                port.text() == name.text() || bridge.text() == name.text()
+            }
+            Object::Up { name: other } => other.text() == name.text(),
+            Object::Address { dev, .. } => dev.text() == name.text(),
+            Object::Route(route) => route.dev.text() == name.text(),
+        }
     }
 }
 

@@ -1,7 +1,9 @@
 ghost use Rattle.std.specs.Prelude.{◌≡◌, IfOk};
 ghost use Rattle.std.specs.List.{AllByRecursion};
 ghost use Rattle.std.specs.FinSet as set;
-ghost use Rattle.kern_model.specs.Line.{put_line, IsPrintable};
+ghost use Rattle.kern_model.specs.Line.{put_line, IsBroughtUp};
+ghost use Rattle.kern_model.specs.ObjectOrder.{set_of};
+ghost use Rattle.kern_model.specs.Kernel.{Devices};
 ghost use Rattle.kern_model.specs.CallOrder.{AreCalls};
 ghost use Rattle.kern_model.specs.Place.{place_of};
 
@@ -20,8 +22,8 @@ pub(crate) struct Place {
 
 /// The calls from nothing to the set of these objects, in their order.
 pub fn calls_from_nothing(alloc: Global, objects: &[Object]) -> Result<Vec<Call>, Memory>
-    requires { AllByRecursion IsPrintable objects.now }
-    ensures { IfOk result (λ calls. AreCalls set.empty (set.from_list objects.now) calls.items) }
+    requires { AllByRecursion IsBroughtUp objects.now }
+    ensures { IfOk result (λ calls. (devices : Devices) → AreCalls devices set.empty (set_of objects.now) calls.items) }
 {
     // A push of objects is proved only where a local names the enums within.
     let _named: Option<LinkKind> = None;
@@ -38,7 +40,7 @@ pub fn calls_from_nothing(alloc: Global, objects: &[Object]) -> Result<Vec<Call>
 }
 
 fn find_place(alloc: Global, object: &Object) -> Result<Place, Memory>
-    requires { IsPrintable object.now }
+    requires { IsBroughtUp object.now }
     ensures { IfOk result (λ place. place ≡ place_of object.now) }
 {
     let rank = match object {

@@ -1,44 +1,259 @@
-ghost use Rattle.std.specs.Prelude.{◌≡◌, ◌≤◌, take};
-ghost use Rattle.kern_model.specs.Line.{line_of, HasLine};
-ghost use Rattle.kern_model.specs.declared.object.Object.TheVariants.{Up, Address};
-ghost use Rattle.kern_model.specs.declared.object.Call.TheVariants.{Put};
+ghost use Rattle.std.specs.Prelude.{◌≡◌, ◌≤◌, ◌<◌, ◌+◌, ◌*◌, ◌++◌, take, length, codes, decimal};
+ghost use Rattle.std.specs.Char.{digit_char};
+ghost use Rattle.net_addr.specs.Printed.{cidr_text};
+ghost use Rattle.kern_model.specs.Line.{line_of, put_line, take_line, route_line, hex_pair, pairs_text, own_address, gateway, unusual};
+ghost use Rattle.kern_model.specs.declared.object.LinkKind.TheVariants.{Bridge, Vlan};
+ghost use Rattle.kern_model.specs.declared.object.Object.TheVariants as object;
 
 use crate::name::DevName;
-use crate::object::{Call, Object};
-use net_addr::{Cidr, print_cidr};
+use crate::object::{Call, LinkKind, Mac, Object, RouteObject};
+use itoa::Buffer;
+use net_addr::{Addr, Cidr, print_addr, print_cidr};
 use plane_io::append_text;
+
+/// The table of the routes that name none.
+const MAIN_TABLE: u32 = 254;
 
 /// Prints the line of a call, as `ip -batch` takes it, without its newline, and returns how many bytes that is. Bytes of
 /// a name that `ip -batch` reads in a way of its own (`#`, `\` and quotes) are printed as they are.
 pub fn print_call(call: &Call, into: &mut [u8; 256]) -> usize
-    requires { HasLine call.now }
     ensures written { take result into.new ≡ line_of call.now }
     ensures fits { result ≤ 255 }
 {
     match call {
-        Call::Put(Object::Up { name }) => print_up(*name, into),
-        Call::Put(Object::Address { dev, cidr }) => print_address(*dev, *cidr, into),
-        _ => unreachable!(),
+        Call::Put(object) => print_put(object, into),
+        Call::Take { object, mtu, mac } => print_take(object, *mtu, *mac, into),
     }
 }
 
-fn print_up(name: DevName, into: &mut [u8; 256]) -> usize
-    ensures written { take result into.new ≡ line_of (Put (Up name)) }
+fn print_put(object: &Object, into: &mut [u8; 256]) -> usize
+    ensures written { take result into.new ≡ put_line object.now }
     ensures fits { result ≤ 255 }
+{
+    match object {
+        Object::Link { name, kind } => print_link(*name, kind, into),
+        Object::Mtu { name, mtu } => print_mtu(*name, *mtu, into),
+        Object::Mac { name, mac } => print_mac(*name, *mac, into),
+        Object::Master { port, bridge } => print_master(*port, *bridge, into),
+        Object::Up { name } => print_set(*name, b" up", into),
+        Object::Address { dev, cidr } => print_address(b"addr add ", *dev, *cidr, into),
+        Object::Route(route) => print_route(b"route add ", route, into),
+    }
+}
+
+fn print_take(object: &Object, mtu: u32, mac: Mac, into: &mut [u8; 256]) -> usize
+    ensures written { take result into.new ≡ take_line object.now mtu mac }
+    ensures fits { result ≤ 255 }
+{
+    match object {
+        Object::Link { name, .. } => print_deleted(*name, into),
+        Object::Mtu { name, .. } => print_mtu(*name, mtu, into),
+        Object::Mac { name, .. } => print_mac(*name, mac, into),
+        Object::Master { port, .. } => print_set(*port, b" nomaster", into),
+        Object::Up { name } => print_set(*name, b" down", into),
+        Object::Address { dev, cidr } => print_address(b"addr del ", *dev, *cidr, into),
+        Object::Route(route) => print_route(b"route del ", route, into),
+    }
+}
+
+fn print_link(name: DevName, kind: &LinkKind, into: &mut [u8; 256]) -> usize
+    ensures written { take result into.new ≡ put_line (object.Link name kind.now) }
+    ensures fits { result ≤ 255 }
+{
+    match kind {
+        LinkKind::Bridge { mac } => print_bridge(name, *mac, into),
+        LinkKind::Vlan { lower, id, mac } => print_vlan(name, *lower, *id, *mac, into),
+    }
+}
+
+fn print_bridge(name: DevName, mac: Option<Mac>, into: &mut [u8; 256]) -> usize
+    ensures written { take result into.new ≡ put_line (object.Link name (Bridge mac)) }
+    ensures fits { result ≤ 255 }
+{
+    let end = append_text(into, 0, b"link add name ");
+    let end = append_text(into, end, name.text());
+    let end = append_own_address(into, end, mac);
+    append_text(into, end, b" type bridge")
+}
+
+fn print_vlan(
+    name: DevName,
+    lower: DevName,
+    id: u16,
+    mac: Option<Mac>,
+    into: &mut [u8; 256],
+) -> usize
+    ensures written { take result into.new ≡ put_line (object.Link name (Vlan lower id mac)) }
+    ensures fits { result ≤ 255 }
+{
+    let end = append_text(into, 0, b"link add link ");
+    let end = append_text(into, end, lower.text());
+    let end = append_text(into, end, b" name ");
+    let end = append_text(into, end, name.text());
+    let end = append_own_address(into, end, mac);
+    let end = append_text(into, end, b" type vlan id ");
+    append_number(into, end, u32::from(id))
+}
+
+fn print_deleted(name: DevName, into: &mut [u8; 256]) -> usize
+    ensures written { take result into.new ≡ codes "link del dev " ++ name }
+    ensures fits { result ≤ 255 }
+{
+    let end = append_text(into, 0, b"link del dev ");
+    append_text(into, end, name.text())
+}
+
+fn print_set(name: DevName, setting: &[u8], into: &mut [u8; 256]) -> usize
+    requires { length setting.now ≤ 16 }
+    ensures written { take result into.new ≡ codes "link set dev " ++ name ++ setting.now }
+    ensures fits { result ≤ 44 }
 {
     let end = append_text(into, 0, b"link set dev ");
     let end = append_text(into, end, name.text());
-    append_text(into, end, b" up")
+    append_text(into, end, setting)
 }
 
-fn print_address(dev: DevName, cidr: Cidr, into: &mut [u8; 256]) -> usize
-    ensures written { take result into.new ≡ line_of (Put (Address dev cidr)) }
+fn print_mtu(name: DevName, mtu: u32, into: &mut [u8; 256]) -> usize
+    ensures written { take result into.new ≡ put_line (object.Mtu name mtu) }
     ensures fits { result ≤ 255 }
+{
+    let end = print_set(name, b" mtu ", into);
+    append_number(into, end, mtu)
+}
+
+fn print_mac(name: DevName, mac: Mac, into: &mut [u8; 256]) -> usize
+    ensures written { take result into.new ≡ put_line (object.Mac name mac) }
+    ensures fits { result ≤ 255 }
+{
+    let end = print_set(name, b" address ", into);
+    append_pairs(into, end, &mac.0)
+}
+
+fn print_master(port: DevName, bridge: DevName, into: &mut [u8; 256]) -> usize
+    ensures written { take result into.new ≡ put_line (object.Master port bridge) }
+    ensures fits { result ≤ 255 }
+{
+    let end = print_set(port, b" master ", into);
+    append_text(into, end, bridge.text())
+}
+
+fn print_address(words: &[u8], dev: DevName, cidr: Cidr, into: &mut [u8; 256]) -> usize
+    requires { length words.now ≤ 16 }
+    ensures written { take result into.new ≡ words.now ++ cidr_text cidr ++ codes " dev " ++ dev }
+    ensures fits { result ≤ 255 }
+{
+    let end = append_text(into, 0, words);
+    let end = append_cidr(into, end, cidr);
+    let end = append_text(into, end, b" dev ");
+    append_text(into, end, dev.text())
+}
+
+fn print_route(words: &[u8], route: &RouteObject, into: &mut [u8; 256]) -> usize
+    requires { length words.now ≤ 16 }
+    ensures written { take result into.new ≡ route_line words.now route.now }
+    ensures fits { result ≤ 255 }
+{
+    let end = append_text(into, 0, words);
+    let end = append_cidr(into, end, route.target);
+    let end = append_gateway(into, end, route.via);
+    let end = append_text(into, end, b" dev ");
+    let end = append_text(into, end, route.dev.text());
+    let end = append_unusual(into, end, b" metric ", 0, route.metric);
+    append_unusual(into, end, b" table ", MAIN_TABLE, route.table)
+}
+
+fn append_own_address(into: &mut [u8; 256], at: usize, mac: Option<Mac>) -> usize
+    requires { at ≤ 229 }
+    ensures written { take result into.new ≡ take at into.old ++ own_address mac }
+    ensures fits { result ≤ at + 27 }
+{
+    match mac {
+        None => at,
+        Some(mac) => {
+            let end = append_text(into, at, b" address ");
+            append_pairs(into, end, &mac.0)
+        }
+    }
+}
+
+fn append_gateway(into: &mut [u8; 256], at: usize, via: Option<Addr>) -> usize
+    requires { at ≤ 200 }
+    ensures written { take result into.new ≡ take at into.old ++ gateway via }
+    ensures fits { result ≤ at + 44 }
+{
+    match via {
+        None => at,
+        Some(via) => {
+            let mut address = [0u8; 64];
+            let size = print_addr(via, &mut address);
+            let end = append_text(into, at, b" via ");
+            append_text(into, end, &address[..size])
+        }
+    }
+}
+
+// The number behind its word, or nothing where it is the usual one.
+fn append_unusual(into: &mut [u8; 256], at: usize, word: &[u8], usual: u32, number: u32) -> usize
+    requires room { at ≤ 230 }
+    requires short { length word.now ≤ 8 }
+    ensures written { take result into.new ≡ take at into.old ++ unusual word.now usual number }
+    ensures fits { result ≤ at + 18 }
+{
+    if number == usual {
+        return at;
+    }
+    let end = append_text(into, at, word);
+    append_number(into, end, number)
+}
+
+fn append_cidr(into: &mut [u8; 256], at: usize, cidr: Cidr) -> usize
+    requires { at ≤ 200 }
+    ensures written { take result into.new ≡ take at into.old ++ cidr_text cidr }
+    ensures fits { result ≤ at + 43 }
 {
     let mut prefix = [0u8; 64];
     let size = print_cidr(cidr, &mut prefix);
-    let end = append_text(into, 0, b"addr add ");
-    let end = append_text(into, end, &prefix[..size]);
-    let end = append_text(into, end, b" dev ");
-    append_text(into, end, dev.text())
+    append_text(into, at, &prefix[..size])
+}
+
+fn append_number(into: &mut [u8; 256], at: usize, number: u32) -> usize
+    requires { at ≤ 246 }
+    ensures written { take result into.new ≡ take at into.old ++ decimal number }
+    ensures fits { result ≤ at + 10 }
+{
+    let mut digits = Buffer::new();
+    append_text(into, at, digits.format(number).as_bytes())
+}
+
+fn append_pairs(into: &mut [u8; 256], at: usize, bytes: &[u8]) -> usize
+    requires { at + 3 * length bytes.now ≤ 256 }
+    ensures written { take result into.new ≡ take at into.old ++ pairs_text bytes.now }
+    ensures fits { result ≤ at + 3 * length bytes.now }
+{
+    let [first, rest @ ..] = bytes else {
+        return at;
+    };
+    let mut end = append_text(into, at, &hex_pair(*first));
+    for byte in rest {
+        end = append_text(into, end, b":");
+        end = append_text(into, end, &hex_pair(*byte));
+    }
+    end
+}
+
+fn hex_pair(byte: u8) -> [u8; 2]
+    ensures { result ≡ hex_pair byte }
+{
+    [hex_digit(byte / 16), hex_digit(byte % 16)]
+}
+
+fn hex_digit(value: u8) -> u8
+    requires { value < 16 }
+    ensures { result ≡ digit_char value }
+{
+    if value < 10 {
+        b'0' + value
+    } else {
+        b'a' + (value - 10)
+    }
 }

@@ -1,14 +1,9 @@
-use crate::{Call, DevName, MemKernel, Object, calls_from_nothing, print_call, read_name};
-use net_addr::{Addr, Cidr, V4};
+use crate::{Call, DevName, MemKernel, Object, calls_from_nothing, read_name};
 use std::process::Abort;
 use std::test::Fail;
 
 fn name(rt: &impl Abort, text: &str) -> DevName {
     read_name(text.as_bytes()).expect(rt, "a device name")
-}
-
-fn cidr(rt: &impl Abort, octets: [u8; 4], length: u8) -> Cidr {
-    Cidr::new(Addr::V4(V4(octets)), length).expect(rt, "a prefix")
 }
 
 #[test]
@@ -53,36 +48,6 @@ fn names_are_ordered_by_bytes(rt: HostRuntime) {
         assert!(rt; name(&rt, less) < name(&rt, more), "{less} {more}");
         assert!(rt; !name(&rt, less).same(&name(&rt, more)));
         assert!(rt; name(&rt, less).same(&name(&rt, less)));
-    }
-}
-
-#[test]
-fn calls_are_printed(rt: HostRuntime) {
-    let eth0 = name(&rt, "eth0");
-    let table = [
-        (Object::Up { name: eth0 }, "link set dev eth0 up"),
-        (
-            Object::Address {
-                dev: eth0,
-                cidr: cidr(&rt, [192, 168, 1, 1], 24),
-            },
-            "addr add 192.168.1.1/24 dev eth0",
-        ),
-        (
-            Object::Address {
-                dev: name(&rt, "br-lan"),
-                cidr: cidr(&rt, [10, 0, 0, 1], 8),
-            },
-            "addr add 10.0.0.1/8 dev br-lan",
-        ),
-    ];
-    for (object, line) in table {
-        let mut into = [0u8; 256];
-        let size = match object {
-            Object::Up { .. } | Object::Address { .. } => print_call(&Call::Put(object), &mut into),
-            _ => 0,
-        };
-        assert_eq!(rt; &into[..size], line.as_bytes());
     }
 }
 

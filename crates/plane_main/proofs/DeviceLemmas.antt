@@ -1,7 +1,6 @@
 -- Devices that come one after the other.
 use Rattle.std.proofs.Common.{arith, ℕ, zero, suc, ◌≡◌, ◌<◌, ◌≤◌, ◌+◌, ◌⊎◌, inl, inr, List, [], ◌∷◌, ◌++◌, take, length, get_or, true, false, Bool, Some, refl, ap, sym, subst, ◌∙◌, Contains, cond, filter, add-zero, append-nil, length-append}
 use Rattle.std.specs.Prelude.{◌||◌, not, is_some}
-use Rattle.std.specs.List.{list_any}
 use Rattle.std.specs.Ordering.{nat_cmp, eq_by_cmp, is_eq}
 use Rattle.std.specs.Cmp.{Equal-is, tied_itself}
 use Rattle.std.proofs.lemmas.List.Elements.{filter-append}
@@ -11,11 +10,11 @@ use Rattle.std.specs.FinSet as set
 use Rattle.std.specs.FinMap as map
 use Rattle.std.proofs.lemmas.Map.Lookups.{exact_bytes}
 use Rattle.kern_model.specs.declared.object.Device.{Device}
-use Rattle.kern_model.specs.declared.object.Object.{Object}
-use Rattle.kern_model.specs.ObjectOrder.{object_cmp, Objects}
-use Rattle.kern_model.specs.Kernel.{Devices, is_present, exists, is_link_named, after_event}
+use Rattle.kern_model.specs.declared.object.Object.TheVariants as object
+use Rattle.kern_model.specs.ObjectOrder.{Objects, Has}
+use Rattle.kern_model.specs.Kernel.{Devices, is_present, Exists, after_event}
 use Rattle.kern_model.proofs.MemberLemmas.{first_or_later, none_in_nil, here, there}
-use Rattle.kern_model.proofs.SetLemmas.{set_of_item}
+use Rattle.kern_model.proofs.SetLemmas.{none_in_empty}
 use Rattle.plane_main.specs.Distinct.{AreDistinct}
 use Rattle.plane_main.specs.Wanted.{with_devices, comes}
 use Rattle.plane_main.specs.Bring.{Came, absent_count}
@@ -34,23 +33,16 @@ not_before (y ∷ ys) (suc i) x distinct inside is before =
       | inr later ↦ not_before ys i x distinct.1 (omega arith) is later
     ]
 
-none_pass : {X : Type 0} (p : X → Bool) → (xs : List X) → ((x : X) → Contains xs x → ⊥) → list_any p xs ≡ false
-none_pass p [] h = refl
-none_pass p (x ∷ xs) h = absurd (h x (here x xs))
-
-no_item : (o : Object) → Contains (set.items (set.empty {R = object_cmp})) o → ⊥
-no_item o h = cc (set_of_item set.empty o h, set.contains-empty object_cmp o)
-
 pub false_of_not : (b : Bool) → (b ≡ true → ⊥) → b ≡ false
 false_of_not true h = absurd (h refl)
 false_of_not false h = refl
 
 -- a name that is not present does not exist where there is no object
-pub may_come : (devices : Devices) (objects : Objects) (name : List ℕ) → objects ≡ set.empty → (is_present devices name ≡ true → ⊥) → not (exists devices objects name) ≡ true
-may_come devices objects name bare absent =
-    ap (λ b. not (b || list_any (is_link_named name) (set.items objects))) (false_of_not _ absent)
-    ∙ ap (λ s. not (list_any (is_link_named name) (set.items s))) bare
-    ∙ ap not (none_pass (is_link_named name) (set.items set.empty) no_item)
+pub may_come : (devices : Devices) (objects : Objects) (name : List ℕ) → objects ≡ set.empty → (is_present devices name ≡ true → ⊥) → Exists devices objects name → ⊥
+may_come devices objects name bare absent e = elim e as (λ _. ⊥) [
+  | inl present ↦ absent present
+  | inr link ↦ none_in_empty (object.Link name link.0) (subst (λ s. Has s (object.Link name link.0)) bare link.1)
+]
 
 -- what is present after a device came
 pub present_after : (devices : Devices) (name q : List ℕ) (device : Device) → is_present (map.insert devices name device) q ≡ (eq_by_cmp (slice_cmp nat_cmp) q name || is_present devices q)

@@ -39,7 +39,7 @@ module _ (words : List (List ℕ)) (input : Input) (before after : Outside) (int
       let same = same_interfaces input cause.interfaces interfaces text cause.read is.told network in
       let count = cause.did.count in
       let some = cause.did.some in
-      inr (refl, λ none. some_due after.objects (wanted cause.interfaces after.devices) cause.did.rest cause.did.due (omega arith) (none ∙ sym (ap (λ xs. wanted xs after.devices) same)))
+      inr (refl, λ none. some_due after.devices after.objects (wanted cause.interfaces after.devices) cause.did.rest cause.did.due (omega arith) (none ∙ sym (ap (λ xs. wanted xs after.devices) same)))
   decided ending.Usage cause free = absurd (cause command)
   decided ending.ReadFailed cause free = absurd (free (0, omega arith, refl))
   decided ending.WriteFailed cause free = absurd (free (1, omega arith, refl))

@@ -1,30 +1,35 @@
 -- How bringing up ends, from the devices that came and the calls that were made.
 use Rattle.std.proofs.Common.{arith, ℕ, ◌≡◌, ◌≤◌, ◌<◌, List, [], ◌++◌, length, Option, ap, sym, subst, ◌∙◌, append-nil}
 use Rattle.std.specs.FinSet as set
-use Rattle.std.proofs.lemmas.List.Elements.{Contains-append_left}
 use Rattle.plane_words.specs.Causes.{Rose}
 use Rattle.kern_model.specs.declared.object.Call.{Call}
 use Rattle.kern_model.specs.ObjectOrder.{Objects}
 use Rattle.kern_model.specs.Kernel.{Devices}
 use Rattle.kern_model.specs.CallOrder.{AreCalls, after_calls}
-use Rattle.kern_model.proofs.AdmitLemmas.{reached}
-use Rattle.kern_model.proofs.RestLemmas.{rest_leads_on}
+use Rattle.kern_model.specs.Allowed.{AreAllowed}
+use Rattle.kern_model.proofs.AllowedLemmas.{nothing_allowed}
+use Rattle.kern_model.proofs.LeadLemmas.{reached}
+use Rattle.kern_model.proofs.RestLemmas.{made_within, rest_leads_on}
 use Rattle.plane_main.specs.declared.interface.Interface.{Interface}
 use Rattle.plane_main.specs.Wanted.{wanted}
 use Rattle.plane_main.specs.Settle.{Settled, SettledInPart}
 use Rattle.plane_main.specs.Bring.{Outside, Came, Finished, StoppedAtCall, StoppedAtLine, due_count}
-use Rattle.plane_main.proofs.CountLemmas.{count_due, made_is_wanted}
+use Rattle.plane_main.proofs.BringLemmas.{wanted_allowed}
+use Rattle.plane_main.proofs.CountLemmas.{count_due}
 
 module _ (names : List (List ℕ)) (interfaces : List Interface) (before after : Outside) (devices : Devices) (calls : List Call) (faults : ℕ) (objects : Objects) (log : Option (List Call))
-    (came : Came names devices before.kernel_faults faults) (stay : after.devices ≡ devices) (order : AreCalls set.empty (wanted interfaces devices) calls) (bare : objects ≡ set.empty) (quiet : log ≡ before.calls) where
+    (came : Came names devices before.kernel_faults faults) (stay : after.devices ≡ devices) (order : AreCalls devices set.empty (wanted interfaces devices) calls) (bare : objects ≡ set.empty) (quiet : log ≡ before.calls) where
   came_after : Came names after.devices before.kernel_faults faults
   came_after = subst (λ d. Came names d before.kernel_faults faults) (sym stay) came
 
   came_until : faults ≤ after.kernel_faults → Came names after.devices before.kernel_faults after.kernel_faults
   came_until later = record { present = came_after.present; absent = let risen = came_after.absent in omega arith }
 
-  order_after : AreCalls set.empty (wanted interfaces after.devices) calls
-  order_after = subst (λ d. AreCalls set.empty (wanted interfaces d) calls) (sym stay) order
+  order_after : AreCalls after.devices set.empty (wanted interfaces after.devices) calls
+  order_after = subst (λ d. AreCalls d set.empty (wanted interfaces d) calls) (sym stay) order
+
+  allowed : AreAllowed after.devices (wanted interfaces after.devices)
+  allowed = wanted_allowed interfaces after.devices
 
   settled_after : (rest : List Call) → Settled calls rest objects after.objects log after.calls before.out after.out → Settled calls rest set.empty after.objects before.calls after.calls before.out after.out
   settled_after rest s = subst (λ l. Settled calls rest set.empty after.objects l after.calls before.out after.out) quiet (subst (λ o. Settled calls rest o after.objects log after.calls before.out after.out) bare s)
@@ -38,15 +43,15 @@ module _ (names : List (List ℕ)) (interfaces : List Interface) (before after :
         came = came_until later;
         order = order_after;
         settled = t;
-        held = t.done.held ∙ ap (after_calls set.empty) all ∙ reached (wanted interfaces after.devices) calls order_after;
+        held = t.done.held ∙ ap (after_calls set.empty) all ∙ reached after.devices set.empty (wanted interfaces after.devices) calls (nothing_allowed after.devices) allowed order_after;
       }
 
   pub stopped_at_call : (left : ℕ) (rest : List Call) → length rest ≡ left → 0 < left → Rose faults after.kernel_faults → Settled calls rest objects after.objects log after.calls before.out after.out → StoppedAtCall left names interfaces before after
   stopped_at_call left rest count some rose s =
       let t = settled_after rest s in
-      let parts : AreCalls set.empty (wanted interfaces after.devices) (t.made ++ rest) = subst (AreCalls set.empty (wanted interfaces after.devices)) t.parts order_after in
-      let on = rest_leads_on (wanted interfaces after.devices) t.made rest parts in
-      let within = made_is_wanted (wanted interfaces after.devices) t.made (λ c member. parts.sound c (Contains-append_left t.made rest c member)) in
+      let parts : AreCalls after.devices set.empty (wanted interfaces after.devices) (t.made ++ rest) = subst (AreCalls after.devices set.empty (wanted interfaces after.devices)) t.parts order_after in
+      let on = rest_leads_on after.devices (wanted interfaces after.devices) t.made rest allowed parts in
+      let within = made_within after.devices (wanted interfaces after.devices) t.made rest allowed parts in
       record {
         calls = calls;
         rest = rest;
@@ -54,9 +59,9 @@ module _ (names : List (List ℕ)) (interfaces : List Interface) (before after :
         absent = let risen = came_after.absent in omega arith;
         order = order_after;
         settled = t;
-        due = subst (λ o. AreCalls o (wanted interfaces after.devices) rest) (sym t.done.held) on;
+        due = subst (λ o. AreCalls after.devices o (wanted interfaces after.devices) rest) (sym t.done.held) on;
         count = count;
-        objects = ap (λ o. due_count o (wanted interfaces after.devices)) t.done.held ∙ count_due (after_calls set.empty t.made) (wanted interfaces after.devices) rest within on ∙ count;
+        objects = ap (λ o. due_count o (wanted interfaces after.devices)) t.done.held ∙ count_due after.devices (after_calls set.empty t.made) (wanted interfaces after.devices) rest within on ∙ count;
         some = some;
       }
 

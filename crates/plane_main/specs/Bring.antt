@@ -45,7 +45,7 @@ pub record Came (names : List (List ℕ)) (devices : Devices) (before now : ℕ)
 pub record Finished (names : List (List ℕ)) (interfaces : List Interface) (before after : Outside) : Type 0 where
   pub calls : List Call
   pub came : Came names after.devices before.kernel_faults after.kernel_faults
-  pub order : AreCalls set.empty (wanted interfaces after.devices) calls
+  pub order : AreCalls after.devices set.empty (wanted interfaces after.devices) calls
   pub settled : Settled calls [] set.empty after.objects before.calls after.calls before.out after.out
   pub held : after.objects ≡ wanted interfaces after.devices
 
@@ -60,9 +60,9 @@ pub record StoppedAtCall (left : ℕ) (names : List (List ℕ)) (interfaces : Li
   pub rest : List Call
   pub present : after.devices ≡ with_devices map.empty (filter (is_present after.devices) names)
   pub absent : RoseBy (absent_count after.devices names + 1) before.kernel_faults after.kernel_faults
-  pub order : AreCalls set.empty (wanted interfaces after.devices) calls
+  pub order : AreCalls after.devices set.empty (wanted interfaces after.devices) calls
   pub settled : Settled calls rest set.empty after.objects before.calls after.calls before.out after.out
-  pub due : AreCalls after.objects (wanted interfaces after.devices) rest
+  pub due : AreCalls after.devices after.objects (wanted interfaces after.devices) rest
   pub count : length rest ≡ left
   pub objects : due_count after.objects (wanted interfaces after.devices) ≡ left
   pub some : 0 < left
@@ -72,7 +72,7 @@ pub record StoppedAtLine (names : List (List ℕ)) (interfaces : List Interface)
   pub calls : List Call
   pub rest : List Call
   pub came : Came names after.devices before.kernel_faults after.kernel_faults
-  pub order : AreCalls set.empty (wanted interfaces after.devices) calls
+  pub order : AreCalls after.devices set.empty (wanted interfaces after.devices) calls
   pub settled : SettledInPart calls rest set.empty after.objects before.calls after.calls before.out after.out
   pub cause : Rose before.out_faults after.out_faults
 

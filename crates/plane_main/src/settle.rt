@@ -1,9 +1,8 @@
 ghost use Rattle.std.specs.Prelude.{◌≡◌, ◌≤◌, ◌<◌, ◌∷◌, ◌++◌, [], ℕ, List, OnOk, OnErr, Err, length};
-ghost use Rattle.std.specs.List.{AllByRecursion};
 ghost use Rattle.plane_words.specs.Causes.{HasCause, Rose};
 ghost use Rattle.plane_words.specs.Growth.{Grows, GrowsByFront};
 ghost use Rattle.kern_model.specs.declared.object.Call.{Call};
-ghost use Rattle.kern_model.specs.Line.{line_of, HasLine};
+ghost use Rattle.kern_model.specs.Line.{line_of};
 ghost use Rattle.kern_model.specs.CallOrder.{AreAdmitted};
 ghost use Rattle.plane_main.specs.Settle.{Settled, SettledInPart};
 
@@ -23,8 +22,7 @@ pub enum Stop {
 ///
 /// The first call of the kernel or line that fails; the calls and lines before it were done, and of a line its call.
 pub fn settle<K: Kernel, O: Sink>(calls: &[Call], kernel: &mut K, out: &mut O) -> Result<(), Stop>
-    requires admitted { AreAdmitted (K.devices kernel.old) (K.objects kernel.old) calls.now }
-    requires lines { AllByRecursion HasLine calls.now }
+    requires { AreAdmitted (K.devices kernel.old) (K.objects kernel.old) calls.now }
     ensures done { OnOk result (Settled calls.now [] (K.objects kernel.old) (K.objects kernel.new) (K.calls kernel.old) (K.calls kernel.new) (O.held out.old) (O.held out.new)) }
     ensures kernel_failed { (left : ℕ) → result ≡ Err (Stop.KernelFailed left) → (rest : List Call) × (length rest ≡ left) × (0 < left) × Settled calls.now rest (K.objects kernel.old) (K.objects kernel.new) (K.calls kernel.old) (K.calls kernel.new) (O.held out.old) (O.held out.new) }
     ensures write_failed { result ≡ Err Stop.WriteFailed → (rest : List Call) × SettledInPart calls.now rest (K.objects kernel.old) (K.objects kernel.new) (K.calls kernel.old) (K.calls kernel.new) (O.held out.old) (O.held out.new) }
@@ -47,7 +45,6 @@ pub fn settle<K: Kernel, O: Sink>(calls: &[Call], kernel: &mut K, out: &mut O) -
 }
 
 fn write_line<O: Sink>(call: &Call, out: &mut O) -> Result<(), Failed>
-    requires { HasLine call.now }
     ensures written { OnOk result (Grows (O.held out.old) (O.held out.new) (line_of call.now ++ 10 ∷ [])) }
     ensures in_part { OnErr result (GrowsByFront (O.held out.old) (O.held out.new) (line_of call.now ++ 10 ∷ [])) }
     ensures cause { HasCause (O.faults out.old) (O.faults out.new) result }

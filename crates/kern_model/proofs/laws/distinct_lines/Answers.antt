@@ -1,5 +1,12 @@
-use Rattle.kern_model.proofs.LineLemmas.{object_of_line}
+use Rattle.kern_model.proofs.KeepLemmas.{one_of_take_line}
+use Rattle.kern_model.proofs.LineLemmas.{object_of_line, taken_of_line}
 use Rattle.kern_model.proofs.laws.distinct_lines.Goals as goal
 
-pub returns : goal.returns
-returns c = object_of_line
+pub returns-clause-puts : goal.returns-clause-puts
+returns-clause-puts c = object_of_line
+
+pub returns-clause-takes : goal.returns-clause-takes
+returns-clause-takes c = taken_of_line
+
+pub returns-clause-held : goal.returns-clause-held
+returns-clause-held c devices objects allowed a b m n x y h g p q small little same = one_of_take_line devices objects a b allowed h g (taken_of_line a b m n x y p q small little same)

@@ -41,7 +41,7 @@ loop-name-preserved g c =
     let did : g.K.Kernel.devices c.environment.new.self ≡ after_event (g.K.Kernel.devices c.loop-name.kernel) (comes name) = c.in-Ok.ensures.did in
     let now_present : (q : List ℕ) → is_present (g.K.Kernel.devices c.environment.new.self) q ≡ (eq_by_cmp (slice_cmp nat_cmp) q name || is_present (g.K.Kernel.devices c.loop-name.kernel) q) = λ q. ap (λ d. is_present d q) did ∙ present_after (g.K.Kernel.devices c.loop-name.kernel) name q _ in
     record {
-      objects = c.environment.ensures.objects ∙ c.loop-name.invariant.objects;
+      objects = c.in-Ok.ensures.stayed ∙ c.loop-name.invariant.objects;
       calls = c.environment.ensures.calls ∙ c.loop-name.invariant.calls;
       later = omega arith;
       present = λ q. c.in_ok-insert.ensures.updates.0 q ∙ added (is_at (slice_cmp nat_cmp name) q) (contains (slice_cmp nat_cmp) c.loop-name.present q) ∙ ap (λ b. b || contains (slice_cmp nat_cmp) c.loop-name.present q) ((eq_by_cmp_equiv nat_list_cmp_total).symm name q) ∙ ap (λ b. eq_by_cmp (slice_cmp nat_cmp) q name || b) (c.loop-name.invariant.present q) ∙ sym (now_present q);
@@ -66,10 +66,10 @@ loop-name-preserved-in_default g c =
     let after = g.K.Kernel.devices c.environment.new.self in
     let more : take (index + 1) names ≡ take index names ++ name ∷ [] = take_more names index name (omega arith) ∙ ap (λ x. take index names ++ x ∷ []) (sym c.name-item.is) in
     let new : Contains (take index names) name → ⊥ = not_before names index name c.requires.distinct (omega arith) (sym c.name-item.is) in
-    let did : after ≡ before = c.in_default.ensures.err in
+    let did : after ≡ before = c.in_default.ensures.err.0 in
     let absent : is_present before name ≡ false = false_of_not (is_present before name) (λ h. new (c.loop-name.invariant.only name h)) in
     record {
-      objects = c.environment.ensures.objects ∙ c.loop-name.invariant.objects;
+      objects = c.in_default.ensures.err.1 ∙ c.loop-name.invariant.objects;
       calls = c.environment.ensures.calls ∙ c.loop-name.invariant.calls;
       later = let later = c.environment.ensures.cause.later in let so_far = c.loop-name.invariant.later in omega arith;
       present = λ q. c.loop-name.invariant.present q ∙ ap (λ d. is_present d q) (sym did);

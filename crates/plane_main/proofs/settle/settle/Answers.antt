@@ -14,7 +14,6 @@ loop-call-preserved g c =
     record {
       settled = settled_more _ _ c.in-Some.call.now _ _ _ _ _ _ _ _ _ (subst (λ rest. Settled c.args.calls.now rest (g.K.Kernel.objects c.args.kernel.now) (g.K.Kernel.objects c.loop-call.kernel) (g.K.Kernel.calls c.args.kernel.now) (g.K.Kernel.calls c.loop-call.kernel) (g.O.Sink.held c.args.out.now) (g.O.Sink.held c.loop-call.out)) parts c.loop-call.invariant.settled) c.in-Ok.ensures.did c.in-Ok.ensures.logged c.in-Ok-write_line.ensures.written;
       admitted = search rules;
-      lines = search rules;
       devices = search rules;
       kernel_later = omega arith;
       out_later = omega arith;

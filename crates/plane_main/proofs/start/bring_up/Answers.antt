@@ -5,12 +5,12 @@ use Rattle.std.specs.FinSet as set
 use Rattle.std.specs.Ordering.{nat_cmp}
 use Rattle.std.specs.Cmp.Lexicographic.{slice_cmp}
 use Rattle.std.specs.BTreeSet.{contains}
-use Rattle.kern_model.specs.Line.{IsPrintable, HasLine}
+use Rattle.kern_model.specs.Line.{IsBroughtUp}
 use Rattle.kern_model.specs.CallOrder.{AreCalls, AreAdmitted}
-use Rattle.kern_model.specs.Support.{AreSupported}
-use Rattle.kern_model.proofs.AdmitLemmas.{admitted}
+use Rattle.kern_model.proofs.AllowedLemmas.{nothing_allowed}
+use Rattle.kern_model.proofs.LeadLemmas.{admitted}
 use Rattle.plane_main.specs.Wanted.{all_objects_of, wanted}
-use Rattle.plane_main.proofs.BringLemmas.{objects_printable, objects_supported, calls_have_lines, wanted_by_test}
+use Rattle.plane_main.proofs.BringLemmas.{objects_brought_up, wanted_allowed, wanted_by_test}
 use Rattle.plane_main.specs.Bring.{Outside}
 use Rattle.plane_main.proofs.EndLemmas.{finished, stopped_at_call, stopped_at_line}
 use Rattle.plane_main.proofs.start.bring_up.Goals as goal
@@ -18,24 +18,19 @@ use Rattle.plane_main.proofs.start.bring_up.Goals as goal
 pub calls_from_nothing-requires : goal.calls_from_nothing-requires
 calls_from_nothing-requires g c =
     let objects : c.deref.result.now ≡ all_objects_of (contains (slice_cmp nat_cmp) c.in-Ok.present) c.args.interfaces.now = c.deref.ensures.value ∙ c.in-Ok-wanted_objects.ensures in
-    subst (AllByRecursion IsPrintable) (sym objects) (objects_printable (contains (slice_cmp nat_cmp) c.in-Ok.present) c.args.interfaces.now c.requires.sound)
+    subst (AllByRecursion IsBroughtUp) (sym objects) (objects_brought_up (contains (slice_cmp nat_cmp) c.in-Ok.present) c.args.interfaces.now c.requires.sound)
 
-pub settle-requires-clause-admitted : goal.settle-requires-clause-admitted
-settle-requires-clause-admitted g c =
+pub settle-requires : goal.settle-requires
+settle-requires g c =
     let devices = g.K.Kernel.devices c.add_devices.new.kernel in
     let test = contains (slice_cmp nat_cmp) c.in-Ok.present in
     let calls = c.in-Ok-calls_from_nothing.calls.items in
     let objects : c.deref.result.now ≡ all_objects_of test c.args.interfaces.now = c.deref.ensures.value ∙ c.in-Ok-wanted_objects.ensures in
-    let supported : AreSupported devices (set.from_list c.deref.result.now) = subst (λ os. AreSupported devices (set.from_list os)) (sym objects) (objects_supported devices test c.args.interfaces.now c.in-Ok.ensures.present) in
-    let from_nothing : AreAdmitted devices set.empty calls = admitted devices (set.from_list c.deref.result.now) calls supported c.in-Ok-calls_from_nothing.ensures in
+    let interfaces = c.args.interfaces.now in
+    let same : set.from_list c.deref.result.now ≡ wanted interfaces devices = ap set.from_list objects ∙ wanted_by_test devices test interfaces c.in-Ok.ensures.present in
+    let order : AreCalls devices set.empty (wanted interfaces devices) calls = subst (λ w. AreCalls devices set.empty w calls) same (c.in-Ok-calls_from_nothing.ensures devices) in
+    let from_nothing : AreAdmitted devices set.empty calls = admitted devices set.empty (wanted interfaces devices) calls (nothing_allowed devices) (wanted_allowed interfaces devices) order in
     subst (AreAdmitted devices (g.K.Kernel.objects c.add_devices.new.kernel)) (sym c.deref-2.ensures.value) (subst (λ held. AreAdmitted devices held calls) (sym c.add_devices.ensures.objects) from_nothing)
-
-pub settle-requires-clause-lines : goal.settle-requires-clause-lines
-settle-requires-clause-lines g c =
-    let test = contains (slice_cmp nat_cmp) c.in-Ok.present in
-    let objects : c.deref.result.now ≡ all_objects_of test c.args.interfaces.now = c.deref.ensures.value ∙ c.in-Ok-wanted_objects.ensures in
-    let printable : AllByRecursion IsPrintable c.deref.result.now = subst (AllByRecursion IsPrintable) (sym objects) (objects_printable test c.args.interfaces.now c.requires.sound) in
-    subst (AllByRecursion HasLine) (sym c.deref-2.ensures.value) (calls_have_lines c.deref.result.now c.in-Ok-calls_from_nothing.calls.items printable c.in-Ok-calls_from_nothing.ensures)
 
 pub returns-in-Ok-settle : goal.returns-in-Ok-settle
 returns-in-Ok-settle g c =
@@ -44,7 +39,7 @@ returns-in-Ok-settle g c =
     let interfaces = c.args.interfaces.now in
     let objects : c.deref.result.now ≡ all_objects_of test interfaces = c.deref.ensures.value ∙ c.in-Ok-wanted_objects.ensures in
     let same : set.from_list c.deref.result.now ≡ wanted interfaces devices = ap set.from_list objects ∙ wanted_by_test devices test interfaces c.in-Ok.ensures.present in
-    let order : AreCalls set.empty (wanted interfaces devices) c.deref-2.result.now = subst (AreCalls set.empty (wanted interfaces devices)) (sym c.deref-2.ensures.value) (subst (λ w. AreCalls set.empty w c.in-Ok-calls_from_nothing.calls.items) same c.in-Ok-calls_from_nothing.ensures) in
+    let order : AreCalls devices set.empty (wanted interfaces devices) c.deref-2.result.now = subst (AreCalls devices set.empty (wanted interfaces devices)) (sym c.deref-2.ensures.value) (subst (λ w. AreCalls devices set.empty w c.in-Ok-calls_from_nothing.calls.items) same (c.in-Ok-calls_from_nothing.ensures devices)) in
     let before : Outside = record { out = g.O.Sink.held c.args.out.now; devices = g.K.Kernel.devices c.args.kernel.now; objects = g.K.Kernel.objects c.args.kernel.now; calls = g.K.Kernel.calls c.args.kernel.now; out_faults = g.O.Sink.faults c.args.out.now; kernel_faults = g.K.Kernel.faults c.args.kernel.now } in
     let after : Outside = record { out = g.O.Sink.held c.settle.new.out; devices = g.K.Kernel.devices c.settle.new.kernel; objects = g.K.Kernel.objects c.settle.new.kernel; calls = g.K.Kernel.calls c.settle.new.kernel; out_faults = g.O.Sink.faults c.settle.new.out; kernel_faults = g.K.Kernel.faults c.settle.new.kernel } in
     record {
@@ -59,7 +54,7 @@ returns-in-Err-KernelFailed g c =
     let interfaces = c.args.interfaces.now in
     let objects : c.deref.result.now ≡ all_objects_of test interfaces = c.deref.ensures.value ∙ c.in-Ok-wanted_objects.ensures in
     let same : set.from_list c.deref.result.now ≡ wanted interfaces devices = ap set.from_list objects ∙ wanted_by_test devices test interfaces c.in-Ok.ensures.present in
-    let order : AreCalls set.empty (wanted interfaces devices) c.deref-2.result.now = subst (AreCalls set.empty (wanted interfaces devices)) (sym c.deref-2.ensures.value) (subst (λ w. AreCalls set.empty w c.in-Ok-calls_from_nothing.calls.items) same c.in-Ok-calls_from_nothing.ensures) in
+    let order : AreCalls devices set.empty (wanted interfaces devices) c.deref-2.result.now = subst (AreCalls devices set.empty (wanted interfaces devices)) (sym c.deref-2.ensures.value) (subst (λ w. AreCalls devices set.empty w c.in-Ok-calls_from_nothing.calls.items) same (c.in-Ok-calls_from_nothing.ensures devices)) in
     let before : Outside = record { out = g.O.Sink.held c.args.out.now; devices = g.K.Kernel.devices c.args.kernel.now; objects = g.K.Kernel.objects c.args.kernel.now; calls = g.K.Kernel.calls c.args.kernel.now; out_faults = g.O.Sink.faults c.args.out.now; kernel_faults = g.K.Kernel.faults c.args.kernel.now } in
     let after : Outside = record { out = g.O.Sink.held c.settle.new.out; devices = g.K.Kernel.devices c.settle.new.kernel; objects = g.K.Kernel.objects c.settle.new.kernel; calls = g.K.Kernel.calls c.settle.new.kernel; out_faults = g.O.Sink.faults c.settle.new.out; kernel_faults = g.K.Kernel.faults c.settle.new.kernel } in
     let left = c.in-Err-KernelFailed.left in
@@ -77,7 +72,7 @@ returns g c =
     let interfaces = c.args.interfaces.now in
     let objects : c.deref.result.now ≡ all_objects_of test interfaces = c.deref.ensures.value ∙ c.in-Ok-wanted_objects.ensures in
     let same : set.from_list c.deref.result.now ≡ wanted interfaces devices = ap set.from_list objects ∙ wanted_by_test devices test interfaces c.in-Ok.ensures.present in
-    let order : AreCalls set.empty (wanted interfaces devices) c.deref-2.result.now = subst (AreCalls set.empty (wanted interfaces devices)) (sym c.deref-2.ensures.value) (subst (λ w. AreCalls set.empty w c.in-Ok-calls_from_nothing.calls.items) same c.in-Ok-calls_from_nothing.ensures) in
+    let order : AreCalls devices set.empty (wanted interfaces devices) c.deref-2.result.now = subst (AreCalls devices set.empty (wanted interfaces devices)) (sym c.deref-2.ensures.value) (subst (λ w. AreCalls devices set.empty w c.in-Ok-calls_from_nothing.calls.items) same (c.in-Ok-calls_from_nothing.ensures devices)) in
     let before : Outside = record { out = g.O.Sink.held c.args.out.now; devices = g.K.Kernel.devices c.args.kernel.now; objects = g.K.Kernel.objects c.args.kernel.now; calls = g.K.Kernel.calls c.args.kernel.now; out_faults = g.O.Sink.faults c.args.out.now; kernel_faults = g.K.Kernel.faults c.args.kernel.now } in
     let after : Outside = record { out = g.O.Sink.held c.settle.new.out; devices = g.K.Kernel.devices c.settle.new.kernel; objects = g.K.Kernel.objects c.settle.new.kernel; calls = g.K.Kernel.calls c.settle.new.kernel; out_faults = g.O.Sink.faults c.settle.new.out; kernel_faults = g.K.Kernel.faults c.settle.new.kernel } in
     let is = c.in-Err-WriteFailed.is ∙ ap Err c.in-Err-WriteFailed.field-0-is in
