@@ -1,5 +1,5 @@
 pub mod ClassLemmas
+pub mod PieceLemmas
 pub mod WordLemmas
-pub mod LineLemmas
-pub mod TextLemmas
-pub mod KeptLemmas
+pub mod GapLemmas
+pub mod CommandLemmas
