@@ -10,7 +10,7 @@ use Rattle.uci_text.specs.ByteClass.{is_in, AllIn, IsAtEndOr, SplitsBehind, ends
 use Rattle.uci_text.specs.Piece.{Piece}
 use Rattle.uci_text.specs.Word.{Spaced, IsWord, IsSpaced, word_text, word_value, spaced_text}
 use Rattle.uci_text.specs.Command.{Command}
-use Rattle.uci_text.specs.Open.{IsLoose}
+use Rattle.uci_text.specs.Open.{IsLoose, open_text}
 use Rattle.uci_text.specs.Found.{BeginsOutside, TakesWord, IsOpenWord, TakesCommand, HasNoEnd}
 use Rattle.uci_text.proofs.ClassLemmas.{each-append}
 
@@ -117,7 +117,7 @@ command_open bytes rest words stop n o =
       open_piece = o.last_is.open_piece;
       is = record {
         front = n.front ++ last ∷ [];
-        whole = n.front_is ∙ ap (λ (z : List ℕ). flat_map spaced_text n.front ++ z) (o.whole ∙ ap (λ (z : List ℕ). word_text o.pieces ++ z) o.last_is.whole) ∙ sym (append_assoc (flat_map spaced_text n.front) (word_text o.pieces) _) ∙ ap (λ (z : List ℕ). z ++ _) (sym (spaced-append n.front last));
+        whole = n.front_is ∙ ap (λ (z : List ℕ). flat_map spaced_text n.front ++ z) (o.whole ∙ ap (λ (z : List ℕ). word_text o.pieces ++ z) o.last_is.whole) ∙ sym (append_assoc (flat_map spaced_text n.front) (word_text o.pieces) (open_text o.last_is.open_piece)) ∙ ap (λ (z : List ℕ). z ++ open_text o.last_is.open_piece) (sym (spaced-append n.front last));
         before_is = refl;
         loose = each-append IsLoose n.front (last ∷ []) n.loose (record { spaces = tt; pieces = o.each }, tt);
         open_is = o.last_is.is;

@@ -3,3 +3,8 @@ pub mod PieceLemmas
 pub mod WordLemmas
 pub mod GapLemmas
 pub mod CommandLemmas
+pub mod ExtentLemmas
+pub mod QuoteLemmas
+pub mod RunLemmas
+pub mod FaultLemmas
+pub mod ReadLemmas

@@ -39,19 +39,19 @@ word_more bytes rest next old new r t =
     record {
       so_far = record {
         pieces = r.pieces ++ t.piece ∷ [];
-        whole = r.whole ∙ ap (λ (z : List ℕ). word_text r.pieces ++ z) t.whole ∙ rw texts (simp (append_assoc, append-nil));
+        whole = r.whole ∙ ap (λ (z : List ℕ). word_text r.pieces ++ z) t.whole ∙ sym (ap (λ (z : List ℕ). z ++ next) texts ∙ simp (append_assoc, append-nil));
         each = each-append IsPiece r.pieces (t.piece ∷ []) r.each (t.is, tt);
-        value_is = t.value ∙ ap (λ (z : List ℕ). z ++ piece_value t.piece) r.value_is ∙ rw values (simp (append_assoc, append-nil));
+        value_is = t.value ∙ ap (λ (z : List ℕ). z ++ piece_value t.piece) r.value_is ∙ sym (values ∙ simp append-nil);
       };
       some = omega arith;
     }
 
-pub word_done : (bytes rest value : List ℕ) → WordThrough bytes rest value → IsAtEndOr ends_word rest → TakesWord bytes value rest
-word_done bytes rest value t e = record {
+pub word_done : (bytes rest value text : List ℕ) → WordThrough bytes rest value → IsAtEndOr ends_word rest → text ≡ value → TakesWord bytes text rest
+word_done bytes rest value text t e is = record {
   pieces = t.so_far.pieces;
   whole = t.so_far.whole;
   is = record { some = t.some; each = t.so_far.each };
-  value_is = t.so_far.value_is;
+  value_is = is ∙ t.so_far.value_is;
   end = e;
 }
 
@@ -66,7 +66,9 @@ piece_shortens bytes old new rest t =
     omega arith
 
 pub word_length : (pieces : List Piece) → IsWord pieces → 0 < length (word_text pieces)
-word_length [] w = absurd (let n : 0 < length [] = w.some in omega arith)
+word_length [] w =
+    let n : 0 < length {A = Piece} [] = w.some in
+    absurd (omega arith)
 word_length (p ∷ pieces) w =
     let l : 0 < length (piece_text p) = piece_length p w.each.0 in
     let s : length (piece_text p ++ word_text pieces) ≡ length (piece_text p) + length (word_text pieces) = length-append (piece_text p) (word_text pieces) in

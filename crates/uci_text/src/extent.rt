@@ -62,7 +62,8 @@ fn line_of_end(number: u32, extent: &[u8], left: usize) -> Result<u32, TextError
 fn fault_of(number: u32, bytes: &[u8], stop: Stop) -> TextError
     requires room { number + length bytes.now < 2 ^ 32 }
     requires stopped { stop ≢ Stop.Memory → HasNoEnd bytes.now stop }
-    ensures { result ≢ TextError.Memory → HasFault number bytes.now result }
+    ensures fault { result ≢ TextError.Memory → HasFault number bytes.now result }
+    ensures memory { stop ≡ Stop.Memory → result ≡ TextError.Memory }
 {
     match stop {
         Stop::Memory => TextError::Memory,
@@ -78,7 +79,11 @@ fn fault_of(number: u32, bytes: &[u8], stop: Stop) -> TextError
 }
 
 /// The line of the command in front, what is behind its extent, and the number of the line that is there.
-pub fn read_extent(alloc: Global, number: u32, bytes: &[u8]) -> Result<(Line, &[u8], u32), TextError>
+pub fn read_extent(
+    alloc: Global,
+    number: u32,
+    bytes: &[u8],
+) -> Result<(Line, &[u8], u32), TextError>
     requires room { number + length bytes.now < 2 ^ 32 }
     requires begins { BeginsOutside class.ends_word bytes.now }
     ensures found { IfOk result (λ read. ReadsExtent number bytes.now read.0 read.1.now read.2) }
@@ -90,7 +95,14 @@ pub fn read_extent(alloc: Global, number: u32, bytes: &[u8]) -> Result<(Line, &[
     };
     let behind = behind_gap(after);
     let next = line_behind(number, before(bytes, behind))?;
-    Ok((Line { line: number, words }, behind, next))
+    Ok((
+        Line {
+            line: number,
+            words,
+        },
+        behind,
+        next,
+    ))
 }
 
 /// What is behind the gap in front of the text, and the number of the line that is there.

@@ -18,4 +18,3 @@ pub fn one_fault()
 pub fn no_reading_with_fault()
     ensures { (text : List ℕ) (error : Fault) (lines : List Line) → IsFirstFault text error → Spells text lines → ⊥ }
 {}
-

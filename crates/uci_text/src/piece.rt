@@ -74,10 +74,13 @@ pub fn read_piece<'a>(value: &mut Vec<u8>, bytes: &'a [u8]) -> Result<&'a [u8], 
     ensures found { IfOk result (λ rest. TakesPiece bytes.now value.old.items value.new.items rest.now) }
     ensures stopped { (stop : Stopped) → result ≡ Err stop → stop ≢ Stop.Memory → IsOpenPiece bytes.now stop }
 {
-    match bytes.split_first() {
-        Some((b'\'', inside)) => read_single(value, inside),
-        Some((b'"', inside)) => read_double(value, inside),
-        Some((b'\\', inside)) => read_escaped(value, inside),
+    let Some((mark, inside)) = bytes.split_first() else {
+        unreachable!()
+    };
+    match *mark {
+        b'\'' => read_single(value, inside),
+        b'"' => read_double(value, inside),
+        b'\\' => read_escaped(value, inside),
         _ => {
             let (run, rest) = ByteClass::Plain.split(bytes);
             value.extend_from_slice(run)?;
