@@ -8,3 +8,4 @@ pub mod QuoteLemmas
 pub mod RunLemmas
 pub mod FaultLemmas
 pub mod ReadLemmas
+pub mod TotalLemmas

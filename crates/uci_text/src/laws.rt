@@ -1,4 +1,4 @@
-ghost use Rattle.std.specs.Prelude.{◌≡◌, List, ℕ};
+ghost use Rattle.std.specs.Prelude.{◌≡◌, ◌⊎◌, List, ℕ};
 ghost use Rattle.uci_text.specs.declared.line.Line.{Line};
 ghost use Rattle.uci_text.specs.declared.text_error.TextError.{TextError as Fault};
 ghost use Rattle.uci_text.specs.Text.{Spells};
@@ -17,4 +17,9 @@ pub fn one_fault()
 /// A text that has a fault has no reading.
 pub fn no_reading_with_fault()
     ensures { (text : List ℕ) (error : Fault) (lines : List Line) → IsFirstFault text error → Spells text lines → ⊥ }
+{}
+
+/// A text has a reading or a first fault: so it has a reading exactly where it has no fault.
+pub fn reading_or_fault()
+    ensures { (text : List ℕ) → ((lines : List Line) × Spells text lines) ⊎ ((error : Fault) × IsFirstFault text error) }
 {}
