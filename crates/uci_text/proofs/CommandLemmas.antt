@@ -1,15 +1,14 @@
 -- Commands.
-use Rattle.std.proofs.Common.{ℕ, ◌≡◌, ◌<◌, ◌+◌, List, [], ◌∷◌, ◌++◌, length, map, Bool, true, false, not, arith, sym, refl, subst, ap, ◌∙◌, append_assoc, length-append, nat_eq}
+use Rattle.std.proofs.Common.{ℕ, ◌≡◌, ◌<◌, List, [], ◌∷◌, ◌++◌, length, map, true, false, not, arith, sym, refl, subst, ap, ◌∙◌, append_assoc}
 use Rattle.std.specs.List.{AllByRecursion, flat_map}
 use Rattle.std.proofs.lemmas.List.{append-nil, map-append}
 use Rattle.std.proofs.lemmas.List.Concat.{flat_map-append}
 use Rattle.std.proofs.lemmas.Bool.Decides.{nat_tests}
 use Rattle.uci_text.specs.declared.stop.Stop.{Stop}
 use Rattle.uci_text.specs.declared.byte_class.ByteClass.TheVariants.{Space}
-use Rattle.uci_text.specs.ByteClass.{is_in, AllIn, IsAtEndOr, SplitsBehind, ends_word, ends_command}
+use Rattle.uci_text.specs.ByteClass.{is_in, IsAtEndOr, SplitsBehind, ends_word, ends_command}
 use Rattle.uci_text.specs.Piece.{Piece}
 use Rattle.uci_text.specs.Word.{Spaced, IsWord, IsSpaced, word_text, word_value, spaced_text}
-use Rattle.uci_text.specs.Command.{Command}
 use Rattle.uci_text.specs.Open.{IsLoose, open_text}
 use Rattle.uci_text.specs.Found.{BeginsOutside, TakesWord, IsOpenWord, TakesCommand, HasNoEnd}
 use Rattle.uci_text.proofs.ClassLemmas.{each-append}

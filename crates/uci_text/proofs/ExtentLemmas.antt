@@ -11,7 +11,7 @@ use Rattle.uci_text.specs.ByteClass.{is_in, AllIn, IsAtEndOr, SplitsBehind, newl
 use Rattle.uci_text.specs.Command.{command_text, SpellsCommand}
 use Rattle.uci_text.specs.Open.{Open, open_single, open_double, open_pair, last_backslash, open_text, IsOpenCommand, ended, unended}
 use Rattle.uci_text.specs.Fault.{HasFault, zero_byte, no_end}
-use Rattle.uci_text.specs.Found.{stop_of, TakesCommand, HasNoEnd, TakesGap, ReadsExtent, RefusesExtent, ReadsGap, RefusesGap}
+use Rattle.uci_text.specs.Found.{stop_of, TakesCommand, HasNoEnd, TakesGap, ReadsExtent, RefusesExtent, RefusesGap}
 use Rattle.uci_text.proofs.ClassLemmas.{has_some}
 
 is_zero : (byte : ℕ) → not (is_in NotZero byte) ≡ true → byte ≡ 0

@@ -1,11 +1,11 @@
 -- Faults: no command has one that ended and has no zero byte, and a text has one first fault.
-use Rattle.std.proofs.Common.{ℕ, ◌≡◌, ◌<◌, ◌+◌, ◌-◌, List, [], ◌∷◌, ◌++◌, length, map, Bool, true, false, not, Option, Some, None, arith, sym, refl, subst, ap, ◌∙◌, append_assoc, length-append, nat_eq, ◌⊎◌, inl, inr}
+use Rattle.std.proofs.Common.{ℕ, ◌≡◌, ◌<◌, ◌+◌, ◌-◌, List, [], ◌∷◌, ◌++◌, length, Bool, true, false, not, None, arith, sym, refl, subst, ap, ◌∙◌, append_assoc, length-append, nat_eq, ◌⊎◌, inl, inr}
 use Rattle.std.specs.List.{AllByRecursion, flat_map, concat}
 use Rattle.std.proofs.lemmas.List.{append-nil}
 use Rattle.std.proofs.lemmas.Bool.Decides.{nat_tests}
 use Rattle.uci_text.specs.declared.line.Line.{Line}
 use Rattle.uci_text.specs.declared.text_error.TextError.{TextError}
-use Rattle.uci_text.specs.declared.text_error.TextError.TheVariants.{BadWord, OpenQuote}
+use Rattle.uci_text.specs.declared.text_error.TextError.TheVariants.{BadWord}
 use Rattle.uci_text.specs.declared.byte_class.ByteClass.TheVariants.{Space, NotZero, Blank}
 use Rattle.uci_text.specs.ByteClass.{is_in, AllIn, IsAtEndOr, newlines, is_space, ends_command, ends_word}
 use Rattle.uci_text.specs.Piece.{Piece, IsPiece, piece_text}
@@ -14,10 +14,10 @@ use Rattle.uci_text.specs.Gap.{Filler, blank, comment, gap_text, AreFillers, IsG
 use Rattle.uci_text.specs.Command.{SpellsCommand}
 use Rattle.uci_text.specs.Open.{Open, open_single, open_double, open_pair, last_backslash, open_text, IsOpen, IsLoose, IsOpenCommand, IsExtent, ended, unended, AreExtents, AreFirst}
 use Rattle.uci_text.specs.Text.{Spells}
-use Rattle.uci_text.specs.Fault.{open_error, HasFault, zero_byte, no_end, IsFaultless, IsFirstFault}
+use Rattle.uci_text.specs.Fault.{open_error, HasFault, zero_byte, no_end, IsFreeOf, IsFirstFault}
 use Rattle.uci_text.specs.Found.{BeginsOutside}
-use Rattle.uci_text.proofs.ClassLemmas.{all_in-append, all_in-left, all_in-right}
-use Rattle.uci_text.proofs.RunLemmas.{Mode, in_gap, in_command, Outcome, read, fault, run, add, line_of, finished, begun, blank_runs, gap_runs, command_begins, command_runs, space_step, piece_begins, piece_runs, open_runs, newlines-append, reading_runs}
+use Rattle.uci_text.proofs.ClassLemmas.{all_in-append, all_in-right}
+use Rattle.uci_text.proofs.RunLemmas.{Mode, in_gap, in_command, Outcome, read, fault, run, add, line_of, finished, blank_runs, gap_runs, command_begins, command_runs, space_step, piece_begins, piece_runs, open_runs, newlines-append, reading_runs}
 
 -- the machine is between commands or in one
 abbrev IsOutside : Mode → Type 0
@@ -144,11 +144,11 @@ no_zero extent before behind c e =
     let n : false ≡ true = h.0 in
     cc
 
-pub command_faultless : (extent behind : List ℕ) (words : List (List ℕ)) → SpellsCommand extent behind words → AllIn NotZero extent → IsFaultless extent
+pub command_faultless : (extent behind : List ℕ) (words : List (List ℕ)) → SpellsCommand extent behind words → AllIn NotZero extent → IsFreeOf HasFault extent
 command_faultless extent behind words s c number error (zero_byte before more w k e) = no_zero extent before more c w
 command_faultless extent behind words s c number error (no_end before o d h e) = no_both _ _ (run 0 in_gap extent) (command_read extent behind words s) (open_refused 0 extent before o h)
 
-pub gap_faultless : (gap behind : List ℕ) → IsGap gap behind → AllIn NotZero gap → IsFaultless gap
+pub gap_faultless : (gap behind : List ℕ) → IsGap gap behind → AllIn NotZero gap → IsFreeOf HasFault gap
 gap_faultless gap behind g c number error (zero_byte before more w k e) = no_zero gap before more c w
 gap_faultless gap behind g c number error (no_end before o d h e) = no_both _ _ (run 0 in_gap gap) (gap_read gap behind g) (open_refused 0 gap before o h)
 
@@ -171,10 +171,10 @@ zero_or_none (b ∷ bytes) = go (nat_eq b 0) refl (zero_or_none bytes)
     go false e (inl c) = inl (ap not e, c)
     go false e (inr z) = inr (record { before = b ∷ z.before; behind = z.behind; whole = ap (λ (x : List ℕ). b ∷ x) z.whole; clean = (ap not e, z.clean) })
 
-faultless_clean : (extent : List ℕ) → IsFaultless extent → AllIn NotZero extent
+faultless_clean : (extent : List ℕ) → IsFreeOf HasFault extent → AllIn NotZero extent
 faultless_clean extent h = elim (zero_or_none extent) [ inl c ↦ c | inr z ↦ absurd (h 0 (BadWord (0 + newlines z.before)) (zero_byte z.before z.behind z.whole z.clean refl)) ]
 
-all_clean : (good : List (List ℕ)) → AllByRecursion IsFaultless good → AllIn NotZero (concat good)
+all_clean : (good : List (List ℕ)) → AllByRecursion (λ extent. IsFreeOf HasFault extent) good → AllIn NotZero (concat good)
 all_clean [] h = tt
 all_clean (extent ∷ good) h = all_in-append NotZero extent (concat good) (faultless_clean extent h.0) (all_clean good h.1)
 
@@ -249,7 +249,7 @@ verdict text error f = go f.fault
         let number : newlines (concat f.good) + 1 + newlines before ≡ newlines (concat f.good ++ before) + 1 = omega arith in
         zero_first (concat f.good ++ before) (behind ++ f.behind)
         (f.whole ∙ ap (λ (z : List ℕ). concat f.good ++ z ++ f.behind) w ∙ simp append_assoc)
-        (all_in-append NotZero (concat f.good) before (all_clean f.good f.faultless) c)
+        (all_in-append NotZero (concat f.good) before (all_clean f.good f.free) c)
         (e ∙ ap BadWord number)
     go (no_end before o c h e) =
         let last : f.behind ≡ [] = first_behind f.good f.bad f.behind before o f.extents h in
@@ -262,7 +262,7 @@ verdict text error f = go f.fault
         let number : newlines text + 1 - newlines (open_text o) ≡ newlines (concat f.good) + 1 + newlines before = omega arith in
         let r : run top in_gap f.bad ≡ fault error = open_refused top f.bad before o h ∙ ap (λ (z : ℕ). fault (open_error o z)) number ∙ ap fault (sym e) in
         open_last
-        (subst Q (sym w) (all_in-append NotZero (concat f.good) f.bad (all_clean f.good f.faultless) c))
+        (subst Q (sym w) (all_in-append NotZero (concat f.good) f.bad (all_clean f.good f.free) c))
         (ap (λ (z : List ℕ). run top in_gap z) w ∙ first_refused top f.good f.bad before o error (subst P last f.extents) h r)
 
 -- the first zero byte is one

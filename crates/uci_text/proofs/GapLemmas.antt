@@ -1,12 +1,11 @@
 -- Gaps between commands.
-use Rattle.std.proofs.Common.{ℕ, ◌≡◌, ◌≢◌, ◌<◌, ◌+◌, List, [], ◌∷◌, ◌++◌, length, true, false, not, arith, sym, refl, subst, ap, ◌∙◌, append_assoc, length-append, nat_eq}
-use Rattle.std.specs.List.{flat_map}
+use Rattle.std.proofs.Common.{ℕ, ◌≡◌, ◌≢◌, List, [], ◌∷◌, ◌++◌, true, not, arith, sym, refl, subst, ap, ◌∙◌, append_assoc, nat_eq}
 use Rattle.std.proofs.lemmas.List.{append-nil}
 use Rattle.std.proofs.lemmas.List.Concat.{flat_map-append}
 use Rattle.std.proofs.lemmas.Bool.Decides.{nat_tests}
 use Rattle.uci_text.specs.declared.byte_class.ByteClass.TheVariants.{Blank, InLine}
-use Rattle.uci_text.specs.ByteClass.{is_in, AllIn, IsAtEndOr, SplitsBehind, ends_word}
-use Rattle.uci_text.specs.Gap.{Filler, blank, comment, filler_text, gap_text, AreFillers, IsGap}
+use Rattle.uci_text.specs.ByteClass.{is_in, IsAtEndOr, SplitsBehind, ends_word}
+use Rattle.uci_text.specs.Gap.{Filler, blank, comment, filler_text, gap_text, AreFillers}
 use Rattle.uci_text.specs.Found.{TakesGap}
 
 -- the fillers so far

@@ -9,3 +9,4 @@ pub mod RunLemmas
 pub mod FaultLemmas
 pub mod ReadLemmas
 pub mod TotalLemmas
+pub mod WordsLemmas

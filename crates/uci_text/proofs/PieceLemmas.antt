@@ -1,15 +1,15 @@
 -- Pieces: what stands between double quotes, and open pieces.
-use Rattle.std.proofs.Common.{ℕ, ◌≡◌, ◌≢◌, ◌<◌, ◌+◌, List, [], ◌∷◌, ◌++◌, length, true, false, not, arith, sym, refl, subst, ap, ◌∙◌, append_assoc, length-append, nat_eq}
+use Rattle.std.proofs.Common.{ℕ, ◌≡◌, ◌≢◌, ◌<◌, ◌+◌, List, [], ◌∷◌, ◌++◌, length, true, false, not, arith, sym, refl, subst, ap, ◌∙◌, append_assoc}
 use Rattle.std.specs.List.{AllByRecursion, flat_map}
 use Rattle.std.proofs.lemmas.List.{append-nil}
 use Rattle.std.proofs.lemmas.List.Concat.{flat_map-append}
 use Rattle.std.proofs.lemmas.Bool.Decides.{nat_tests}
 use Rattle.uci_text.specs.declared.stop.Stop.{Stop}
-use Rattle.uci_text.specs.declared.stop.Stop.TheVariants.{Quote, Backslash}
+use Rattle.uci_text.specs.declared.stop.Stop.TheVariants.{Quote}
 use Rattle.uci_text.specs.declared.byte_class.ByteClass.TheVariants.{Quotable, DoubleQuotable, Plain}
-use Rattle.uci_text.specs.ByteClass.{is_in, AllIn, IsAtEndOr, SplitsBehind, ends_word}
-use Rattle.uci_text.specs.Piece.{Inner, kept, pair, inner_text, inner_value, IsInner, Piece, plain, escaped, single, double, escaped_value}
-use Rattle.uci_text.specs.Open.{open_single, open_double, open_pair, last_backslash}
+use Rattle.uci_text.specs.ByteClass.{is_in, IsAtEndOr, SplitsBehind, ends_word}
+use Rattle.uci_text.specs.Piece.{Inner, kept, pair, inner_text, inner_value, IsInner, plain, escaped, single, double, escaped_value}
+use Rattle.uci_text.specs.Open.{open_single, open_double, open_pair}
 use Rattle.uci_text.specs.Found.{BeginsOutside, TakesPiece, IsOpenPiece}
 use Rattle.uci_text.proofs.ClassLemmas.{each-append}
 

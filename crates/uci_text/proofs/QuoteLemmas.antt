@@ -1,5 +1,5 @@
 -- A quoted value is a word that spells it.
-use Rattle.std.proofs.Common.{ℕ, ◌≡◌, ◌<◌, List, [], ◌∷◌, ◌++◌, length, Bool, true, false, not, cond, arith, sym, refl, subst, ap, ◌∙◌, append_assoc, nat_eq}
+use Rattle.std.proofs.Common.{ℕ, ◌≡◌, List, [], ◌∷◌, ◌++◌, Bool, true, false, not, cond, arith, sym, refl, subst, ap, ◌∙◌, append_assoc, nat_eq}
 use Rattle.std.specs.List.{flat_map}
 use Rattle.std.proofs.lemmas.List.{append-nil}
 use Rattle.std.proofs.lemmas.Bool.Decides.{nat_tests}

@@ -9,10 +9,9 @@ use Rattle.uci_text.specs.declared.byte_class.ByteClass.TheVariants.{NotZero}
 use Rattle.uci_text.specs.ByteClass.{AllIn, IsAtEndOr, newlines, ends_word}
 use Rattle.uci_text.specs.Word.{word_text, spaced_text}
 use Rattle.uci_text.specs.Gap.{IsGap}
-use Rattle.uci_text.specs.Command.{SpellsCommand}
 use Rattle.uci_text.specs.Open.{IsExtent, ended, AreExtents}
 use Rattle.uci_text.specs.Text.{SpellsLines, Spells}
-use Rattle.uci_text.specs.Fault.{HasFault, IsFaultless, IsFirstFault}
+use Rattle.uci_text.specs.Fault.{HasFault, IsFreeOf, IsFirstFault}
 use Rattle.uci_text.specs.Found.{BeginsOutside, ReadsExtent, RefusesExtent, ReadsGap, RefusesGap}
 use Rattle.uci_text.proofs.ClassLemmas.{all_in-append, each-append, has_some}
 use Rattle.uci_text.proofs.WordLemmas.{word_length}
@@ -27,8 +26,8 @@ pub record ReadSoFar (text rest : List ℕ) (number : ℕ) (lines : List Line) :
   pub clean : AllIn NotZero (gap ++ concat extents)
   pub gap_is : IsGap gap (concat extents ++ rest)
   pub extents_are : AreExtents extents rest
-  pub gap_good : IsFaultless gap
-  pub good : AllByRecursion IsFaultless extents
+  pub gap_good : IsFreeOf HasFault gap
+  pub good : AllByRecursion (λ extent. IsFreeOf HasFault extent) extents
   pub number_is : number ≡ newlines (gap ++ concat extents) + 1
   pub spelled : (more : List Line) → SpellsLines number rest more → SpellsLines (newlines gap + 1) (concat extents ++ rest) (lines ++ more)
   pub begins : IsAtEndOr (λ byte. not (ends_word byte)) rest
@@ -84,7 +83,7 @@ read_more text rest behind number next lines line r e =
       gap_is = subst P shift r.gap_is;
       extents_are = extents-push r.extents e.extent behind rest e.whole r.extents_are (ended line.words e.spelled);
       gap_good = r.gap_good;
-      good = each-append IsFaultless r.extents (e.extent ∷ []) r.good (command_faultless e.extent behind line.words e.spelled e.clean, tt);
+      good = each-append (λ extent. IsFreeOf HasFault extent) r.extents (e.extent ∷ []) r.good (command_faultless e.extent behind line.words e.spelled e.clean, tt);
       number_is = omega arith;
       spelled = λ more h. goes_on shift more h;
       begins = e.spelled.gap_is.next;
@@ -121,12 +120,12 @@ read_refused text rest number lines error r f =
       behind = f.behind;
       whole = r.whole ∙ ap (λ (z : List ℕ). (r.gap ++ concat r.extents) ++ z) f.whole ∙ sym (append_assoc (r.gap ++ concat r.extents) f.extent f.behind);
       extents = (subst Q (moved r.extents f.extent f.behind rest f.whole) r.gap_is, extents-push r.extents f.extent f.behind rest f.whole r.extents_are f.is);
-      faultless = (r.gap_good, r.good);
+      free = (r.gap_good, r.good);
       fault = subst P r.number_is f.fault;
     }
 
 pub gap_refused : (text : List ℕ) (error : TextError) → RefusesGap text error → IsFirstFault text error
-gap_refused text error f = record { good = []; bad = f.gap; behind = f.behind; whole = f.whole; extents = (f.is, tt); faultless = tt; fault = f.fault }
+gap_refused text error f = record { good = []; bad = f.gap; behind = f.behind; whole = f.whole; extents = (f.is, tt); free = tt; fault = f.fault }
 
 -- the line's number and what is left stay within the bounds of the text
 pub read_fits : (text rest : List ℕ) (number : ℕ) (lines : List Line) → ReadSoFar text rest number lines → length text < 4294967295 → number + length rest < 4294967296

@@ -1,7 +1,7 @@
 -- One machine runs over every text, byte by byte. What a reading is of, it reads; what has a fault, it refuses: so a
 -- text has one reading or one fault.
-use Rattle.std.proofs.Common.{ℕ, ◌≡◌, ◌<◌, ◌≤◌, ◌+◌, ◌-◌, List, [], ◌∷◌, ◌++◌, length, map, Bool, true, false, not, cond, Option, Some, None, arith, sym, refl, subst, ap, ◌∙◌, append_assoc, length-append, nat_eq, ◌⊎◌, inl, inr}
-use Rattle.std.specs.Prelude.{if◌then◌else◌, ◌||◌}
+use Rattle.std.proofs.Common.{ℕ, ◌≡◌, ◌<◌, ◌+◌, ◌-◌, List, [], ◌∷◌, ◌++◌, length, map, Bool, true, false, not, cond, Option, Some, None, arith, sym, refl, subst, ap, ◌∙◌, append_assoc, nat_eq, ◌⊎◌, inl, inr}
+use Rattle.std.specs.Prelude.{if◌then◌else◌}
 use Rattle.std.specs.List.{AllByRecursion, flat_map}
 use Rattle.std.proofs.lemmas.List.{append-nil}
 use Rattle.std.proofs.lemmas.List.Sums.{sum_by-append}
@@ -13,9 +13,9 @@ use Rattle.uci_text.specs.declared.byte_class.ByteClass.TheVariants.{Space, Blan
 use Rattle.uci_text.specs.ByteClass.{is_in, AllIn, IsAtEndOr, newlines, is_space, is_separator, ends_command, ends_word}
 use Rattle.uci_text.specs.Piece.{Inner, kept, pair, inner_text, inner_value, IsInner, Piece, plain, escaped, single, double, piece_text, piece_value, IsPiece, escaped_value}
 use Rattle.uci_text.specs.Word.{Spaced, IsWord, IsSpaced, word_text, word_value, spaced_text}
-use Rattle.uci_text.specs.Gap.{Filler, blank, comment, filler_text, gap_text, AreFillers, IsGap}
-use Rattle.uci_text.specs.Command.{Command, command_text, command_words, SpellsCommand}
-use Rattle.uci_text.specs.Open.{Open, open_single, open_double, open_pair, last_backslash, open_text, IsOpen, IsLoose, IsOpenCommand}
+use Rattle.uci_text.specs.Gap.{Filler, blank, comment, gap_text, AreFillers, IsGap}
+use Rattle.uci_text.specs.Command.{Command, SpellsCommand}
+use Rattle.uci_text.specs.Open.{Open, open_single, open_double, open_pair, last_backslash, open_text, IsOpen}
 use Rattle.uci_text.specs.Text.{SpellsLines, Spells}
 use Rattle.uci_text.specs.Fault.{open_error}
 use Rattle.uci_text.specs.Found.{BeginsOutside}

@@ -1,6 +1,6 @@
 -- Every text has a reading or a first fault.
-use Rattle.std.proofs.Common.{ℕ, zero, suc, ◌≡◌, ◌≢◌, ◌<◌, ◌≤◌, ◌+◌, List, [], ◌∷◌, ◌++◌, length, Bool, true, false, not, arith, sym, refl, subst, ap, ◌∙◌, append_assoc, length-append, nat_eq, ◌⊎◌, inl, inr}
-use Rattle.std.proofs.lemmas.List.{append-nil, nil_from_length}
+use Rattle.std.proofs.Common.{ℕ, zero, suc, ◌≡◌, ◌≢◌, ◌<◌, ◌≤◌, ◌+◌, List, [], ◌∷◌, ◌++◌, length, Bool, true, false, not, arith, sym, refl, subst, ap, ◌∙◌, length-append, nat_eq, ◌⊎◌, inl, inr}
+use Rattle.std.proofs.lemmas.List.{append-nil}
 use Rattle.std.proofs.lemmas.Bool.Decides.{nat_tests}
 use Rattle.uci_text.specs.declared.line.Line.{Line}
 use Rattle.uci_text.specs.declared.stop.Stop.{Stop}
@@ -10,11 +10,11 @@ use Rattle.uci_text.specs.declared.text_error.TextError.TheVariants.{BadWord}
 use Rattle.uci_text.specs.declared.byte_class.ByteClass.{ByteClass}
 use Rattle.uci_text.specs.declared.byte_class.ByteClass.TheVariants.{Space, Blank, InLine, Plain, Quotable, DoubleQuotable, NotZero}
 use Rattle.uci_text.specs.ByteClass.{is_in, AllIn, IsAtEndOr, SplitsBehind, newlines, ends_word, ends_command}
-use Rattle.uci_text.specs.Piece.{kept, pair, escaped_value}
+use Rattle.uci_text.specs.Piece.{kept, escaped_value}
 use Rattle.uci_text.specs.Open.{last_backslash}
 use Rattle.uci_text.specs.Text.{Spells}
 use Rattle.uci_text.specs.Fault.{open_error, HasFault, no_end, IsFirstFault}
-use Rattle.uci_text.specs.Found.{BeginsOutside, TakesPiece, IsOpenPiece, TakesWord, IsOpenWord, TakesCommand, HasNoEnd, TakesGap, ReadsExtent, RefusesExtent, ReadsGap, RefusesGap}
+use Rattle.uci_text.specs.Found.{BeginsOutside, TakesPiece, IsOpenPiece, TakesWord, IsOpenWord, TakesCommand, HasNoEnd, TakesGap, ReadsExtent, RefusesExtent}
 use Rattle.uci_text.proofs.PieceLemmas.{DoubleSoFar, double_none, double_more, double_pair, double_closes, double_open, double_open_pair, single_takes, single_open, escaped_takes, plain_takes}
 use Rattle.uci_text.proofs.WordLemmas.{WordSoFar, WordThrough, word_none, word_more, word_done, word_open, piece_shortens, word_shortens}
 use Rattle.uci_text.proofs.GapLemmas.{GapSoFar, gap_none, gap_blank, gap_comment, gap_done, gap_ends}

@@ -1,11 +1,11 @@
 -- Words.
-use Rattle.std.proofs.Common.{ℕ, ◌≡◌, ◌<◌, ◌+◌, List, [], ◌∷◌, ◌++◌, length, arith, sym, refl, subst, ap, ◌∙◌, append_assoc, length-append}
-use Rattle.std.specs.List.{AllByRecursion, flat_map}
+use Rattle.std.proofs.Common.{ℕ, ◌≡◌, ◌<◌, ◌+◌, List, [], ◌∷◌, ◌++◌, length, arith, sym, refl, ap, ◌∙◌, append_assoc, length-append}
+use Rattle.std.specs.List.{AllByRecursion}
 use Rattle.std.proofs.lemmas.List.{append-nil}
 use Rattle.std.proofs.lemmas.List.Concat.{flat_map-append}
 use Rattle.uci_text.specs.declared.stop.Stop.{Stop}
 use Rattle.uci_text.specs.ByteClass.{IsAtEndOr, ends_word}
-use Rattle.uci_text.specs.Piece.{Piece, plain, escaped, single, double, piece_text, piece_value, IsPiece, inner_text}
+use Rattle.uci_text.specs.Piece.{Piece, plain, escaped, single, double, piece_text, piece_value, IsPiece}
 use Rattle.uci_text.specs.Word.{IsWord, word_text, word_value}
 use Rattle.uci_text.specs.Found.{TakesPiece, IsOpenPiece, TakesWord, IsOpenWord}
 use Rattle.uci_text.proofs.ClassLemmas.{each-append}

@@ -1,5 +1,5 @@
 -- The classes of bytes that UCI text is made of (OpenWrt's UCI file syntax).
-use Rattle.std.specs.Prelude.{ℕ, ◌≡◌, ◌+◌, List, [], ◌∷◌, ◌++◌, Bool, false, IsTrue, not, ◌||◌, nat_eq}
+use Rattle.std.specs.Prelude.{ℕ, ◌≡◌, List, [], ◌∷◌, ◌++◌, Bool, IsTrue, not, ◌||◌, nat_eq}
 use Rattle.std.specs.List.{AllByRecursion, count_by}
 use Rattle.uci_text.specs.declared.byte_class.ByteClass.{ByteClass}
 use Rattle.uci_text.specs.declared.byte_class.ByteClass.TheVariants.{Space, Blank, InLine, Plain, Quotable, DoubleQuotable, NotZero}

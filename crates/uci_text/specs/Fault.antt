@@ -20,16 +20,20 @@ pub data HasFault (number : ℕ) (extent : List ℕ) (error : TextError) : Type 
   zero_byte : (before behind : List ℕ) → extent ≡ before ++ 0 ∷ behind → AllIn NotZero before → error ≡ BadWord (number + newlines before) → HasFault number extent error
   no_end : (before : List ℕ) (open' : Open) → AllIn NotZero extent → IsOpenCommand extent before open' → error ≡ open_error open' (number + newlines before) → HasFault number extent error
 
--- the extent has no fault
-abbrev pub IsFaultless : List ℕ → Type 0
-IsFaultless extent = (number : ℕ) (error : TextError) → HasFault number extent error → ⊥
+-- the extent has no such fault, on whatever line it begins
+abbrev pub IsFreeOf : (ℕ → List ℕ → TextError → Type 0) → List ℕ → Type 0
+IsFreeOf Has extent = (number : ℕ) (error : TextError) → Has number extent error → ⊥
 
--- the first command of the text that has a fault has this one
-pub record IsFirstFault (text : List ℕ) (error : TextError) : Type 0 where
+-- of the commands of the text that have such a fault, the first one has this fault
+pub record IsFirstOf (Has : ℕ → List ℕ → TextError → Type 0) (text : List ℕ) (error : TextError) : Type 0 where
   pub good : List (List ℕ)
   pub bad : List ℕ
   pub behind : List ℕ
   pub whole : text ≡ concat good ++ bad ++ behind
   pub extents : AreFirst (good ++ bad ∷ []) behind
-  pub faultless : AllByRecursion IsFaultless good
-  pub fault : HasFault (newlines (concat good) + 1) bad error
+  pub free : AllByRecursion (λ extent. IsFreeOf Has extent) good
+  pub fault : Has (newlines (concat good) + 1) bad error
+
+-- the first fault of the text
+abbrev pub IsFirstFault : List ℕ → TextError → Type 0
+IsFirstFault text error = IsFirstOf HasFault text error

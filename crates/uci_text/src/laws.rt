@@ -1,4 +1,4 @@
-ghost use Rattle.std.specs.Prelude.{◌≡◌, ◌⊎◌, List, ℕ};
+ghost use Rattle.std.specs.Prelude.{◌≡◌, ◌⊎◌, ◌<◌, List, ℕ, length, All};
 ghost use Rattle.uci_text.specs.declared.line.Line.{Line};
 ghost use Rattle.uci_text.specs.declared.text_error.TextError.{TextError as Fault};
 ghost use Rattle.uci_text.specs.Text.{Spells};
@@ -22,4 +22,9 @@ pub fn no_reading_with_fault()
 /// A text has a reading or a first fault: so it has a reading exactly where it has no fault.
 pub fn reading_or_fault()
     ensures { (text : List ℕ) → ((lines : List Line) × Spells text lines) ⊎ ((error : Fault) × IsFirstFault text error) }
+{}
+
+/// Each line of a reading has a word.
+pub fn lines_have_words()
+    ensures { (text : List ℕ) (lines : List Line) → Spells text lines → All (λ line. 0 < length line.words) lines }
 {}

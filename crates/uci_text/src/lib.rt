@@ -16,7 +16,7 @@ mod tests;
 mod text_error;
 mod word;
 
-pub use laws::{no_reading_with_fault, one_fault, one_reading, reading_or_fault};
+pub use laws::{lines_have_words, no_reading_with_fault, one_fault, one_reading, reading_or_fault};
 pub use line::Line;
 pub use quote::quote_into;
 pub use read::read_lines;

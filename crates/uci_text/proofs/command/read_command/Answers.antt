@@ -1,4 +1,4 @@
-use Rattle.std.proofs.Common.{◌≡◌, ◌∷◌, ◌++◌, [], Err, ap}
+use Rattle.std.proofs.Common.{◌≡◌, Err, ap}
 use Rattle.std.proofs.lemmas.Result.{err_from_is_err_and}
 use Rattle.uci_text.proofs.CommandLemmas.{next_word, next_more, command_done, command_open}
 use Rattle.uci_text.proofs.command.read_command.Goals as goal

@@ -1,6 +1,6 @@
-use Rattle.std.proofs.Common.{◌≡◌, ◌≢◌, refl, subst}
+use Rattle.std.proofs.Common.{◌≢◌, refl, subst}
 use Rattle.uci_text.specs.declared.stop.Stop.{Stop}
-use Rattle.uci_text.specs.declared.stop.Stop.TheVariants.{Quote, Backslash, Memory}
+use Rattle.uci_text.specs.declared.stop.Stop.TheVariants.{Memory}
 use Rattle.uci_text.specs.Found.{HasNoEnd}
 use Rattle.uci_text.proofs.ExtentLemmas.{open_fault, backslash_fault}
 use Rattle.uci_text.proofs.extent.fault_of.Goals as goal

@@ -1,5 +1,5 @@
 use Rattle.std.proofs.lemmas.List.{nil_from_length}
-use Rattle.uci_text.proofs.GapLemmas.{gap_none, gap_blank, gap_comment, gap_done, gap_ends}
+use Rattle.uci_text.proofs.GapLemmas.{gap_blank, gap_comment, gap_done, gap_ends}
 use Rattle.uci_text.proofs.gap.behind_gap.Goals as goal
 
 pub returns-in_default : goal.returns-in_default
