@@ -112,10 +112,10 @@ fillers-alone [] behind h = tt
 fillers-alone (blank bytes ∷ fillers) behind h = (h.0, fillers-alone fillers behind h.1)
 fillers-alone (comment bytes ∷ fillers) behind h = (h.0, at_end-left (λ byte. nat_eq byte 10) (gap_text fillers) behind h.1, fillers-alone fillers behind h.2)
 
-gap-alone : (gap behind : List ℕ) → IsGap gap behind → IsGap gap []
+pub gap-alone : (gap behind : List ℕ) → IsGap gap behind → IsGap gap []
 gap-alone gap behind g = record { fillers = g.fillers; whole = g.whole; each = fillers-alone g.fillers behind g.each; next = tt }
 
-command-alone : (extent behind : List ℕ) (words : List (List ℕ)) → SpellsCommand extent behind words → SpellsCommand extent [] words
+pub command-alone : (extent behind : List ℕ) (words : List (List ℕ)) → SpellsCommand extent behind words → SpellsCommand extent [] words
 command-alone extent behind words s = record {
   command = s.command;
   gap = s.gap;

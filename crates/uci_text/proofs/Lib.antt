@@ -10,3 +10,4 @@ pub mod FaultLemmas
 pub mod ReadLemmas
 pub mod TotalLemmas
 pub mod WordsLemmas
+pub mod Examples
