@@ -1,3 +1,4 @@
+pub mod FirstForm
 pub mod NameLemmas
 pub mod DistinctLemmas
 pub mod StartLemmas

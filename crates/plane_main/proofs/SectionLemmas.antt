@@ -12,12 +12,12 @@ use Rattle.net_addr.specs.Mask.{mask_octets}
 use Rattle.net_addr.specs.Spelling.{Spells}
 use Rattle.net_addr.proofs.SpellingLemmas.{Spells_unique, Spells-addr_text}
 use Rattle.net_addr.proofs.MaskLemmas.{mask_length_unique}
-use Rattle.uci_text.specs.declared.line.Line.{Line}
+use Rattle.plane_main.specs.declared.first_form.line.Line.{Line}
 use Rattle.plane_main.specs.declared.interface.Interface.{Interface}
 use Rattle.plane_main.specs.Form.{value_in, value_of, IsSection, AreSections, IsNetwork}
 use Rattle.plane_main.specs.Distinct.{AreDistinct}
-use Rattle.uci_text.specs.Text.{Spells as SpellsText, IsFirstBadLine}
-use Rattle.uci_text.proofs.TextLemmas.{reading_is_one, no_reading}
+use Rattle.plane_main.specs.FirstForm.Text.{Spells as SpellsText, IsFirstBadLine}
+use Rattle.plane_main.proofs.FirstForm.TextLemmas.{reading_is_one, no_reading}
 use Rattle.plane_main.proofs.DistinctLemmas.{distinct_behind}
 use Rattle.plane_main.specs.Options.{words_of, GivesCidr}
 

@@ -7,8 +7,8 @@ use Rattle.net_addr.specs.Octets.{AreOctets}
 use Rattle.net_addr.specs.Printed.{v4_text}
 use Rattle.net_addr.specs.Mask.{mask_octets}
 use Rattle.net_addr.specs.declared.address.Addr.TheVariants as family
-use Rattle.uci_text.specs.declared.line.Line.{Line}
-use Rattle.uci_text.specs.Text.{Spells}
+use Rattle.plane_main.specs.declared.first_form.line.Line.{Line}
+use Rattle.plane_main.specs.FirstForm.Text.{Spells}
 use Rattle.plane_main.specs.declared.interface.Interface.{Interface}
 use Rattle.plane_main.specs.Distinct.{AreDistinct}
 use Rattle.plane_main.specs.Words.{IsPlainName}

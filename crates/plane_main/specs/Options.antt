@@ -5,7 +5,7 @@ use Rattle.net_addr.specs.Printed.{v4_text}
 use Rattle.net_addr.specs.Mask.{mask_octets}
 use Rattle.net_addr.specs.declared.address.Addr.{Addr}
 use Rattle.net_addr.specs.declared.address.Addr.TheVariants as family
-use Rattle.uci_text.specs.declared.line.Line.{Line}
+use Rattle.plane_main.specs.declared.first_form.line.Line.{Line}
 use Rattle.plane_main.specs.Form.{value_of}
 use Rattle.plane_main.specs.Words.{IsPlainName}
 

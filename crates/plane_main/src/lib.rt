@@ -3,6 +3,7 @@
 
 mod bring_up;
 mod ending;
+mod first_form;
 mod interface;
 mod laws;
 mod locations;

@@ -11,6 +11,7 @@ ghost use Rattle.plane_main.specs.Form as form;
 ghost use Rattle.plane_main.specs.Form.{IsSection, AreSections, IsNetwork};
 ghost use Rattle.plane_main.specs.Options.{words_of, GivesDevice, GivesCidr};
 
+use crate::first_form::{Line, TextError, read_lines};
 use crate::interface::Interface;
 use crate::words::read_plain_name;
 use kern_model::DevName;
@@ -18,7 +19,6 @@ use net_addr::{Addr, Cidr, V4, mask_length, read_addr};
 use plane_io::{Memory, Text};
 use std::alloc::Global;
 use std::collections::BTreeSet;
-use uci_text::{Line, TextError, read_lines};
 
 /// How many lines the section of an interface has.
 const SECTION: usize = 5;

@@ -1,5 +1,13 @@
 pub mod ClassLemmas
+pub mod PieceLemmas
 pub mod WordLemmas
-pub mod LineLemmas
-pub mod TextLemmas
-pub mod KeptLemmas
+pub mod GapLemmas
+pub mod CommandLemmas
+pub mod ExtentLemmas
+pub mod QuoteLemmas
+pub mod RunLemmas
+pub mod FaultLemmas
+pub mod ReadLemmas
+pub mod TotalLemmas
+pub mod WordsLemmas
+pub mod Examples

@@ -1,114 +1,82 @@
 -- Words.
-use Rattle.std.proofs.Common.{ℕ, ◌≡◌, ◌≢◌, ◌<◌, List, [], ◌∷◌, ◌++◌, length, true, false, arith, sym, refl, subst, ap, ◌∙◌, append_assoc, nat_eq}
+use Rattle.std.proofs.Common.{ℕ, ◌≡◌, ◌<◌, ◌+◌, List, [], ◌∷◌, ◌++◌, length, arith, sym, refl, ap, ◌∙◌, append_assoc, length-append}
+use Rattle.std.specs.List.{AllByRecursion}
 use Rattle.std.proofs.lemmas.List.{append-nil}
-use Rattle.uci_text.specs.declared.byte_class.ByteClass.TheVariants.{Plain, Quotable}
-use Rattle.uci_text.specs.ByteClass.{is_in, AllIn, BeginsOutside, SplitsBehind}
-use Rattle.uci_text.specs.FirstWord.{HasNoWord, BeginsWithOnly, ClosesQuote}
-use Rattle.uci_text.specs.Word.{SpellsWord, plain, quoted, EndsWord}
-use Rattle.uci_text.proofs.ClassLemmas.{has_none, one_split, blank_is_not_plain}
+use Rattle.std.proofs.lemmas.List.Concat.{flat_map-append}
+use Rattle.uci_text.specs.declared.stop.Stop.{Stop}
+use Rattle.uci_text.specs.ByteClass.{IsAtEndOr, ends_word}
+use Rattle.uci_text.specs.Piece.{Piece, plain, escaped, single, double, piece_text, piece_value, IsPiece}
+use Rattle.uci_text.specs.Word.{IsWord, word_text, word_value}
+use Rattle.uci_text.specs.Found.{TakesPiece, IsOpenPiece, TakesWord, IsOpenWord}
+use Rattle.uci_text.proofs.ClassLemmas.{each-append}
 
--- what ends a word is no plain byte
-pub ends_outside_plain : (behind : List ℕ) → EndsWord behind → BeginsOutside Plain behind
-ends_outside_plain [] h = tt
-ends_outside_plain (b ∷ bs) h = blank_is_not_plain b h
+pub piece_length : (piece : Piece) → IsPiece piece → 0 < length (piece_text piece)
+piece_length (plain run) p = p.0
+piece_length (escaped byte) p = omega arith
+piece_length (single bytes) p = omega arith
+piece_length (double inner) p = omega arith
 
--- a plain word is its value
-plain_front : (value behind word rest : List ℕ) → AllIn Plain value → AllIn Plain word → BeginsOutside Plain behind → BeginsOutside Plain rest → value ++ behind ≡ word ++ rest → (word ≡ value) × (rest ≡ behind)
-plain_front value behind word rest pv pw ov ow e =
-    let s = one_split Plain value word behind rest pv pw ov ow e in
-    (sym s.0, sym s.1)
+-- the pieces so far
+pub record WordSoFar (bytes rest value : List ℕ) : Type 0 where
+  pub pieces : List Piece
+  pub whole : bytes ≡ word_text pieces ++ rest
+  pub each : AllByRecursion IsPiece pieces
+  pub value_is : value ≡ word_value pieces
 
--- quotes end at the first quote
-pub quote_front : (value behind other rest : List ℕ) → AllIn Quotable value → AllIn Quotable other → value ++ 39 ∷ behind ≡ other ++ 39 ∷ rest → (other ≡ value) × (rest ≡ behind)
-quote_front value behind other rest pv po e =
-    let s : (value ≡ other) × (39 ∷ behind ≡ 39 ∷ rest) = one_split Quotable value other (39 ∷ behind) (39 ∷ rest) pv po refl refl e in
-    let tails : 39 ∷ behind ≡ 39 ∷ rest = s.1 in
-    let t : rest ≡ behind = cc in
-    (sym s.0, t)
+pub word_none : (bytes : List ℕ) → WordSoFar bytes bytes []
+word_none bytes = record { pieces = []; whole = refl; each = tt; value_is = refl }
 
--- a plain front is no quoted word
-not_both : (word behind other rest : List ℕ) → 0 < length word → AllIn Plain word → word ++ behind ≡ 39 ∷ other ++ rest → ⊥
-not_both [] behind other rest l p e = omega arith
-not_both (b ∷ word) behind other rest l p e =
-    let h : b ≡ 39 = cc in
-    let i : is_in Plain b ≡ true = p.0 in
-    let o : false ≡ true = ap (is_in Plain) (sym h) ∙ i in
-    cc
+-- one piece more: the word is one, and may go on
+pub record WordThrough (bytes rest value : List ℕ) : Type 0 where
+  pub so_far : WordSoFar bytes rest value
+  pub some : 0 < length so_far.pieces
 
-pub quoted_is : (value behind : List ℕ) → (39 ∷ value ++ 39 ∷ []) ++ behind ≡ 39 ∷ value ++ 39 ∷ behind
-quoted_is value behind = ap (λ (x : List ℕ). 39 ∷ x) (append_assoc value (39 ∷ []) behind)
+pub word_more : (bytes rest next old new : List ℕ) → WordSoFar bytes rest old → TakesPiece rest old new next → WordThrough bytes next new
+word_more bytes rest next old new r t =
+    let texts : word_text (r.pieces ++ t.piece ∷ []) ≡ word_text r.pieces ++ (piece_text t.piece ++ []) = flat_map-append piece_text r.pieces (t.piece ∷ []) in
+    let values : word_value (r.pieces ++ t.piece ∷ []) ≡ word_value r.pieces ++ (piece_value t.piece ++ []) = flat_map-append piece_value r.pieces (t.piece ∷ []) in
+    let size : length (r.pieces ++ t.piece ∷ []) ≡ length r.pieces + 1 = length-append r.pieces (t.piece ∷ []) in
+    record {
+      so_far = record {
+        pieces = r.pieces ++ t.piece ∷ [];
+        whole = r.whole ∙ ap (λ (z : List ℕ). word_text r.pieces ++ z) t.whole ∙ sym (ap (λ (z : List ℕ). z ++ next) texts ∙ simp (append_assoc, append-nil));
+        each = each-append IsPiece r.pieces (t.piece ∷ []) r.each (t.is, tt);
+        value_is = t.value ∙ ap (λ (z : List ℕ). z ++ piece_value t.piece) r.value_is ∙ sym (values ∙ simp append-nil);
+      };
+      some = omega arith;
+    }
 
--- the spelling of a value, if no plain byte follows a plain one, is the only word in front
-pub plain_takes : (bytes value behind : List ℕ) → 0 < length value → SplitsBehind Plain bytes value behind → BeginsWithOnly bytes value behind
-plain_takes bytes value behind l s = record {
-  word = value;
-  whole = s.whole;
-  spelled = plain refl l s.within;
-  only = λ other rest w. only_plain other rest w.word (sym s.whole ∙ w.whole) w.spelled w.ends;
+pub word_done : (bytes rest value text : List ℕ) → WordThrough bytes rest value → IsAtEndOr ends_word rest → text ≡ value → TakesWord bytes text rest
+word_done bytes rest value text t e is = record {
+  pieces = t.so_far.pieces;
+  whole = t.so_far.whole;
+  is = record { some = t.some; each = t.so_far.each };
+  value_is = is ∙ t.so_far.value_is;
+  end = e;
 }
-  where
-    only_plain : (other rest word : List ℕ) → value ++ behind ≡ word ++ rest → SpellsWord word other → EndsWord rest → (other ≡ value) × (rest ≡ behind)
-    only_plain other rest word e (plain is lw pw) ends =
-        let f = plain_front value behind word rest s.within pw s.outside (ends_outside_plain rest ends) e in
-        (sym is ∙ f.0, f.1)
-    only_plain other rest word e (quoted is pq) ends =
-        absurd (not_both value behind (other ++ 39 ∷ []) rest l s.within (e ∙ ap (λ (x : List ℕ). x ++ rest) is))
 
-pub quoted_takes : (bytes inside value behind : List ℕ) → bytes ≡ 39 ∷ inside → ClosesQuote inside value behind → BeginsWithOnly bytes value behind
-quoted_takes bytes inside value behind is h = record {
-  word = 39 ∷ value ++ 39 ∷ [];
-  whole = whole;
-  spelled = quoted refl h.within;
-  only = λ other rest w. only_quoted other rest w.word (sym whole ∙ w.whole) w.spelled;
-}
-  where
-    whole : bytes ≡ (39 ∷ value ++ 39 ∷ []) ++ behind
-    whole = is ∙ ap (λ (x : List ℕ). 39 ∷ x) h.whole ∙ sym (quoted_is value behind)
+pub word_open : (bytes rest value : List ℕ) (stop : Stop) → WordSoFar bytes rest value → IsOpenPiece rest stop → IsOpenWord bytes stop
+word_open bytes rest value stop r o = record { pieces = r.pieces; last = rest; whole = r.whole; each = r.each; last_is = o }
 
-    only_quoted : (other rest word : List ℕ) → (39 ∷ value ++ 39 ∷ []) ++ behind ≡ word ++ rest → SpellsWord word other → (other ≡ value) × (rest ≡ behind)
-    only_quoted other rest word e (plain w lw pw) = absurd (not_both word rest (value ++ 39 ∷ []) behind lw pw (sym e))
-    only_quoted other rest word e (quoted w pq) =
-        let both : 39 ∷ value ++ 39 ∷ behind ≡ 39 ∷ other ++ 39 ∷ rest = sym (quoted_is value behind) ∙ e ∙ ap (λ (x : List ℕ). x ++ rest) w ∙ quoted_is other rest in
-        let inner : value ++ 39 ∷ behind ≡ other ++ 39 ∷ rest = cc in
-        quote_front value behind other rest h.within pq inner
+pub piece_shortens : (bytes old new rest : List ℕ) → TakesPiece bytes old new rest → length rest < length bytes
+piece_shortens bytes old new rest t =
+    let l : 0 < length (piece_text t.piece) = piece_length t.piece t.is in
+    let e : length bytes ≡ length (piece_text t.piece ++ rest) = ap length t.whole in
+    let s : length (piece_text t.piece ++ rest) ≡ length (piece_text t.piece) + length rest = length-append (piece_text t.piece) rest in
+    omega arith
 
--- neither plain bytes nor a quote in front: no word
-pub no_plain : (bytes : List ℕ) → BeginsOutside Plain bytes → ((inside : List ℕ) → bytes ≡ 39 ∷ inside → ⊥) → HasNoWord bytes
-no_plain bytes o q value behind w = none w.word w.whole w.spelled
-  where
-    none : (word : List ℕ) → bytes ≡ word ++ behind → SpellsWord word value → ⊥
-    none [] e (plain is l p) = omega arith
-    none (b ∷ word) e (plain is l p) =
-        let P : List ℕ → Type 0 = λ z. BeginsOutside Plain z in
-        let out : is_in Plain b ≡ false = subst P e o in
-        let i : is_in Plain b ≡ true = p.0 in
-        let n : true ≡ false = sym i ∙ out in
-        cc
-    none word e (quoted is p) = q ((value ++ 39 ∷ []) ++ behind) (e ∙ ap (λ (x : List ℕ). x ++ behind) is)
+pub word_length : (pieces : List Piece) → IsWord pieces → 0 < length (word_text pieces)
+word_length [] w =
+    let n : 0 < length {A = Piece} [] = w.some in
+    absurd (omega arith)
+word_length (p ∷ pieces) w =
+    let l : 0 < length (piece_text p) = piece_length p w.each.0 in
+    let s : length (piece_text p ++ word_text pieces) ≡ length (piece_text p) + length (word_text pieces) = length-append (piece_text p) (word_text pieces) in
+    omega arith
 
--- a quote that is not closed: no word
-pub no_quoted : (bytes inside : List ℕ) → bytes ≡ 39 ∷ inside → ((value behind : List ℕ) → ClosesQuote inside value behind → ⊥) → HasNoWord bytes
-no_quoted bytes inside is q value behind w = none w.word w.whole w.spelled
-  where
-    none : (word : List ℕ) → bytes ≡ word ++ behind → SpellsWord word value → ⊥
-    none word e (plain w l p) = not_both word behind inside [] l p (sym e ∙ is ∙ ap (λ (x : List ℕ). 39 ∷ x) (sym (append-nil inside)))
-    none word e (quoted w p) =
-        let both : 39 ∷ inside ≡ 39 ∷ value ++ 39 ∷ behind = sym is ∙ e ∙ ap (λ (x : List ℕ). x ++ behind) w ∙ quoted_is value behind in
-        let inner : inside ≡ value ++ 39 ∷ behind = cc in
-        q value behind (record { whole = inner; within = p })
-
--- a spelling that is not ended is no word
-pub no_end_no_word : (bytes value behind : List ℕ) → BeginsWithOnly bytes value behind → (EndsWord behind → ⊥) → HasNoWord bytes
-no_end_no_word bytes value behind h endless other rest w = endless (subst EndsWord (h.only other rest w).1 w.ends)
-
--- no closing quote behind the quotable bytes
-pub no_close : (bytes front rest : List ℕ) → SplitsBehind Quotable bytes front rest → ((more : List ℕ) → rest ≢ 39 ∷ more) → (value behind : List ℕ) → ClosesQuote bytes value behind → ⊥
-no_close bytes front rest s open' value behind h =
-    let e = one_split Quotable front value rest (39 ∷ behind) s.within h.within s.outside refl (sym s.whole ∙ h.whole) in
-    open' behind e.1
-
-pub no_front : (bytes front rest : List ℕ) → nat_eq (length front) 0 ≡ true → SplitsBehind Plain bytes front rest → BeginsOutside Plain bytes
-no_front bytes front rest test s =
-    let P : List ℕ → Type 0 = λ z. BeginsOutside Plain z in
-    let e : bytes ≡ rest = s.whole ∙ ap (λ (x : List ℕ). x ++ rest) (has_none front test) in
-    subst P (sym e) s.outside
+pub word_shortens : (bytes value rest : List ℕ) → TakesWord bytes value rest → length rest < length bytes
+word_shortens bytes value rest t =
+    let l : 0 < length (word_text t.pieces) = word_length t.pieces t.is in
+    let e : length bytes ≡ length (word_text t.pieces ++ rest) = ap length t.whole in
+    let s : length (word_text t.pieces ++ rest) ≡ length (word_text t.pieces) + length rest = length-append (word_text t.pieces) rest in
+    omega arith

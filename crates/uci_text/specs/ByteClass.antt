@@ -1,43 +1,55 @@
--- The classes of bytes that words and lines are made of (OpenWrt's UCI file syntax).
-use Rattle.std.specs.Prelude.{ℕ, ◌≡◌, List, [], ◌∷◌, ◌++◌, Bool, false, IsTrue, not, ◌&&◌, ◌||◌, nat_eq, nat_le}
-use Rattle.std.specs.List.{AllByRecursion}
+-- The classes of bytes that UCI text is made of (OpenWrt's UCI file syntax).
+use Rattle.std.specs.Prelude.{ℕ, ◌≡◌, List, [], ◌∷◌, ◌++◌, Bool, IsTrue, not, ◌||◌, nat_eq}
+use Rattle.std.specs.List.{AllByRecursion, count_by}
 use Rattle.uci_text.specs.declared.byte_class.ByteClass.{ByteClass}
-use Rattle.uci_text.specs.declared.byte_class.ByteClass.TheVariants.{Blank, Plain, Quotable, InLine}
+use Rattle.uci_text.specs.declared.byte_class.ByteClass.TheVariants.{Space, Blank, InLine, Plain, Quotable, DoubleQuotable, NotZero}
 
--- a space or a tab
-abbrev pub is_blank : ℕ → Bool
-is_blank byte = nat_eq byte 32 || nat_eq byte 9
+-- space, tab, CR, VT or FF
+abbrev pub is_space : ℕ → Bool
+is_space byte = nat_eq byte 32 || nat_eq byte 9 || nat_eq byte 13 || nat_eq byte 11 || nat_eq byte 12
 
--- ' " # ; or \
-abbrev pub is_special : ℕ → Bool
-is_special byte = nat_eq byte 39 || nat_eq byte 34 || nat_eq byte 35 || nat_eq byte 59 || nat_eq byte 92
+-- a newline or `;`
+abbrev pub is_separator : ℕ → Bool
+is_separator byte = nat_eq byte 10 || nat_eq byte 59
 
--- a byte from 33 to 126 but the special ones
-abbrev pub is_plain : ℕ → Bool
-is_plain byte = nat_le 33 byte && nat_le byte 126 && not (is_special byte)
+-- a newline, `;` or `#`: what ends a command
+abbrev pub ends_command : ℕ → Bool
+ends_command byte = is_separator byte || nat_eq byte 35
 
--- a byte from 32 to 126 but '
-abbrev pub is_quotable : ℕ → Bool
-is_quotable byte = nat_le 32 byte && nat_le byte 126 && not (nat_eq byte 39)
+-- white space, a newline, `;` or `#`: what ends a word
+abbrev pub ends_word : ℕ → Bool
+ends_word byte = is_space byte || ends_command byte
 
--- the bytes of each class; a line has any but a newline
+-- ' " or \
+abbrev pub is_quoting : ℕ → Bool
+is_quoting byte = nat_eq byte 39 || nat_eq byte 34 || nat_eq byte 92
+
+-- The bytes of each class. A zero byte is plain, and may stand within quotes and comments: so each text has its
+-- commands, also one that no reading takes.
 abbrev pub is_in : ByteClass → ℕ → Bool
-is_in Blank byte = is_blank byte
-is_in Plain byte = is_plain byte
-is_in Quotable byte = is_quotable byte
+is_in Space byte = is_space byte
+is_in Blank byte = is_space byte || is_separator byte
 is_in InLine byte = not (nat_eq byte 10)
+is_in Plain byte = not (ends_word byte || is_quoting byte)
+is_in Quotable byte = not (nat_eq byte 39)
+is_in DoubleQuotable byte = not (nat_eq byte 34 || nat_eq byte 92)
+is_in NotZero byte = not (nat_eq byte 0)
 
 -- all of the bytes are of the class
 abbrev pub AllIn : ByteClass → List ℕ → Type 0
 AllIn class bytes = AllByRecursion (λ byte. IsTrue (is_in class byte)) bytes
 
--- there are no bytes, or the first one is not of the class
-abbrev pub BeginsOutside : ByteClass → List ℕ → Type 0
-BeginsOutside class [] = Unit {0}
-BeginsOutside class (byte ∷ bytes) = is_in class byte ≡ false
+-- the bytes are at their end, or the next one passes the test
+abbrev pub IsAtEndOr : (ℕ → Bool) → List ℕ → Type 0
+IsAtEndOr test [] = Unit {0}
+IsAtEndOr test (byte ∷ bytes) = IsTrue (test byte)
 
 -- the front is the longest one whose bytes are of the class, and the rest is behind it
 pub record SplitsBehind (class : ByteClass) (bytes front rest : List ℕ) : Type 0 where
   pub whole : bytes ≡ front ++ rest
   pub within : AllIn class front
-  pub outside : BeginsOutside class rest
+  pub outside : IsAtEndOr (λ byte. not (is_in class byte)) rest
+
+-- how many of the bytes are newlines
+abbrev pub newlines : List ℕ → ℕ
+newlines bytes = count_by (λ byte. nat_eq byte 10) bytes

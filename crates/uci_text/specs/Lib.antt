@@ -1,7 +1,12 @@
--- UCI text (OpenWrt's UCI file syntax) as lines of words, cut down to one form.
+-- UCI text (OpenWrt's UCI file syntax): pieces, words, gaps, commands with their extents, lines, and the first fault.
 pub mod ByteClass
+pub mod Piece
 pub mod Word
-pub mod FirstWord
-pub mod Words
+pub mod Gap
+pub mod Command
+pub mod Open
 pub mod Text
+pub mod Fault
+pub mod Found
+pub mod Quote
 pub mod TextError

@@ -1,48 +1,30 @@
 -- A text as lines of words (OpenWrt's UCI file syntax).
-use Rattle.std.specs.Prelude.{ℕ, ◌≡◌, ◌+◌, List, [], ◌∷◌, ◌++◌, length}
-use Rattle.std.specs.List.{AllByRecursion, flat_map}
+use Rattle.std.specs.Prelude.{ℕ, ◌≡◌, ◌+◌, List, [], ◌∷◌, ◌++◌}
 use Rattle.uci_text.specs.declared.line.Line.{Line}
-use Rattle.uci_text.specs.declared.byte_class.ByteClass.TheVariants.{InLine}
-use Rattle.uci_text.specs.ByteClass.{AllIn, BeginsOutside}
-use Rattle.uci_text.specs.Words.{SpellsWords, IsOfWords, IsNotOfWords}
+use Rattle.uci_text.specs.declared.byte_class.ByteClass.TheVariants.{NotZero}
+use Rattle.uci_text.specs.ByteClass.{AllIn, newlines}
+use Rattle.uci_text.specs.Gap.{IsGap}
+use Rattle.uci_text.specs.Command.{SpellsCommand}
 
--- lines, each with its newline
-abbrev pub terminated : List (List ℕ) → List ℕ
-terminated parts = flat_map (λ part. part ++ 10 ∷ []) parts
-
--- what is kept of a line: nothing where it has no words
-abbrev pub kept : ℕ → List (List ℕ) → List Line
-kept number [] = []
-kept number (word ∷ words) = record { line = number; words = word ∷ words } ∷ []
-
--- the first line has these words, and of the others these lines are kept
-pub record LineThen (number : ℕ) (part : List ℕ) (lines : List Line) (GoesOn : List Line → Type 0) : Type 0 where
-  pub words : List (List ℕ)
-  pub more : List Line
-  pub spelled : SpellsWords part words
-  pub whole : lines ≡ kept number words ++ more
-  pub rest : GoesOn more
-
--- the parts, numbered from a number on, are lines of words, and these lines are kept
-abbrev pub SpellsLines : ℕ → List (List ℕ) → List Line → Type 0
-SpellsLines number [] lines = lines ≡ []
-SpellsLines number (part ∷ parts) lines = LineThen number part lines (λ more. SpellsLines (number + 1) parts more)
-
--- the text is lines of words, the last one perhaps empty and without a newline, and these are the lines with words
-pub record Spells (text : List ℕ) (lines : List Line) : Type 0 where
-  pub parts : List (List ℕ)
-  pub last : List ℕ
-  pub whole : text ≡ terminated parts ++ last
-  pub spelled : SpellsLines 1 (parts ++ last ∷ []) lines
-
--- the first line of the text that is not of words has this number
-pub record IsFirstBadLine (text : List ℕ) (number : ℕ) : Type 0 where
-  pub good : List (List ℕ)
-  pub bad : List ℕ
+-- a command with this line's words stands in front, on this line, and the rest goes on
+pub record LineThen (number : ℕ) (text : List ℕ) (line : Line) (GoesOn : ℕ → List ℕ → Type 0) : Type 0 where
+  pub extent : List ℕ
   pub behind : List ℕ
-  pub whole : text ≡ terminated good ++ (bad ++ behind)
-  pub each : AllByRecursion IsOfWords good
-  pub line : AllIn InLine bad
-  pub end : BeginsOutside InLine behind
-  pub refused : IsNotOfWords bad
-  pub place : number ≡ length good + 1
+  pub whole : text ≡ extent ++ behind
+  pub spelled : SpellsCommand extent behind line.words
+  pub place : line.line ≡ number
+  pub rest : GoesOn (number + newlines extent) behind
+
+-- the text, whose first line has this number, is commands side by side, and these are their lines
+abbrev pub SpellsLines : ℕ → List ℕ → List Line → Type 0
+SpellsLines number text [] = text ≡ []
+SpellsLines number text (line ∷ lines) = LineThen number text line (λ next behind. SpellsLines next behind lines)
+
+-- the text is a gap and then commands, it has no zero byte, and these are the lines of the commands
+pub record Spells (text : List ℕ) (lines : List Line) : Type 0 where
+  pub gap : List ℕ
+  pub behind : List ℕ
+  pub whole : text ≡ gap ++ behind
+  pub clean : AllIn NotZero text
+  pub front : IsGap gap behind
+  pub commands : SpellsLines (newlines gap + 1) behind lines

@@ -1,9 +1,10 @@
 -- Numbers of errors.
 use Rattle.std.specs.Prelude.{ℕ}
 use Rattle.uci_text.specs.declared.text_error.TextError.{TextError}
-use Rattle.uci_text.specs.declared.text_error.TextError.TheVariants.{BadWord, Memory}
+use Rattle.uci_text.specs.declared.text_error.TextError.TheVariants.{BadWord, OpenQuote, Memory}
 
--- 10 for a bad word, 8 for memory
+-- 10 for a bad word, 11 for an open quote, 8 for memory
 abbrev pub number_of : TextError → ℕ
 number_of (BadWord line) = 10
+number_of (OpenQuote line) = 11
 number_of Memory = 8

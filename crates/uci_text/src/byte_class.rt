@@ -1,17 +1,25 @@
-ghost use Rattle.std.specs.Prelude.{◌≡◌};
-ghost use Rattle.uci_text.specs.ByteClass.{is_in, SplitsBehind};
+ghost use Rattle.std.specs.Prelude.{◌≡◌, ◌<◌, ◌^◌, length, IsTrue, MatchBool};
+ghost use Rattle.uci_text.specs.ByteClass as class;
+ghost use Rattle.uci_text.specs.ByteClass.{is_in, SplitsBehind, IsAtEndOr};
+ghost use Rattle.uci_text.specs.Found.{BeginsOutside};
 
 /// A class of bytes.
 #[derive(Clone, Copy, Debug)]
 pub enum ByteClass {
-    /// A space or a tab.
+    /// White space: a space, tab, CR, VT or FF.
+    Space,
+    /// White space, a newline or `;`.
     Blank,
-    /// A byte from 33 to 126 but `'` `"` `#` `;` `\`.
-    Plain,
-    /// A byte from 32 to 126 but `'`.
-    Quotable,
     /// Any byte but a newline.
     InLine,
+    /// Any byte but white space, a newline, `;` `#` `'` `"` and `\`.
+    Plain,
+    /// Any byte but `'`.
+    Quotable,
+    /// Any byte but `"` and `\`.
+    DoubleQuotable,
+    /// Any byte but the zero byte.
+    NotZero,
 }
 
 impl ByteClass {
@@ -20,12 +28,13 @@ impl ByteClass {
         ensures { result ≡ is_in self byte }
     {
         match self {
-            ByteClass::Blank => matches!(byte, b' ' | b'\t'),
-            ByteClass::Plain => {
-                (33..=126).contains(&byte) && !matches!(byte, b'\'' | b'"' | b'#' | b';' | b'\\')
-            }
-            ByteClass::Quotable => (32..=126).contains(&byte) && byte != b'\'',
+            ByteClass::Space => is_space(byte),
+            ByteClass::Blank => is_space(byte) || matches!(byte, b'\n' | b';'),
             ByteClass::InLine => byte != b'\n',
+            ByteClass::Plain => !is_word_end(byte) && !matches!(byte, b'\'' | b'"' | b'\\'),
+            ByteClass::Quotable => byte != b'\'',
+            ByteClass::DoubleQuotable => !matches!(byte, b'"' | b'\\'),
+            ByteClass::NotZero => byte != 0,
         }
     }
 
@@ -39,5 +48,43 @@ impl ByteClass {
             }
         }
         (bytes, &[])
+    }
+}
+
+fn is_space(byte: u8) -> bool
+    ensures { result ≡ class.is_space byte }
+{
+    matches!(byte, b' ' | b'\t' | b'\r' | 0x0b | 0x0c)
+}
+
+fn is_command_end(byte: u8) -> bool
+    ensures { result ≡ class.ends_command byte }
+{
+    matches!(byte, b'\n' | b';' | b'#')
+}
+
+fn is_word_end(byte: u8) -> bool
+    ensures { result ≡ class.ends_word byte }
+{
+    is_space(byte) || is_command_end(byte)
+}
+
+/// Whether a command ends here.
+pub fn ends_command(rest: &[u8]) -> bool
+    ensures { MatchBool result (IsAtEndOr class.ends_command rest.now) (BeginsOutside class.ends_command rest.now) }
+{
+    match rest.first() {
+        Some(byte) => is_command_end(*byte),
+        None => true,
+    }
+}
+
+/// Whether a word ends here.
+pub fn ends_word(rest: &[u8]) -> bool
+    ensures { MatchBool result (IsAtEndOr class.ends_word rest.now) (BeginsOutside class.ends_word rest.now) }
+{
+    match rest.first() {
+        Some(byte) => is_word_end(*byte),
+        None => true,
     }
 }

@@ -1,25 +1,30 @@
-ghost use Rattle.std.specs.Prelude.{◌≡◌, ◌<◌, ℕ, List, length, map, All};
-ghost use Rattle.std.specs.List.Sorted.{IsStrictlyIncreasing};
+ghost use Rattle.std.specs.Prelude.{◌≡◌, ◌⊎◌, ◌<◌, List, ℕ, length, All};
 ghost use Rattle.uci_text.specs.declared.line.Line.{Line};
-ghost use Rattle.uci_text.specs.Text.{Spells, IsFirstBadLine};
+ghost use Rattle.uci_text.specs.declared.text_error.TextError.{TextError as Fault};
+ghost use Rattle.uci_text.specs.Text.{Spells};
+ghost use Rattle.uci_text.specs.Fault.{IsFirstFault};
 
 /// A text has at most one reading.
 pub fn one_reading()
     ensures { (text : List ℕ) (lines others : List Line) → Spells text lines → Spells text others → others ≡ lines }
 {}
 
-/// A text with a line that is not of words has no reading.
-pub fn no_reading_where_bad()
-    ensures { (text : List ℕ) (number : ℕ) (lines : List Line) → IsFirstBadLine text number → Spells text lines → ⊥ }
+/// A text has at most one first fault.
+pub fn one_fault()
+    ensures { (text : List ℕ) (error other : Fault) → IsFirstFault text error → IsFirstFault text other → other ≡ error }
 {}
 
-/// The first line of a text that is not of words has one number.
-pub fn one_bad_line()
-    ensures { (text : List ℕ) (number other : ℕ) → IsFirstBadLine text number → IsFirstBadLine text other → other ≡ number }
+/// A text that has a fault has no reading.
+pub fn no_reading_with_fault()
+    ensures { (text : List ℕ) (error : Fault) (lines : List Line) → IsFirstFault text error → Spells text lines → ⊥ }
 {}
 
-/// Each line of a reading has a word, and the numbers of the lines rise.
+/// A text has a reading or a first fault: so it has a reading exactly where it has no fault.
+pub fn reading_or_fault()
+    ensures { (text : List ℕ) → ((lines : List Line) × Spells text lines) ⊎ ((error : Fault) × IsFirstFault text error) }
+{}
+
+/// Each line of a reading has a word.
 pub fn lines_have_words()
-    ensures words { (text : List ℕ) (lines : List Line) → Spells text lines → All (λ line. 0 < length line.words) lines }
-    ensures rise { (text : List ℕ) (lines : List Line) → Spells text lines → IsStrictlyIncreasing (map (λ line. line.line) lines) }
+    ensures { (text : List ℕ) (lines : List Line) → Spells text lines → All (λ line. 0 < length line.words) lines }
 {}

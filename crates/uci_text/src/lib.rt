@@ -1,19 +1,23 @@
-//! The reader of UCI text: a text as numbered lines of words.
-//!
-//! The form is that of OpenWrt's UCI files, cut down: words stand between blanks, and are plain or within single
-//! quotes. There are no comments, no double quotes, no escapes and no words that are joined.
+//! UCI text, the syntax of OpenWrt's configuration files: a text as lines of words, and values as quoted words.
 #![tactic(auto)]
 
 mod byte_class;
+mod command;
+mod extent;
+mod gap;
 mod laws;
 mod line;
+mod piece;
+mod quote;
 mod read;
+mod stop;
 #[cfg(test)]
 mod tests;
 mod text_error;
-mod words;
+mod word;
 
-pub use laws::{lines_have_words, no_reading_where_bad, one_bad_line, one_reading};
+pub use laws::{lines_have_words, no_reading_with_fault, one_fault, one_reading, reading_or_fault};
 pub use line::Line;
+pub use quote::quote_into;
 pub use read::read_lines;
 pub use text_error::TextError;

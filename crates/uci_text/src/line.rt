@@ -1,9 +1,9 @@
 use plane_io::{Items, Text};
 
-/// A line that has words.
+/// A command, as the words of which it is made.
 #[derive(Debug, Drop)]
 pub struct Line {
-    /// The number of the line, from 1.
+    /// The number of the line on which its first word begins, from 1.
     pub line: u32,
     /// The values of its words, at least one.
     pub words: Items<Text>,

@@ -21,29 +21,101 @@ fn shown(rt: &impl Abort, alloc: Global, text: &[u8]) -> Result<Vec<u8>, Fail> {
 }
 
 #[test]
-fn texts_are_read(rt: HostRuntime) -> Result<(), Fail> {
-    let texts: [(&[u8], &[u8]); 12] = [
+fn rules_of_words(rt: HostRuntime) -> Result<(), Fail> {
+    let texts: [(&[u8], &[u8]); 37] = [
+        // no commands
         (b"", b""),
-        (b"\n\n \t \n", b""),
+        (b"\n;\n ;;\t\r\x0b\x0c", b""),
+        // white space between words
+        (b" \ta\rb\x0bc\x0cd ", b"1|a|b|c|d\n"),
+        (b"a\r\nb\r\n", b"1|a\n2|b\n"),
+        // a newline and `;` end a command; empty ones are passed over
+        (b"a b\nc", b"1|a|b\n2|c\n"),
+        (b"a;b", b"1|a\n1|b\n"),
+        (b";;\n;\n a", b"3|a\n"),
+        (b"a;\n;b", b"1|a\n2|b\n"),
+        // comments, also within a word, and after `;`
+        (b"a#b c\nd", b"1|a\n2|d\n"),
+        (b"# x\na", b"2|a\n"),
+        (b"a # b", b"1|a\n"),
+        (b"#", b""),
+        (b";#;\na", b"2|a\n"),
+        // `;`, quotes and a backslash in a comment are comment
+        (b"a # ;b\nc", b"1|a\n2|c\n"),
+        (b"a # 'x\nb", b"1|a\n2|b\n"),
+        (b"# \"\\\na", b"2|a\n"),
+        (b"a #\\", b"1|a\n"),
+        // pieces side by side
+        (b"a'b'\"c\"\\d", b"1|abcd\n"),
+        (b"x\"y z\"w", b"1|xy zw\n"),
+        // single quotes
+        (b"'a\nb' c\nd", b"1|a\nb|c\n3|d\n"),
+        (b"'#;\"\\ x'", b"1|#;\"\\ x\n"),
+        (b"'' \"\"", b"1||\n"),
+        // double quotes
+        (b"\"a\\\"b\\\\c\\nd\"", b"1|a\"b\\cnd\n"),
+        (b"\"a\n';#\"", b"1|a\n';#\n"),
+        (b"\"a\\\nb\"", b"1|ab\n"),
+        // a backslash outside quotes
+        (b"a\\ b\\;c\\#d\\'e", b"1|a b;c#d'e\n"),
+        (b"a\\\nb c", b"1|ab|c\n"),
+        (b"\\\\", b"1|\\\n"),
+        // a backslash and a newline alone are an empty word
+        (b"config x \\\n s", b"1|config|x||s\n"),
+        (b"\\\n", b"1|\n"),
+        // the line of a command is that of its first word, and newlines within words count
+        (b"\n\\\na", b"2|a\n"),
+        (b"'\n\n'\na", b"1|\n\n\n4|a\n"),
+        (b"a \\\nb\nc", b"1|a|b\n3|c\n"),
+        (b"\"a\\\n\\\nb\" c\nd", b"1|ab|c\n4|d\n"),
+        // files
         (
-            b"config interface 'lan'\n\toption device 'eth0'\n\toption proto 'static'\n\n",
-            b"1|config|interface|lan\n2|option|device|eth0\n3|option|proto|static\n",
+            b"config interface 'lan'\n\toption device 'eth0'\n\n\tlist dns \"192.0.2.1\" # first\n",
+            b"1|config|interface|lan\n2|option|device|eth0\n4|list|dns|192.0.2.1\n",
         ),
         (
-            b"\n\nconfig interface wan\n\n\toption mtu 1500\n",
-            b"3|config|interface|wan\n5|option|mtu|1500\n",
+            b"config x s; option a 'b'\"c\"\\ d # end",
+            b"1|config|x|s\n1|option|a|bc d\n",
         ),
         (b"package network", b"1|package|network\n"),
-        (b"a\nb", b"1|a\n2|b\n"),
-        (b"option x ''\n", b"1|option|x|\n"),
-        (b"''", b"1|\n"),
-        (b"  a \t b  \n", b"1|a|b\n"),
-        (
-            b"list dns '192.0.2.1 # ; \\ \"'",
-            b"1|list|dns|192.0.2.1 # ; \\ \"\n",
-        ),
-        (b"'a' 'b'", b"1|a|b\n"),
-        (b"!$~ 2001:db8::/32", b"1|!$~|2001:db8::/32\n"),
+    ];
+    for (text, lines) in texts {
+        let read = shown(&rt, rt.alloc(), text)?;
+        assert_eq!(rt; read.as_slice(), lines, "{text:?}");
+    }
+    Ok(())
+}
+
+#[test]
+fn odd_texts_are_read(rt: HostRuntime) -> Result<(), Fail> {
+    let texts: [(&[u8], &[u8]); 27] = [
+        (b"\x01\x7f\xff \x80", b"1|\x01\x7f\xff|\x80\n"),
+        (b"'a\r'", b"1|a\r\n"),
+        (b"\\\r", b"1|\r\n"),
+        (b"a\\\r\nb", b"1|a\r\n2|b\n"),
+        (b"\"\\\r\n\"", b"1|\r\n\n"),
+        (b"''''", b"1|\n"),
+        (b"'a''b'", b"1|ab\n"),
+        (b"\"\"''\"x\"", b"1|x\n"),
+        (b"'\"'\"'\"", b"1|\"'\n"),
+        (b"\\n", b"1|n\n"),
+        (b"\\'", b"1|'\n"),
+        (b"\"'\"", b"1|'\n"),
+        (b"\"\\'\"", b"1|'\n"),
+        (b"'\\'", b"1|\\\n"),
+        (b"'\\'x", b"1|\\x\n"),
+        (b"a'#'b", b"1|a#b\n"),
+        (b"a';'b;c", b"1|a;b\n1|c\n"),
+        (b"a\\;b;c", b"1|a;b\n1|c\n"),
+        (b"\\\n\\\na", b"1|a\n"),
+        (b"a\\\n", b"1|a\n"),
+        (b"a\n\\\n\nb", b"1|a\n2|\n4|b\n"),
+        (b"#\n#", b""),
+        (b"#\n;a", b"2|a\n"),
+        (b"a\x0b\x0c;\x0bb", b"1|a\n1|b\n"),
+        (b"\"\\\\\"", b"1|\\\n"),
+        (b"\"\\\"\"", b"1|\"\n"),
+        (b"\"#\"#\"", b"1|#\n"),
     ];
     for (text, lines) in texts {
         let read = shown(&rt, rt.alloc(), text)?;
@@ -54,49 +126,115 @@ fn texts_are_read(rt: HostRuntime) -> Result<(), Fail> {
 
 #[test]
 fn texts_are_refused(rt: HostRuntime) {
-    let texts: [(&[u8], u32); 24] = [
-        (b"# a comment\n", 1),
-        (b"option a # a comment\n", 1),
-        (b"a'b'\n", 1),
-        (b"'a''b'\n", 1),
-        (b"'a'b\n", 1),
-        (b"option a 'b\n", 1),
-        (b"'", 1),
-        (b"'a\nb'\n", 1),
-        (b"\"x\"\n", 1),
-        (b"a\"\n", 1),
-        (b"a\\ b\n", 1),
-        (b"a;b\n", 1),
-        (b"a\r\n", 1),
-        (b"a\x0bb\n", 1),
-        (b"a\x0cb\n", 1),
-        (b"a\0\n", 1),
-        (b"a\x7f\n", 1),
-        (b"\xc8\n", 1),
-        (b"'\xc8'\n", 1),
-        (b"'a\tb'\n", 1),
-        (b"'\x1f'\n", 1),
-        (b"config a\n\n\toption b 'c\n", 3),
-        (b"a\n#\nb\n'\n", 2),
-        (b"a\nb\n\n\n\"", 5),
+    let texts: [(&[u8], u8, u32); 56] = [
+        (b"\0", 10, 1),
+        (b"a\0", 10, 1),
+        (b"a\nb\0", 10, 2),
+        (b"# \0", 10, 1),
+        (b"a\n# b\0\nc", 10, 2),
+        (b"a #\0", 10, 1),
+        (b"a\n;#\n#\0", 10, 3),
+        (b"'\0'", 10, 1),
+        (b"'a\n\0'", 10, 2),
+        (b"\"\0\"", 10, 1),
+        (b"\\\0", 10, 1),
+        (b"\"\\\0\"", 10, 1),
+        (b"\"\\\n\\\0", 10, 2),
+        (b"config a b c 'x\n\0y", 10, 2),
+        (b"a 'x\n\0", 10, 2),
+        (b"\0 'x", 10, 1),
+        (b";\0;", 10, 1),
+        (b"\n\n\0\n", 10, 3),
+        (b"\0\n\0", 10, 1),
+        (b"a\0\n'", 10, 1),
+        (b"#\0\n'", 10, 1),
+        (b"a\n'\0", 10, 2),
+        (b"a\n\0\\", 10, 2),
+        (b"'", 11, 1),
+        (b"\"", 11, 1),
+        (b"a'", 11, 1),
+        (b"a \"b", 11, 1),
+        (b"config x\noption \"a", 11, 2),
+        (b"'a\n\n", 11, 1),
+        (b"a\n'b\nc", 11, 2),
+        (b"\"\\", 11, 1),
+        (b"\"a\\", 11, 1),
+        (b"\"a\\\"", 11, 1),
+        (b"\"a\\\\\\\"", 11, 1),
+        (b"'\\''", 11, 1),
+        (b"''' ", 11, 1),
+        (b"\"\"\"", 11, 1),
+        (b"'a'\n\"b\n", 11, 2),
+        (b"a;'b", 11, 1),
+        (b"a 'b;c\nd", 11, 1),
+        (b"a \"b#c\nd\n", 11, 1),
+        (b"\\\n'", 11, 2),
+        (b"'\n'\n'", 11, 3),
+        (b"\"'\n\"'", 11, 2),
+        (b"'\n'#'\n'", 11, 3),
+        (b"a\n\"\\\n\n", 11, 2),
+        (b"\\", 10, 1),
+        (b"a\\", 10, 1),
+        (b"a\nb \\", 10, 2),
+        (b"'a'\\", 10, 1),
+        (b"\\\n\\", 10, 2),
+        (b"\\\\\\", 10, 1),
+        (b"a;\\", 10, 1),
+        (b"\"\\\n\"\\", 10, 2),
+        (b"'\n'\\", 10, 2),
+        (b"#\n\\", 10, 2),
     ];
-    for (text, line) in texts {
+    for (text, number, line) in texts {
         assert!(rt; text.len() < 4096);
         let error = read_lines(rt.alloc(), text).err();
-        assert_eq!(rt; error, Some(TextError::BadWord { line }), "{text:?}");
+        let wanted = if number == 11 {
+            TextError::OpenQuote { line }
+        } else {
+            TextError::BadWord { line }
+        };
+        assert_eq!(rt; error, Some(wanted), "{text:?}");
     }
+}
+
+#[test]
+fn quoted_values_are_read(rt: HostRuntime) -> Result<(), Fail> {
+    let values: [(&[u8], &[u8]); 6] = [
+        (b"", b"''"),
+        (b"a", b"'a'"),
+        (b"'", b"''\\'''"),
+        (b"a'b", b"'a'\\''b'"),
+        (b"''", b"''\\'''\\'''"),
+        (b"\n\\\"#; \xff", b"'\n\\\"#; \xff'"),
+    ];
+    for (value, text) in values {
+        let mut quoted = Vec::new(rt.alloc());
+        quote_into(&mut quoted, value)?;
+        assert_eq!(rt; quoted.as_slice(), text);
+        let mut wanted = Vec::from_slice(rt.alloc(), b"1|")?;
+        wanted.extend_from_slice(value)?;
+        wanted.push(b'\n')?;
+        let read = shown(&rt, rt.alloc(), quoted.as_slice())?;
+        assert_eq!(rt; read.as_slice(), wanted.as_slice());
+    }
+    Ok(())
 }
 
 #[test]
 fn errors_and_laws(rt: HostRuntime) -> Result<(), Fail> {
     let bad = TextError::BadWord { line: 7 };
+    let open = TextError::OpenQuote { line: 8 };
     assert_eq!(rt; bad.number(), 10);
+    assert_eq!(rt; open.number(), 11);
     assert_eq!(rt; TextError::Memory.number(), 8);
-    let texts = format!(in rt.alloc(); "{bad}, {}", TextError::Memory)?;
-    assert_eq!(rt; texts.as_str(), "bad word in line 7, out of memory");
+    let texts = format!(in rt.alloc(); "{bad}, {open}, {}", TextError::Memory)?;
+    assert_eq!(rt;
+        texts.as_str(),
+        "bad word in line 7, open quote in line 8, out of memory"
+    );
     one_reading();
-    no_reading_where_bad();
-    one_bad_line();
+    one_fault();
+    no_reading_with_fault();
+    reading_or_fault();
     lines_have_words();
     Ok(())
 }

@@ -6,24 +6,28 @@ use plane_io::Memory;
 use std::alloc::{AllocError, AllocFailed};
 use thiserror::Error;
 
-/// Why a text was not read.
+/// Why a text was not read: its first fault, or want of memory.
 #[derive(Clone, Copy, Debug, PartialEq, Eq, Error)]
 pub enum TextError {
-    /// The line is not of words; it is the first such line, and its number counts from 1.
+    /// A zero byte is on this line, or a backslash that is the last byte.
     #[error("bad word in line {line}")]
     BadWord { line: u32 },
+    /// The quote that opens on this line is not closed.
+    #[error("open quote in line {line}")]
+    OpenQuote { line: u32 },
     /// There was not enough memory.
     #[error("out of memory")]
     Memory,
 }
 
 impl TextError {
-    /// The number of the kind of error: 10 for `BadWord`, 8 for `Memory`.
+    /// The number of the kind of error: 10 for `BadWord`, 11 for `OpenQuote`, 8 for `Memory`.
     pub fn number(&self) -> u8
         ensures { result ≡ number_of self.now }
     {
         match self {
             TextError::BadWord { .. } => 10,
+            TextError::OpenQuote { .. } => 11,
             TextError::Memory => 8,
         }
     }

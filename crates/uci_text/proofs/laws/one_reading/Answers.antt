@@ -1,4 +1,4 @@
-use Rattle.uci_text.proofs.TextLemmas.{reading_is_one}
+use Rattle.uci_text.proofs.FaultLemmas.{reading_is_one}
 use Rattle.uci_text.proofs.laws.one_reading.Goals as goal
 
 pub returns : goal.returns

@@ -1,12 +1,9 @@
-use Rattle.std.proofs.Common.{◌≤◌, ◌+◌, length}
-use Rattle.uci_text.proofs.TextLemmas.{ReadSoFar}
+use Rattle.std.proofs.Common.{length}
+use Rattle.uci_text.proofs.ReadLemmas.{ReadSoFar}
 use Rattle.uci_text.proofs.read.read_lines.Given as goal
 
-abbrev pub invariant-loop-lines : goal.invariant-loop-lines
-invariant-loop-lines l = record {
-  read : ReadSoFar l.text l.rest l.number l.lines;
-  room : l.number + length l.rest ≤ length l.text + 1;
-}
+abbrev pub invariant-loop-rest : goal.invariant-loop-rest
+invariant-loop-rest l = ReadSoFar l.text l.rest l.number l.lines
 
-abbrev pub decreases-loop-lines : goal.decreases-loop-lines
-decreases-loop-lines l = length l.rest
+abbrev pub decreases-loop-rest : goal.decreases-loop-rest
+decreases-loop-rest l = length l.rest

@@ -1,0 +1,4 @@
+pub mod ClassLemmas
+pub mod WordLemmas
+pub mod LineLemmas
+pub mod TextLemmas
