@@ -5,7 +5,7 @@ use Rattle.kern_model.specs.ObjectOrder.{Objects}
 use Rattle.plane_main.specs.declared.interface.Interface.{Interface}
 use Rattle.plane_main.specs.declared.ending.Ending.{Ending}
 use Rattle.plane_main.specs.declared.ending.Ending.TheVariants as ending
-use Rattle.plane_main.specs.Words.{IsCommand}
+use Rattle.plane_main.specs.Words.{IsStartCommand}
 use Rattle.plane_main.specs.Ending.{status_of}
 use Rattle.plane_main.specs.Form.{IsNetwork}
 use Rattle.plane_main.specs.Wanted.{wanted}
@@ -32,7 +32,7 @@ same_interfaces : (input : Input) (xs ys : List Interface) (text : List ℕ) →
 same_interfaces input xs ys text read told network =
     network_one text ys xs network (subst (λ t. IsNetwork t xs) (all_told input.left input.left_now read.text text told read.all) read.network)
 
-module _ (words : List (List ℕ)) (input : Input) (before after : Outside) (interfaces : List Interface) (text : List ℕ) (command : IsCommand words) (is : IsInput input.left text) (network : IsNetwork text interfaces) where
+module _ (words : List (List ℕ)) (input : Input) (before after : Outside) (interfaces : List Interface) (text : List ℕ) (command : IsStartCommand words) (is : IsInput input.left text) (network : IsNetwork text interfaces) where
   pub decided : (end : Ending) → RunEnds words input before after end → (Contains (3 ∷ 4 ∷ 8 ∷ []) (status_of end) → ⊥) → IsDecided after.objects (wanted interfaces after.devices) (status_of end)
   decided ending.Done cause free = inl (refl, cause.did.held ∙ ap (λ xs. wanted xs after.devices) (same_interfaces input cause.interfaces interfaces text cause.read is.told network))
   decided (ending.KernelFailed left) cause free =

@@ -11,3 +11,4 @@ pub mod RunLemmas
 pub mod EndLemmas
 pub mod CountLemmas
 pub mod DueLemmas
+pub mod PageLemmas

@@ -8,7 +8,7 @@ use Rattle.net_addr.specs.Width.{IsCidr}
 use Rattle.plane_main.specs.declared.interface.Interface.{Interface}
 use Rattle.plane_main.specs.declared.ending.Ending.{Ending}
 use Rattle.plane_main.specs.declared.ending.Ending.TheVariants as ending
-use Rattle.plane_main.specs.Words.{IsStart, IsCommand}
+use Rattle.plane_main.specs.Words.{IsStart, IsStartCommand}
 use Rattle.plane_main.specs.Ending.{status_of}
 use Rattle.plane_main.specs.Form.{IsSection, AreSections, IsNetwork}
 use Rattle.plane_main.specs.Bring.{Outside, IsSound, AreSound, NothingMade, BringUpEnds}
@@ -33,7 +33,7 @@ module _ (words : List (List ℕ)) (input : Input) (before after : Outside) wher
   run_ends names interfaces (ending.TooLong limit) command read did = absurd did
   run_ends names interfaces ending.NotBuilt command read did = absurd did
 
-  pub read_ends : (end : Ending) → IsCommand words → NothingMade before after → ReadEnds input end → RunEnds words input before after end
+  pub read_ends : (end : Ending) → IsStartCommand words → NothingMade before after → ReadEnds input end → RunEnds words input before after end
   read_ends ending.Done command nothing cause = absurd cause
   read_ends ending.OutOfMemory command nothing cause = nothing
   read_ends (ending.KernelFailed left) command nothing cause = absurd cause
@@ -79,7 +79,7 @@ within_limit (Some l) text input more =
 
 module _ (words : List (List ℕ)) (input : Input) (before after : Outside) where
   -- a run whose words are no command
-  pub no_command : (end : Ending) → RunEnds words input before after end → (IsCommand words → ⊥) → IsEither 2 8 (status_of end)
+  pub no_command : (end : Ending) → RunEnds words input before after end → (IsStartCommand words → ⊥) → IsEither 2 8 (status_of end)
   no_command ending.Done cause none = absurd (none (cause.names, cause.command))
   no_command ending.Usage cause none = inl refl
   no_command ending.ReadFailed cause none = absurd (none cause.0)
@@ -90,7 +90,7 @@ module _ (words : List (List ℕ)) (input : Input) (before after : Outside) wher
   no_command ending.NotBuilt cause none = absurd (none cause.0)
 
   -- a run whose text is over the limit
-  pub long_input : (end : Ending) (text : List ℕ) → RunEnds words input before after end → DidNotRise input.faults input.faults_now → IsCommand words → input.left ≡ Some text → input_limit < length text → IsEither 10 8 (status_of end)
+  pub long_input : (end : Ending) (text : List ℕ) → RunEnds words input before after end → DidNotRise input.faults input.faults_now → IsStartCommand words → input.left ≡ Some text → input_limit < length text → IsEither 10 8 (status_of end)
   long_input ending.Done text cause calm command told over = absurd (not_over input cause.interfaces text cause.read told over)
   long_input ending.Usage text cause calm command told over = absurd (cause command)
   long_input ending.ReadFailed text cause calm command told over = let rose = cause.1 in absurd (omega arith)
@@ -101,7 +101,7 @@ module _ (words : List (List ℕ)) (input : Input) (before after : Outside) wher
   long_input ending.NotBuilt text cause calm command told over = let same = ap length (all_told input.left input.left_now cause.1.text text told cause.1.all) in let within = cause.1.within in absurd (omega arith)
 
   -- a run whose text is not of the form
-  pub no_form : (end : Ending) (text : List ℕ) → RunEnds words input before after end → DidNotRise input.faults input.faults_now → IsCommand words → IsInput input.left text → (IsOfForm text → ⊥) → IsEither 11 8 (status_of end)
+  pub no_form : (end : Ending) (text : List ℕ) → RunEnds words input before after end → DidNotRise input.faults input.faults_now → IsStartCommand words → IsInput input.left text → (IsOfForm text → ⊥) → IsEither 11 8 (status_of end)
   no_form ending.Done text cause calm command is form = absurd (form (formed input cause.interfaces text cause.read is.told))
   no_form ending.Usage text cause calm command is form = absurd (cause command)
   no_form ending.ReadFailed text cause calm command is form = let rose = cause.1 in absurd (omega arith)
@@ -112,7 +112,7 @@ module _ (words : List (List ℕ)) (input : Input) (before after : Outside) wher
   no_form ending.NotBuilt text cause calm command is form = inl refl
 
   -- a run of a command over a text of the form, in which nothing failed
-  pub calm_end : (end : Ending) (text : List ℕ) → RunEnds words input before after end → DidNotRise input.faults input.faults_now → DidNotRise before.out_faults after.out_faults → DidNotRise before.kernel_faults after.kernel_faults → IsCommand words → IsInput input.left text → IsOfForm text → IsEither 0 8 (status_of end)
+  pub calm_end : (end : Ending) (text : List ℕ) → RunEnds words input before after end → DidNotRise input.faults input.faults_now → DidNotRise before.out_faults after.out_faults → DidNotRise before.kernel_faults after.kernel_faults → IsStartCommand words → IsInput input.left text → IsOfForm text → IsEither 0 8 (status_of end)
   calm_end ending.Done text cause i o k command is form = inl refl
   calm_end ending.Usage text cause i o k command is form = absurd (cause command)
   calm_end ending.ReadFailed text cause i o k command is form = let rose = cause.1 in absurd (omega arith)

@@ -9,6 +9,7 @@ pub mod Wanted
 pub mod Texts
 pub mod Settle
 pub mod Ending
+pub mod Pages
 pub mod Bring
 pub mod Start
 pub mod Run

@@ -1,5 +1,5 @@
 -- Why a run ends so, and what it leaves.
-use Rattle.std.specs.Prelude.{ℕ, ◌≡◌, ◌≤◌, List, length, Option, ⊤}
+use Rattle.std.specs.Prelude.{ℕ, ◌≡◌, ◌≤◌, ◌⊎◌, List, length, Option, ⊤}
 use Rattle.plane_words.specs.Causes.{Rose, DidNotRise}
 use Rattle.plane_words.specs.Growth.{Grows, GrowsByFront}
 use Rattle.plane_io.specs.Source.{IsAllThatWasLeft, HadMoreThan}
@@ -7,7 +7,9 @@ use Rattle.plane_main.specs.declared.interface.Interface.{Interface}
 use Rattle.plane_main.specs.declared.ending.Ending.{Ending}
 use Rattle.plane_main.specs.declared.ending.Ending.TheVariants as ending
 use Rattle.plane_main.specs.Ending.{status_of, text_of}
-use Rattle.plane_main.specs.Words.{IsStart, IsCommand}
+use Rattle.plane_main.specs.declared.page.Page.{Page}
+use Rattle.plane_main.specs.Words.{IsStart, IsStartCommand, IsPage}
+use Rattle.plane_main.specs.Pages.{Told}
 use Rattle.plane_main.specs.Form.{IsNetwork}
 use Rattle.plane_main.specs.Start.{IsOfForm, input_limit}
 use Rattle.plane_main.specs.Bring.{Outside, Finished, StoppedAtCall, StoppedAtLine, NothingMade}
@@ -53,20 +55,33 @@ pub record Ran (words : List (List ℕ)) (input : Input) (Did : List (List ℕ) 
 -- why a run ends so, and what it leaves
 abbrev pub RunEnds : List (List ℕ) → Input → Outside → Outside → Ending → Type 0
 RunEnds words input before after ending.Done = Ran words input (λ names interfaces. Finished names interfaces before after)
-RunEnds words input before after ending.Usage = IsCommand words → ⊥
-RunEnds words input before after ending.ReadFailed = IsCommand words × Rose input.faults input.faults_now
+RunEnds words input before after ending.Usage = IsStartCommand words → ⊥
+RunEnds words input before after ending.ReadFailed = IsStartCommand words × Rose input.faults input.faults_now
 RunEnds words input before after ending.WriteFailed = Ran words input (λ names interfaces. StoppedAtLine names interfaces before after)
 RunEnds words input before after (ending.KernelFailed left) = Ran words input (λ names interfaces. StoppedAtCall left names interfaces before after)
 RunEnds words input before after ending.OutOfMemory = NothingMade before after
-RunEnds words input before after (ending.TooLong limit) = IsCommand words × (limit ≡ input_limit) × HadMoreThan input_limit input.left
-RunEnds words input before after ending.NotBuilt = IsCommand words × IsNotBuilt input
+RunEnds words input before after (ending.TooLong limit) = IsStartCommand words × (limit ≡ input_limit) × HadMoreThan input_limit input.left
+RunEnds words input before after ending.NotBuilt = IsStartCommand words × IsNotBuilt input
+
+-- the words ask for a page, and this came of it: nothing was done to the kernel
+pub record PageRan (words : List (List ℕ)) (before after : Outside) (end : Ending) : Type 0 where
+  pub page : Page
+  pub asked : IsPage words page
+  pub told : Told page before.out after.out before.out_faults after.out_faults end
+  pub devices : after.devices ≡ before.devices
+  pub objects : after.objects ≡ before.objects
+  pub calls : after.calls ≡ before.calls
+
+-- why the program ends so, and what it leaves: as a `start` does where the words ask for no page
+abbrev pub ProgramEnds : List (List ℕ) → Input → Outside → Outside → Ending → Type 0
+ProgramEnds words input before after end = (RunEnds words input before after end × ((page : Page) → IsPage words page → ⊥)) ⊎ PageRan words before after end
 
 -- A run ends with an ending: its status is the answer, and its text is on the error output, wholly where the count of
 -- faults there did not rise, and otherwise in front.
 pub record Ended (words : List (List ℕ)) (input : Input) (before after : Outside) (err err' : Option (List ℕ)) (faults faults' : ℕ) (answer : ℕ) : Type 0 where
   pub ending : Ending
   pub status : status_of ending ≡ answer
-  pub cause : RunEnds words input before after ending
+  pub cause : ProgramEnds words input before after ending
   pub told : GrowsByFront err err' (text_of ending)
   pub wholly : DidNotRise faults faults' → Grows err err' (text_of ending)
 

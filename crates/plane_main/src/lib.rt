@@ -2,12 +2,14 @@
 #![tactic(auto)]
 
 mod bring_up;
+mod carry_out;
 mod ending;
 mod first_form;
 mod interface;
 mod laws;
 mod locations;
 mod network;
+mod page;
 mod program;
 mod report;
 mod settle;

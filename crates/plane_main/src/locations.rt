@@ -2,11 +2,13 @@ ghost use Rattle.std.specs.Prelude.{map, string_bytes, IfOk, IfSome, IfNone};
 ghost use Rattle.plane_main.specs.Places.{IsNowhere};
 ghost use Rattle.plane_main.specs.Words.{IsCommand};
 
+use crate::page::read_page;
 use crate::words::start_names;
 use plane_io::Memory;
 use std::alloc::Global;
 
-/// Where the real devices of a command are. `start` reads the standard input and has no places.
+/// Where the real devices of a command are. `start` reads the standard input and has no places, and
+/// the pages about the program have none.
 #[derive(Debug, Drop)]
 pub struct Locations {
     pub files: String,
@@ -23,7 +25,7 @@ pub fn places(alloc: Global, words: &[String]) -> Result<Option<Locations>, Memo
     ensures none { IfOk result (λ found. IfNone found (IsCommand (map string_bytes words.now) → ⊥)) }
     ensures nowhere { IfOk result (λ found. IfSome found (λ locations. IsNowhere locations)) }
 {
-    if start_names(alloc, words)?.is_none() {
+    if read_page(words).is_none() && start_names(alloc, words)?.is_none() {
         return Ok(None);
     }
     Ok(Some(Locations {

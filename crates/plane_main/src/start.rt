@@ -2,7 +2,7 @@ ghost use Rattle.std.specs.Prelude.{◌≡◌, ◌≤◌, ◌⊎◌, ℕ, List, 
 ghost use Rattle.std.specs.FinSet as set;
 ghost use Rattle.std.specs.FinMap as map;
 ghost use Rattle.plane_main.specs.Distinct.{AreDistinct};
-ghost use Rattle.plane_main.specs.Words.{IsCommand};
+ghost use Rattle.plane_main.specs.Words.{IsStartCommand};
 ghost use Rattle.plane_main.specs.Bring.{AreSound, BringUpEnds};
 ghost use Rattle.plane_main.specs.Run.{AreRead, ReadEnds, RunEnds, IsEarly};
 
@@ -32,7 +32,7 @@ pub fn start<S: Source, O: Sink, K: Kernel>(
         (record { out = O.held out.old; devices = K.devices kernel.old; objects = K.objects kernel.old; calls = K.calls kernel.old; out_faults = O.faults out.old; kernel_faults = K.faults kernel.old })
         (record { out = O.held out.new; devices = K.devices kernel.new; objects = K.objects kernel.new; calls = K.calls kernel.new; out_faults = O.faults out.new; kernel_faults = K.faults kernel.new })
         result }
-    ensures unread { (IsCommand (map string_bytes words.now) → ⊥) → (input.new ≡ input.old) × (out.new ≡ out.old) × (kernel.new ≡ kernel.old) }
+    ensures unread { (IsStartCommand (map string_bytes words.now) → ⊥) → (input.new ≡ input.old) × (out.new ≡ out.old) × (kernel.new ≡ kernel.old) }
     ensures early { IsEarly result → (out.new ≡ out.old) × (kernel.new ≡ kernel.old) }
 {
     let names = match start_names(alloc, words) {
