@@ -1,14 +1,11 @@
 -- The tests of a kernel in memory judge right.
-use Rattle.std.proofs.Common.{ℕ, ◌≡◌, ◌≤◌, ◌⊎◌, inl, inr, List, [], ◌∷◌, Option, true, false, Bool, Contains, refl, ap, sym, subst, ◌∙◌}
-use Rattle.std.specs.Prelude.{◌&&◌, ◌||◌, not, bytes_eq, nat_eq, nat_le}
+use Rattle.std.proofs.Common.{ℕ, ◌≡◌, inl, inr, List, Option, true, false, Bool, Contains, refl, ap, sym, subst, ◌∙◌}
+use Rattle.std.specs.Prelude.{not, bytes_eq, nat_eq, nat_le}
 use Rattle.std.specs.List.{list_any}
-use Rattle.std.specs.Ordering.{eq_by_cmp}
 use Rattle.std.specs.FinSet as set
 use Rattle.std.proofs.lemmas.Bool.Decides.{Decides-eqb}
-use Rattle.net_addr.specs.declared.address.Addr.{Addr}
 use Rattle.kern_model.specs.declared.object.Device.{Device}
 use Rattle.kern_model.specs.declared.object.Mac.{Mac}
-use Rattle.kern_model.specs.declared.object.RouteObject.{RouteObject}
 use Rattle.kern_model.specs.declared.object.LinkKind.{LinkKind}
 use Rattle.kern_model.specs.declared.object.LinkKind.TheVariants.{Bridge, Vlan}
 use Rattle.kern_model.specs.declared.object.Object.{Object}
@@ -17,15 +14,14 @@ use Rattle.kern_model.specs.declared.object.Call.{Call}
 use Rattle.kern_model.specs.declared.object.Call.TheVariants.{Put, Take}
 use Rattle.kern_model.specs.declared.object.DevEvent.{DevEvent}
 use Rattle.kern_model.specs.declared.object.DevEvent.TheVariants as event
-use Rattle.kern_model.specs.ObjectOrder.{Objects, Has, set_of, object_cmp}
+use Rattle.kern_model.specs.ObjectOrder.{Has, set_of}
 use Rattle.kern_model.specs.Standing.{places_of}
 use Rattle.kern_model.specs.Kernel.{map_of, is_present, Exists, MayHappen, own_mtu, own_mac, name_of}
-use Rattle.kern_model.specs.Admission.{IsBridge, HasLowerUp, VlanMayBeMade, MayBeMade, MasterMayBeSet, AdmitsPut, MayGoDown, AdmitsTake, CarriesOwn, Admits}
+use Rattle.kern_model.specs.Admission.{IsBridge, HasLowerUp, MayBeMade, MasterMayBeSet, AdmitsPut, MayGoDown, AdmitsTake, CarriesOwn, Admits}
 use Rattle.kern_model.specs.Tests as test
 use Rattle.kern_model.proofs.OrderLemmas.{objects_total}
-use Rattle.kern_model.proofs.MemberLemmas.{here, first_or_later, none_in_nil}
 use Rattle.kern_model.proofs.SetLemmas.{set_of_member, member_of_set}
-use Rattle.kern_model.proofs.TestLemmas.{both, of_both, either, of_left, of_right, not_true, of_not, at_most, at_most_test, bytes_same, same_bytes, Passes, from_any, of_any}
+use Rattle.kern_model.proofs.TestLemmas.{both, of_both, either, of_left, of_right, not_true, of_not, at_most, at_most_test, bytes_same, same_bytes, from_any, of_any}
 
 -- which objects pass
 link_of_test : (name : List ℕ) (o : Object) → test.is_link_of name o ≡ true → (kind : LinkKind) × (o ≡ object.Link name kind)

@@ -1,10 +1,10 @@
 -- Allowed sets: the empty one, and heights in them.
-use Rattle.std.proofs.Common.{arith, ℕ, ◌≡◌, ◌+◌, ◌⊎◌, inl, inr, List, Option, true, cond, refl, ap, sym, subst, ◌∙◌}
+use Rattle.std.proofs.Common.{ℕ, ◌≡◌, ◌+◌, inl, inr, List, Option, true, cond, refl, ap, sym, subst, ◌∙◌}
 use Rattle.std.specs.Prelude.{bytes_eq}
 use Rattle.std.specs.FinSet as set
 use Rattle.kern_model.specs.declared.object.Mac.{Mac}
 use Rattle.kern_model.specs.declared.object.LinkKind.{LinkKind}
-use Rattle.kern_model.specs.declared.object.LinkKind.TheVariants.{Bridge, Vlan}
+use Rattle.kern_model.specs.declared.object.LinkKind.TheVariants.{Vlan}
 use Rattle.kern_model.specs.declared.object.Object.{Object}
 use Rattle.kern_model.specs.declared.object.Object.TheVariants as object
 use Rattle.kern_model.specs.ObjectOrder.{Objects, Has, object_cmp}
@@ -14,7 +14,7 @@ use Rattle.kern_model.specs.Allowed.{AreAllowed, are_one_vlan}
 use Rattle.kern_model.proofs.OrderLemmas.{objects_total}
 use Rattle.kern_model.proofs.TestLemmas.{of_left, same_bytes, false_of_not}
 use Rattle.kern_model.proofs.SetLemmas.{has_itself, has_before, new_or_before, has_retained, of_retained, same_members, none_in_empty}
-use Rattle.kern_model.proofs.StandingLemmas.{over_itself, over_on, over_lower, over_cases, still_under, is_under}
+use Rattle.kern_model.proofs.StandingLemmas.{over_itself, over_lower, over_cases, still_under, is_under}
 
 pub nothing_allowed : (devices : Devices) → AreAllowed devices set.empty
 nothing_allowed devices = record { supported = λ o h. absurd (none_in_empty o h); apart = λ a b h g excluded. absurd (none_in_empty a h) }

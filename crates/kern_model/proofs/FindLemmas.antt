@@ -1,5 +1,5 @@
 -- Devices in a list, by name.
-use Rattle.std.proofs.Common.{arith, ℕ, suc, ◌≡◌, ◌<◌, ◌≤◌, ◌+◌, List, [], ◌∷◌, ◌++◌, Option, Some, None, true, false, Bool, cond, length, drop, get_or, add-one, drop-cons, refl, ap, sym, subst, ◌∙◌}
+use Rattle.std.proofs.Common.{arith, ℕ, suc, ◌≡◌, ◌<◌, ◌≤◌, ◌+◌, List, [], ◌∷◌, ◌++◌, Option, Some, None, true, false, Bool, cond, length, drop, get_or, add-one, drop-cons, refl, ap, sym, ◌∙◌}
 use Rattle.std.specs.Prelude.{bytes_eq, not}
 use Rattle.std.specs.Ordering.{nat_cmp, eq_by_cmp}
 use Rattle.std.specs.Cmp.Lexicographic.{slice_cmp, nat_list_cmp_total}

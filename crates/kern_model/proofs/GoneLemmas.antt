@@ -1,12 +1,11 @@
 -- What goes with a name: the least relation of names over names, and removing VLANs one by one.
-use Rattle.std.proofs.Common.{arith, ℕ, zero, suc, ◌≡◌, ◌<◌, ◌≤◌, ◌+◌, ◌⊎◌, inl, inr, List, [], ◌∷◌, ◌++◌, Option, Some, None, true, false, Bool, cond, Contains, length, take, drop, get_or, add-one, drop-cons, refl, ap, sym, subst, ◌∙◌}
+use Rattle.std.proofs.Common.{arith, ℕ, suc, ◌≡◌, ◌<◌, ◌≤◌, ◌+◌, ◌⊎◌, inl, inr, List, [], ◌∷◌, ◌++◌, Option, Some, None, true, false, Bool, cond, Contains, length, take, drop, get_or, add-one, drop-cons, refl, ap, sym, subst, ◌∙◌}
 use Rattle.std.specs.Prelude.{◌&&◌, ◌||◌, not, bytes_eq, nat_lt, filter, position}
 use Rattle.std.specs.List.{list_any, position_or_len}
-use Rattle.std.specs.FinSet as set
 use Rattle.std.proofs.lemmas.List.Elements.{filter-append, filter_agree, Contains-append_left, Contains-append_right, Contains-append_cases}
 use Rattle.std.proofs.lemmas.List.{take-append-drop}
 use Rattle.kern_model.specs.declared.object.Mac.{Mac}
-use Rattle.kern_model.specs.declared.object.LinkKind.TheVariants.{Bridge, Vlan}
+use Rattle.kern_model.specs.declared.object.LinkKind.TheVariants.{Vlan}
 use Rattle.kern_model.specs.declared.object.Object.{Object}
 use Rattle.kern_model.specs.declared.object.Object.TheVariants as object
 use Rattle.kern_model.specs.ObjectOrder.{Objects, Has, set_of}
@@ -15,7 +14,7 @@ use Rattle.kern_model.specs.Kernel.{name_of}
 use Rattle.kern_model.specs.MemKernel.{left_standing}
 use Rattle.kern_model.specs.Tests.{is_at, is_vlan_over}
 use Rattle.kern_model.proofs.MemberLemmas.{here, there, first_or_later, none_in_nil}
-use Rattle.kern_model.proofs.TestLemmas.{both, of_both, either, of_left, of_right, not_true, of_not, below_test, above_test, true_or_not, true_of_both_ways, bytes_same, same_bytes, from_any, of_any}
+use Rattle.kern_model.proofs.TestLemmas.{both, of_both, either, of_left, not_true, of_not, below_test, above_test, true_or_not, true_of_both_ways, bytes_same, same_bytes, from_any, of_any}
 use Rattle.kern_model.proofs.SetLemmas.{same_or_other, set_of_member, member_of_set}
 use Rattle.kern_model.proofs.StandingLemmas.{IsVlanStep, step_has, over_itself, over_on, over_lower}
 
@@ -282,3 +281,12 @@ less_by_one p (x ∷ xs) h = less_step (p x) x (filter (λ y. not (p y)) xs) xs 
   | inl first ↦ inl first
   | inr later ↦ inr (less_by_one p xs later)
 ])
+
+-- a test that no object passes finds none, and keeps all
+pub none_found : (p : Object → Bool) → ((o : Object) → p o ≡ false) → (xs : List Object) → list_any p xs ≡ false
+none_found p none [] = refl
+none_found p none (x ∷ xs) = ap (λ b. b || list_any p xs) (none x) ∙ none_found p none xs
+
+pub all_kept : (p : Object → Bool) → ((o : Object) → p o ≡ false) → (xs : List Object) → filter (λ x. not (p x)) xs ≡ xs
+all_kept p none [] = refl
+all_kept p none (x ∷ xs) = ap (λ b. cond (not b) (x ∷ filter (λ y. not (p y)) xs) (filter (λ y. not (p y)) xs)) (none x) ∙ ap (λ ys. x ∷ ys) (all_kept p none xs)

@@ -1,7 +1,6 @@
 -- Where no VLAN is made, every height is 0.
 use Rattle.std.proofs.Common.{ℕ, ◌≡◌, List, true, refl, ap, ◌∙◌}
 use Rattle.std.specs.FinSet as set
-use Rattle.kern_model.specs.declared.object.LinkKind.TheVariants.{Bridge, Vlan}
 use Rattle.kern_model.specs.declared.object.Object.{Object}
 use Rattle.kern_model.specs.declared.object.Object.TheVariants as object
 use Rattle.kern_model.specs.ObjectOrder.{Objects, object_cmp, Has}

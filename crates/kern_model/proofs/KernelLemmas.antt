@@ -1,5 +1,5 @@
 -- What the lists of a kernel in memory are as a set and a map.
-use Rattle.std.proofs.Common.{◌≡◌, ◌⊎◌, inl, inr, ℕ, List, [], ◌∷◌, ◌++◌, Option, Some, None, true, false, Bool, Contains, refl, ap, sym, subst, ◌∙◌}
+use Rattle.std.proofs.Common.{◌≡◌, inl, ℕ, List, Option, Some, None, true, Bool, refl, ap, sym, ◌∙◌}
 use Rattle.std.specs.Prelude.{not, filter, is_some}
 use Rattle.std.specs.Ordering.{eq_by_cmp}
 use Rattle.std.specs.FinSet as set
@@ -8,9 +8,9 @@ use Rattle.kern_model.specs.declared.object.Device.{Device}
 use Rattle.kern_model.specs.declared.object.Object.{Object}
 use Rattle.kern_model.specs.declared.object.Call.{Call}
 use Rattle.kern_model.specs.declared.object.Call.TheVariants.{Put, Take}
-use Rattle.kern_model.specs.ObjectOrder.{Objects, object_cmp, Has, set_of}
+use Rattle.kern_model.specs.ObjectOrder.{Objects, object_cmp, set_of}
 use Rattle.kern_model.specs.Standing.{stands_on, gone}
-use Rattle.kern_model.specs.Kernel.{Devices, map_of, is_present, Exists, replaces, after_call}
+use Rattle.kern_model.specs.Kernel.{Devices, Exists, replaces, after_call}
 use Rattle.kern_model.specs.MemKernel.{objects_after, left_standing}
 use Rattle.kern_model.proofs.OrderLemmas.{objects_total, objects_apart}
 use Rattle.kern_model.proofs.TestLemmas.{not_true, of_not}

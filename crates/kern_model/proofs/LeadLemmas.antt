@@ -1,15 +1,13 @@
 -- Between two allowed sets each call is admitted in its turn, and all of them lead from the one to the other.
-use Rattle.std.proofs.Common.{arith, ℕ, ◌≡◌, ◌≤◌, ◌<◌, ◌+◌, ◌-◌, ◌⊎◌, inl, inr, List, [], ◌∷◌, ◌++◌, Option, true, false, Bool, Contains, refl, ap, sym, subst, ◌∙◌}
-use Rattle.std.specs.Prelude.{◌&&◌, ◌||◌, not, nat_eq, bytes_eq, ⊤}
+use Rattle.std.proofs.Common.{arith, ℕ, ◌≡◌, ◌≤◌, ◌-◌, ◌⊎◌, inl, inr, List, [], ◌∷◌, ◌++◌, Option, true, false, Bool, Contains, refl, ap, sym, subst}
+use Rattle.std.specs.Prelude.{not, nat_eq, bytes_eq, ⊤}
 use Rattle.std.specs.declared.cmp.Ordering.TheVariants.{Less}
 use Rattle.std.specs.List.{AllByRecursion}
 use Rattle.std.specs.List.Sorted.{IsStrictlySortedBy}
 use Rattle.std.specs.Cmp.{tied_itself}
 use Rattle.std.specs.FinSet as set
 use Rattle.std.proofs.lemmas.Bool.Decides.{Decides-eqb}
-use Rattle.net_addr.specs.declared.address.Addr.{Addr}
 use Rattle.kern_model.specs.declared.object.Mac.{Mac}
-use Rattle.kern_model.specs.declared.object.RouteObject.{RouteObject}
 use Rattle.kern_model.specs.declared.object.LinkKind.{LinkKind}
 use Rattle.kern_model.specs.declared.object.LinkKind.TheVariants.{Bridge, Vlan}
 use Rattle.kern_model.specs.declared.object.Object.{Object}
@@ -17,11 +15,11 @@ use Rattle.kern_model.specs.declared.object.Object.TheVariants as object
 use Rattle.kern_model.specs.declared.object.Call.{Call}
 use Rattle.kern_model.specs.declared.object.Call.TheVariants.{Put, Take}
 use Rattle.kern_model.specs.ObjectOrder.{Objects, Has}
-use Rattle.kern_model.specs.Standing.{places_of, height, is_over}
+use Rattle.kern_model.specs.Standing.{places_of, height}
 use Rattle.kern_model.specs.Kernel.{Devices, is_present, Exists, own_mtu, own_mac, name_of, replaces, after_call}
-use Rattle.kern_model.specs.Admission.{IsBridge, HasLowerUp, VlanMayBeMade, MayBeMade, AdmitsPut, MayGoDown, AdmitsTake, CarriesOwn, Admits}
-use Rattle.kern_model.specs.Allowed.{IsHeldVlan, IsHeldLink, AreAllowed, exclude, are_one_vlan}
-use Rattle.kern_model.specs.Touched.{is_on_taken, is_touched, is_replaced, is_taken, is_put, is_call}
+use Rattle.kern_model.specs.Admission.{HasLowerUp, MayBeMade, AdmitsPut, MayGoDown, AdmitsTake, CarriesOwn}
+use Rattle.kern_model.specs.Allowed.{IsHeldLink, AreAllowed, exclude, are_one_vlan}
+use Rattle.kern_model.specs.Touched.{is_replaced, is_taken, is_put, is_call}
 use Rattle.kern_model.specs.CallOrder.{rank, height_place, call_cmp, AreCalls, after_calls, AreAdmitted}
 use Rattle.kern_model.proofs.OrderLemmas.{calls_total, rank_rises, place_rises}
 use Rattle.kern_model.proofs.MemberLemmas.{all_members, member_of_all, here, there, first_or_later, none_in_nil}

@@ -1,6 +1,6 @@
 -- A map from places to objects gives the calls in their order.
 use Rattle.std.proofs.Common.{ℕ, ◌≡◌, inl, inr, List, [], ◌∷◌, ◌++◌, map, Some, Option, true, false, Bool, cond, refl, ap, sym, subst, ◌∙◌, Contains}
-use Rattle.std.specs.Prelude.{◌&&◌, not, ◌↔◌}
+use Rattle.std.specs.Prelude.{◌↔◌}
 use Rattle.std.specs.Ordering.{nat_cmp, ordering_then, is_eq}
 use Rattle.std.specs.declared.cmp.Ordering.{Ordering}
 use Rattle.std.specs.declared.cmp.Ordering.TheVariants.{Less, Equal, Greater}

@@ -1,25 +1,24 @@
 -- After a front of the calls from nothing, the others are those that lead on.
-use Rattle.std.proofs.Common.{◌≡◌, ◌⊎◌, inl, inr, List, [], ◌∷◌, ◌++◌, true, false, Bool, subst, Contains}
-use Rattle.std.specs.Prelude.{◌&&◌, ◌||◌, not}
+use Rattle.std.proofs.Common.{◌≡◌, inl, inr, List, [], ◌∷◌, ◌++◌, true, Contains}
 use Rattle.std.specs.declared.cmp.Ordering.TheVariants.{Less}
 use Rattle.std.specs.List.{AllByRecursion}
 use Rattle.std.specs.List.Sorted.{IsStrictlySortedBy}
 use Rattle.std.specs.Cmp.{tied_itself}
 use Rattle.std.specs.FinSet as set
-use Rattle.std.proofs.lemmas.List.Elements.{Contains-append_left, Contains-append_right, Contains-append_cases}
+use Rattle.std.proofs.lemmas.List.Elements.{Contains-append_right, Contains-append_cases}
 use Rattle.kern_model.specs.declared.object.Object.{Object}
 use Rattle.kern_model.specs.declared.object.Call.{Call}
 use Rattle.kern_model.specs.declared.object.Call.TheVariants.{Put, Take}
 use Rattle.kern_model.specs.ObjectOrder.{Objects, Has}
-use Rattle.kern_model.specs.Kernel.{Devices, after_call}
+use Rattle.kern_model.specs.Kernel.{Devices}
 use Rattle.kern_model.specs.Allowed.{AreAllowed}
-use Rattle.kern_model.specs.Touched.{falls, is_on_taken, is_touched, is_taken, is_put, is_call}
+use Rattle.kern_model.specs.Touched.{falls, is_on_taken, is_taken, is_put, is_call}
 use Rattle.kern_model.specs.Standing.{places_of}
 use Rattle.kern_model.specs.CallOrder.{call_cmp, AreCalls, after_calls}
 use Rattle.kern_model.proofs.OrderLemmas.{calls_total}
 use Rattle.kern_model.proofs.MemberLemmas.{all_members, member_of_all, first_or_later, none_in_nil}
 use Rattle.kern_model.proofs.SetLemmas.{none_in_empty}
-use Rattle.kern_model.proofs.TestLemmas.{both, either, not_true, from_any}
+use Rattle.kern_model.proofs.TestLemmas.{from_any}
 use Rattle.kern_model.proofs.AllowedLemmas.{nothing_allowed}
 use Rattle.kern_model.proofs.TouchLemmas.{falls_with, touched_wanted, put_wanted, put_of, put_touched, taken_held, taken_touched, touched_cases}
 use Rattle.kern_model.proofs.LeadLemmas.{IsPut, PutsAreLeft, at_first, puts_are_left, after_puts, taken_call}

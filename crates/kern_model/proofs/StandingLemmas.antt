@@ -1,10 +1,8 @@
 -- Names over names, and heights.
-use Rattle.std.proofs.Common.{arith, ℕ, ◌≡◌, ◌≤◌, ◌<◌, ◌+◌, ◌⊎◌, inl, inr, List, [], ◌∷◌, Option, Some, None, true, false, Bool, Contains, length, refl, ap, sym, subst, ◌∙◌}
-use Rattle.std.specs.Prelude.{◌&&◌, ◌||◌, bytes_eq}
-use Rattle.std.specs.List.{filter_map}
+use Rattle.std.proofs.Common.{ℕ, ◌≡◌, ◌≤◌, ◌+◌, ◌⊎◌, inl, inr, List, [], ◌∷◌, Option, Some, true, Contains, refl, subst, ◌∙◌}
 use Rattle.std.specs.FinSet as set
 use Rattle.kern_model.specs.declared.object.Mac.{Mac}
-use Rattle.kern_model.specs.declared.object.LinkKind.TheVariants.{Bridge, Vlan}
+use Rattle.kern_model.specs.declared.object.LinkKind.TheVariants.{Vlan}
 use Rattle.kern_model.specs.declared.object.Object.{Object}
 use Rattle.kern_model.specs.declared.object.Object.TheVariants as object
 use Rattle.kern_model.specs.ObjectOrder.{Objects, Has}

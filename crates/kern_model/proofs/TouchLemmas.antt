@@ -1,7 +1,6 @@
 -- Which objects are touched, taken and replaced between a held and a wanted set that are allowed.
-use Rattle.std.proofs.Common.{arith, ℕ, ◌≡◌, ◌⊎◌, inl, inr, List, [], ◌∷◌, Option, true, false, Bool, Contains, refl, ap, sym, subst, ◌∙◌}
+use Rattle.std.proofs.Common.{ℕ, ◌≡◌, ◌⊎◌, inl, inr, List, Option, true, false, Contains, sym, subst, ◌∙◌}
 use Rattle.std.specs.Prelude.{◌&&◌, ◌||◌, not, ⊤}
-use Rattle.std.specs.List.{list_any}
 use Rattle.std.specs.FinSet as set
 use Rattle.net_addr.specs.declared.address.Addr.{Addr}
 use Rattle.kern_model.specs.declared.object.Mac.{Mac}
@@ -15,9 +14,8 @@ use Rattle.kern_model.specs.Standing.{places_of, is_over}
 use Rattle.kern_model.specs.Kernel.{Devices, replaces}
 use Rattle.kern_model.specs.Allowed.{AreAllowed, exclude}
 use Rattle.kern_model.specs.Touched.{is_unwanted_under, falls, is_on_taken, is_in_one, is_touched, is_replaced, is_taken, is_put}
-use Rattle.kern_model.proofs.MemberLemmas.{here, first_or_later, none_in_nil}
 use Rattle.kern_model.proofs.SetLemmas.{set_of_item, item_of_set}
-use Rattle.kern_model.proofs.TestLemmas.{both, of_both, either, of_left, of_right, not_true, of_not, true_or_not, bytes_same, same_bytes, Passes, from_any, of_any}
+use Rattle.kern_model.proofs.TestLemmas.{both, of_both, either, of_left, of_right, not_true, of_not, true_or_not, bytes_same, same_bytes, from_any, of_any}
 use Rattle.kern_model.proofs.StandingLemmas.{over_itself, over_on, over_lower}
 
 -- the objects that another may take the place of

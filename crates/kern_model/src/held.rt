@@ -1,5 +1,5 @@
 //! How the list of the objects that a kernel in memory holds changes.
-ghost use Rattle.std.specs.Prelude.{◌≡◌, ◌<◌, ◌≤◌, ◌+◌, true, OnOk, OnErr, vec_len, vec_capacity};
+ghost use Rattle.std.specs.Prelude.{◌≡◌, ◌<◌, ◌≤◌, ◌+◌, true, not, filter, OnOk, OnErr, vec_len, vec_capacity};
 ghost use Rattle.std.specs.List.{position, list_any};
 ghost use Rattle.kern_model.specs.Kernel.{replaces};
 ghost use Rattle.kern_model.specs.MemKernel.{objects_after, left_standing, needs_room};
@@ -21,7 +21,7 @@ fn needs_room(objects: &[Object], call: &Call) -> bool
 fn replaces_one(objects: &[Object], object: &Object) -> bool
     ensures { result ≡ list_any (replaces object.now) objects.now }
 {
-    objects.iter().any(|old| object.replaces(old))
+    object.is_value() && objects.iter().any(|old| object.replaces(old))
 }
 
 /// Makes room for what the call puts, where it takes the place of no other object.
@@ -37,6 +37,16 @@ pub(crate) fn make_room(objects: &mut Vec<Object>, call: &Call) -> Result<(), Al
     objects.reserve(1)
 }
 
+// Removes what the object takes the place of.
+fn remove_replaced(objects: &mut Vec<Object>, object: &Object)
+    ensures items { objects.new.items ≡ filter (λ old. not (replaces object.now old)) objects.old.items }
+    ensures room { (vec_len objects.new ≤ vec_len objects.old) × (vec_capacity objects.new ≡ vec_capacity objects.old) }
+{
+    if object.is_value() {
+        objects.retain(|old| !object.replaces(old));
+    }
+}
+
 /// Does what an admitted call does. There has to be room for what it puts.
 pub(crate) fn change(objects: &mut Vec<Object>, call: &Call)
     requires { needs_room objects.old.items call.now ≡ true → vec_len objects.old < vec_capacity objects.old }
@@ -47,7 +57,7 @@ pub(crate) fn change(objects: &mut Vec<Object>, call: &Call)
     let _named: Option<LinkKind> = None;
     match call {
         Call::Put(object) => {
-            objects.retain(|old| !object.replaces(old));
+            remove_replaced(objects, object);
             objects.push_reserved(*object);
         }
         Call::Take { object, .. } => objects.retain(|old| !object.is(old)),

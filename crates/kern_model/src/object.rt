@@ -1,6 +1,7 @@
-ghost use Rattle.std.specs.Prelude.{◌≡◌, ◌↔◌, IsTrue};
+ghost use Rattle.std.specs.Prelude.{◌≡◌, ◌↔◌, IsTrue, false};
 ghost use Rattle.std.specs.Ordering.{eq_by_cmp};
 ghost use Rattle.kern_model.specs.ObjectOrder.{object_cmp};
+ghost use Rattle.kern_model.specs.declared.object.Object.{Object as Held};
 ghost use Rattle.kern_model.specs.Kernel.{object_of, name_of, replaces};
 ghost use Rattle.kern_model.specs.Tests.{is_link_of, is_bridge_of, is_vlan_with, is_vlan_over, is_master_of, is_at};
 
@@ -90,6 +91,13 @@ impl Object {
             Object::Address { dev, .. } => *dev,
             Object::Route(route) => route.dev,
         }
+    }
+
+    // Whether this object may take the place of another.
+    pub(crate) fn is_value(&self) -> bool
+        ensures { (result ≡ false) → (old : Held) → replaces self.now old ≡ false }
+    {
+        matches!(self, Object::Mtu { .. } | Object::Mac { .. })
     }
 
     /// Whether this object takes the place of the other: an MTU or a hardware address that of the one of its name.

@@ -1,7 +1,6 @@
-use Rattle.std.proofs.Common.{rules, ◌≡◌, ◌+◌, ◌++◌, Some, None, take, drop, ap, ap₂, sym, ◌∙◌}
+use Rattle.std.proofs.Common.{rules, ◌≡◌, Some, None, ap, ap₂, sym, ◌∙◌}
 use Rattle.std.specs.Prelude.{position}
 use Rattle.std.proofs.lemmas.Fn.{filter_same}
-use Rattle.kern_model.specs.Kernel.{name_of}
 use Rattle.kern_model.specs.MemKernel.{left_standing}
 use Rattle.kern_model.specs.Tests.{is_vlan_over}
 use Rattle.kern_model.proofs.SetLemmas.{member_of_set}

@@ -1,8 +1,7 @@
-use Rattle.std.proofs.Common.{arith, ◌≡◌, ◌<◌, ◌∷◌, [], ◌++◌, Some, ap, sym, ◌∙◌, length}
+use Rattle.std.proofs.Common.{arith, ◌≡◌, ◌∷◌, [], ◌++◌, Some, ap, sym, ◌∙◌, length}
 use Rattle.std.specs.FinMap as map
 use Rattle.std.specs.Option.{option_map_or}
 use Rattle.kern_model.specs.Kernel.{map_of, with_carrier}
-use Rattle.kern_model.specs.MemKernel.{without}
 use Rattle.kern_model.proofs.FindLemmas.{found_in_list, map_changed}
 use Rattle.kern_model.proofs.present.set_carrier.Goals as goal
 
