@@ -112,10 +112,10 @@ fillers-alone [] behind h = tt
 fillers-alone (blank bytes ∷ fillers) behind h = (h.0, fillers-alone fillers behind h.1)
 fillers-alone (comment bytes ∷ fillers) behind h = (h.0, at_end-left (λ byte. nat_eq byte 10) (gap_text fillers) behind h.1, fillers-alone fillers behind h.2)
 
-gap-alone : (gap behind : List ℕ) → IsGap gap behind → IsGap gap []
+pub gap-alone : (gap behind : List ℕ) → IsGap gap behind → IsGap gap []
 gap-alone gap behind g = record { fillers = g.fillers; whole = g.whole; each = fillers-alone g.fillers behind g.each; next = tt }
 
-command-alone : (extent behind : List ℕ) (words : List (List ℕ)) → SpellsCommand extent behind words → SpellsCommand extent [] words
+pub command-alone : (extent behind : List ℕ) (words : List (List ℕ)) → SpellsCommand extent behind words → SpellsCommand extent [] words
 command-alone extent behind words s = record {
   command = s.command;
   gap = s.gap;
@@ -126,13 +126,13 @@ command-alone extent behind words s = record {
   words_are = s.words_are;
 }
 
-command_read : (extent behind : List ℕ) (words : List (List ℕ)) → SpellsCommand extent behind words → run 0 in_gap extent ≡ read (line_of (0 - newlines (extent ++ [])) words ∷ [])
+pub command_read : (extent behind : List ℕ) (words : List (List ℕ)) → SpellsCommand extent behind words → run 0 in_gap extent ≡ read (line_of (0 - newlines (extent ++ [])) words ∷ [])
 command_read extent behind words s = ap (λ (z : List ℕ). run 0 in_gap z) (sym (append-nil extent)) ∙ command_runs 0 extent [] words (command-alone extent behind words s)
 
-gap_read : (gap behind : List ℕ) → IsGap gap behind → run 0 in_gap gap ≡ read []
+pub gap_read : (gap behind : List ℕ) → IsGap gap behind → run 0 in_gap gap ≡ read []
 gap_read gap behind g = ap (λ (z : List ℕ). run 0 in_gap z) (sym (append-nil gap)) ∙ gap_runs 0 gap [] (gap-alone gap behind g)
 
-no_both : (lines : List Line) (error : TextError) (r : Outcome) → r ≡ read lines → r ≡ fault error → ⊥
+pub no_both : (lines : List Line) (error : TextError) (r : Outcome) → r ≡ read lines → r ≡ fault error → ⊥
 no_both lines error r a b =
     let n : read lines ≡ fault error = sym a ∙ b in
     cc

@@ -10,3 +10,5 @@ pub mod FaultLemmas
 pub mod ReadLemmas
 pub mod TotalLemmas
 pub mod WordsLemmas
+pub mod TableLemmas
+pub mod CommandsLemmas

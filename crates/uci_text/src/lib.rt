@@ -2,20 +2,26 @@
 #![tactic(auto)]
 
 mod byte_class;
+mod cmd;
 mod command;
+mod commands;
 mod extent;
 mod gap;
+mod keyword;
 mod laws;
 mod line;
 mod piece;
 mod quote;
 mod read;
 mod stop;
+mod table;
 #[cfg(test)]
 mod tests;
 mod text_error;
 mod word;
 
+pub use cmd::Cmd;
+pub use commands::read_commands;
 pub use laws::{lines_have_words, no_reading_with_fault, one_fault, one_reading, reading_or_fault};
 pub use line::Line;
 pub use quote::quote_into;
