@@ -12,3 +12,5 @@ pub mod TotalLemmas
 pub mod WordsLemmas
 pub mod TableLemmas
 pub mod CommandsLemmas
+pub mod SplitLemmas
+pub mod FirstLemmas
