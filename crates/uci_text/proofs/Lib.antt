@@ -14,3 +14,4 @@ pub mod TableLemmas
 pub mod CommandsLemmas
 pub mod SplitLemmas
 pub mod FirstLemmas
+pub mod Examples

@@ -4,6 +4,8 @@
 mod byte_class;
 mod cmd;
 mod command;
+#[cfg(test)]
+mod command_tests;
 mod commands;
 mod extent;
 mod gap;
