@@ -1,18 +1,24 @@
 -- Texts whose readings and faults the checker computes.
-use Rattle.std.proofs.Common.{ℕ, ◌≡◌, ◌<◌, List, [], ◌∷◌, ◌++◌, length, Bool, true, false, refl, codes, arith}
+use Rattle.std.proofs.Common.{ℕ, ◌≡◌, ◌<◌, List, [], ◌∷◌, ◌++◌, length, Bool, true, false, Some, inl, inr, refl, codes, arith}
 use Rattle.std.specs.Prelude.{◌&&◌}
 use Rattle.std.specs.List.{list_all}
-use Rattle.uci_text.specs.declared.text_error.TextError.TheVariants.{BadWord, OpenQuote}
+use Rattle.uci_text.specs.declared.text_error.TextError.TheVariants.{BadWord, OpenQuote, ArgumentCount}
 use Rattle.uci_text.specs.declared.byte_class.ByteClass.{ByteClass}
-use Rattle.uci_text.specs.declared.byte_class.ByteClass.TheVariants.{Blank, InLine, Plain, Quotable, DoubleQuotable, NotZero}
+use Rattle.uci_text.specs.declared.byte_class.ByteClass.TheVariants.{Blank, InLine, Plain, Quotable, DoubleQuotable, NotZero, Name, Printable}
+use Rattle.uci_text.specs.declared.keyword.Keyword.TheVariants.{Config, Item}
+use Rattle.uci_text.specs.declared.cmd.Cmd.TheVariants.{Config as ConfigCmd, Item as ItemCmd}
 use Rattle.uci_text.specs.ByteClass.{is_in, AllIn, ends_word}
 use Rattle.uci_text.specs.Piece.{Piece, plain, escaped, single, double, kept}
 use Rattle.uci_text.specs.Word.{Spaced, IsWord, IsSpaced}
 use Rattle.uci_text.specs.Gap.{blank, comment, IsGap}
-use Rattle.uci_text.specs.Open.{open_single, open_pair, IsOpenCommand, unended}
+use Rattle.uci_text.specs.Command.{SpellsCommand}
+use Rattle.uci_text.specs.Open.{open_single, open_pair, IsOpenCommand, ended, unended}
 use Rattle.uci_text.specs.Text.{Spells}
 use Rattle.uci_text.specs.Fault.{zero_byte, no_end, IsFirstFault}
+use Rattle.uci_text.specs.Table.{of_count}
+use Rattle.uci_text.specs.Commands.{SpellsCommands, of_words, IsFirstCommandFault}
 use Rattle.uci_text.proofs.FaultLemmas.{gap_faultless}
+use Rattle.uci_text.proofs.CommandsLemmas.{gap_free}
 
 both : (t u : Bool) → (t && u) ≡ true → (t ≡ true) × (u ≡ true)
 both true u h = (refl, h)
@@ -129,3 +135,40 @@ backslash_in_quotes = record {
 
     is_open : IsOpenCommand (codes "\"a\\") [] (open_pair (kept (codes "a") ∷ []))
     is_open = record { front = []; whole = refl; before_is = refl; loose = tt; open_is = (tested DoubleQuotable (codes "a") refl, tt) }
+
+-- the same text as commands
+commands_of_two : SpellsCommands two_commands (ConfigCmd 1 (codes "x") (Some (codes "s")) ∷ ItemCmd 1 (codes "a") (codes "bc d") ∷ [])
+commands_of_two = record {
+  lines = record { line = 1; words = codes "config" ∷ codes "x" ∷ codes "s" ∷ [] } ∷ record { line = 1; words = codes "option" ∷ codes "a" ∷ codes "bc d" ∷ [] } ∷ [];
+  spelled = pieces_and_comment;
+  each = (
+    record { keyword = Config; is = record { begins = inl refl; count = inr refl; named = ((omega arith, tested Printable (codes "x") refl), tested Name (codes "s") refl) }; cmd_is = refl },
+    (record { keyword = Item; is = record { begins = inl refl; count = inr refl; named = (omega arith, tested Name (codes "a") refl) }; cmd_is = refl }, tt),
+  );
+}
+
+-- a section with one argument too many
+three_arguments : IsFirstCommandFault (codes "config x y z") (ArgumentCount 1)
+three_arguments = record {
+  good = [] ∷ [];
+  bad = codes "config x y z";
+  behind = [];
+  whole = refl;
+  extents = (no_gap 99 (codes "onfig x y z") refl, (ended words spelled, tt));
+  free = (gap_free [] (codes "config x y z") (no_gap 99 (codes "onfig x y z") refl) tt, tt);
+  fault = of_words words spelled (tested NotZero (codes "config x y z") refl) (of_count Config (inl refl) (λ h. elim h [ inl e ↦ omega arith | inr e ↦ omega arith ]) refl);
+}
+  where
+    words : List (List ℕ)
+    words = codes "config" ∷ codes "x" ∷ codes "y" ∷ codes "z" ∷ []
+
+    spelled : SpellsCommand (codes "config x y z") [] words
+    spelled = record {
+      command = record { first = word (codes "config"); others = spaced (codes "x") ∷ spaced (codes "y") ∷ spaced (codes "z") ∷ []; last = [] };
+      gap = [];
+      whole = refl;
+      is = record { first = is_word (codes "config") (omega arith) refl; others = (is_spaced (codes "x") (omega arith) refl, (is_spaced (codes "y") (omega arith) refl, (is_spaced (codes "z") (omega arith) refl, tt))); last = tt };
+      end = tt;
+      gap_is = record { fillers = []; whole = refl; each = tt; next = tt };
+      words_are = refl;
+    }

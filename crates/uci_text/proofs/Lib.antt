@@ -10,4 +10,8 @@ pub mod FaultLemmas
 pub mod ReadLemmas
 pub mod TotalLemmas
 pub mod WordsLemmas
+pub mod TableLemmas
+pub mod CommandsLemmas
+pub mod SplitLemmas
+pub mod FirstLemmas
 pub mod Examples

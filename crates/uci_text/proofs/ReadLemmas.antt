@@ -32,12 +32,11 @@ pub record ReadSoFar (text rest : List ℕ) (number : ℕ) (lines : List Line) :
   pub spelled : (more : List Line) → SpellsLines number rest more → SpellsLines (newlines gap + 1) (concat extents ++ rest) (lines ++ more)
   pub begins : IsAtEndOr (λ byte. not (ends_word byte)) rest
 
-pub read_none : (text behind : List ℕ) (number : ℕ) (lines : List Line) → ReadsGap text behind number → lines ≡ [] → ReadSoFar text behind number lines
-read_none text behind number lines g e =
-    let P : List Line → Type 0 = λ z. ReadSoFar text behind number z in
+unfoldable pub read_start : (text behind : List ℕ) (number : ℕ) → ReadsGap text behind number → ReadSoFar text behind number []
+read_start text behind number g =
     let Q : List ℕ → Type 0 = λ z. AllIn NotZero z in
     let R : ℕ → List Line → Type 0 = λ n more. SpellsLines n behind more in
-    subst P (sym e) (record {
+    record {
       gap = g.gap;
       extents = [];
       whole = g.whole ∙ ap (λ (z : List ℕ). z ++ behind) (sym (append-nil g.gap));
@@ -49,23 +48,28 @@ read_none text behind number lines g e =
       number_is = g.number_is ∙ ap (λ (z : List ℕ). newlines z + 1) (sym (append-nil g.gap));
       spelled = λ more h. subst (λ (n : ℕ). R n more) g.number_is h;
       begins = g.is.next;
-    })
+    }
 
-concat-push : (extents : List (List ℕ)) (last : List ℕ) → concat (extents ++ last ∷ []) ≡ concat extents ++ last
+pub read_none : (text behind : List ℕ) (number : ℕ) (lines : List Line) → ReadsGap text behind number → lines ≡ [] → ReadSoFar text behind number lines
+read_none text behind number lines g e =
+    let P : List Line → Type 0 = λ z. ReadSoFar text behind number z in
+    subst P (sym e) (read_start text behind number g)
+
+pub concat-push : (extents : List (List ℕ)) (last : List ℕ) → concat (extents ++ last ∷ []) ≡ concat extents ++ last
 concat-push [] last = append-nil last
 concat-push (extent ∷ extents) last = ap (λ (z : List ℕ). extent ++ z) (concat-push extents last) ∙ sym (append_assoc extent (concat extents) last)
 
 -- the last extent, and what is behind it
-moved : (extents : List (List ℕ)) (last behind rest : List ℕ) → rest ≡ last ++ behind → concat extents ++ rest ≡ concat (extents ++ last ∷ []) ++ behind
+pub moved : (extents : List (List ℕ)) (last behind rest : List ℕ) → rest ≡ last ++ behind → concat extents ++ rest ≡ concat (extents ++ last ∷ []) ++ behind
 moved extents last behind rest w = ap (λ (z : List ℕ). concat extents ++ z) w ∙ sym (append_assoc (concat extents) last behind) ∙ ap (λ (z : List ℕ). z ++ behind) (sym (concat-push extents last))
 
-extents-push : (extents : List (List ℕ)) (last behind rest : List ℕ) → rest ≡ last ++ behind → AreExtents extents rest → IsExtent last behind → AreExtents (extents ++ last ∷ []) behind
+pub extents-push : (extents : List (List ℕ)) (last behind rest : List ℕ) → rest ≡ last ++ behind → AreExtents extents rest → IsExtent last behind → AreExtents (extents ++ last ∷ []) behind
 extents-push [] last behind rest w a i = (i, tt)
 extents-push (extent ∷ extents) last behind rest w a i =
     let P : List ℕ → Type 0 = λ z. IsExtent extent z in
     (subst P (moved extents last behind rest w) a.0, extents-push extents last behind rest w a.1 i)
 
-pub read_more : (text rest behind : List ℕ) (number next : ℕ) (lines : List Line) (line : Line) → ReadSoFar text rest number lines → ReadsExtent number rest line behind next → ReadSoFar text behind next (lines ++ line ∷ [])
+unfoldable pub read_more : (text rest behind : List ℕ) (number next : ℕ) (lines : List Line) (line : Line) → ReadSoFar text rest number lines → ReadsExtent number rest line behind next → ReadSoFar text behind next (lines ++ line ∷ [])
 read_more text rest behind number next lines line r e =
     let P : List ℕ → Type 0 = λ z. IsGap r.gap z in
     let Q : List ℕ → Type 0 = λ z. AllIn NotZero z in

@@ -1,8 +1,9 @@
 -- The classes of bytes that UCI text is made of (OpenWrt's UCI file syntax).
 use Rattle.std.specs.Prelude.{ℕ, ◌≡◌, List, [], ◌∷◌, ◌++◌, Bool, IsTrue, not, ◌||◌, nat_eq}
+use Rattle.std.specs.Char.{is_ascii_alphanumeric, is_ascii_graphic}
 use Rattle.std.specs.List.{AllByRecursion, count_by}
 use Rattle.uci_text.specs.declared.byte_class.ByteClass.{ByteClass}
-use Rattle.uci_text.specs.declared.byte_class.ByteClass.TheVariants.{Space, Blank, InLine, Plain, Quotable, DoubleQuotable, NotZero}
+use Rattle.uci_text.specs.declared.byte_class.ByteClass.TheVariants.{Space, Blank, InLine, Plain, Quotable, DoubleQuotable, NotZero, Name, PackageName, Printable}
 
 -- space, tab, CR, VT or FF
 abbrev pub is_space : ℕ → Bool
@@ -24,6 +25,10 @@ ends_word byte = is_space byte || ends_command byte
 abbrev pub is_quoting : ℕ → Bool
 is_quoting byte = nat_eq byte 39 || nat_eq byte 34 || nat_eq byte 92
 
+-- a letter, a digit or `_`
+abbrev pub is_name_byte : ℕ → Bool
+is_name_byte byte = is_ascii_alphanumeric byte || nat_eq byte 95
+
 -- The bytes of each class. A zero byte is plain, and may stand within quotes and comments: so each text has its
 -- commands, also one that no reading takes.
 abbrev pub is_in : ByteClass → ℕ → Bool
@@ -34,6 +39,9 @@ is_in Plain byte = not (ends_word byte || is_quoting byte)
 is_in Quotable byte = not (nat_eq byte 39)
 is_in DoubleQuotable byte = not (nat_eq byte 34 || nat_eq byte 92)
 is_in NotZero byte = not (nat_eq byte 0)
+is_in Name byte = is_name_byte byte
+is_in PackageName byte = is_name_byte byte || nat_eq byte 45
+is_in Printable byte = is_ascii_graphic byte
 
 -- all of the bytes are of the class
 abbrev pub AllIn : ByteClass → List ℕ → Type 0

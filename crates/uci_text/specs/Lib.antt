@@ -8,5 +8,7 @@ pub mod Open
 pub mod Text
 pub mod Fault
 pub mod Found
+pub mod Table
+pub mod Commands
 pub mod Quote
 pub mod TextError

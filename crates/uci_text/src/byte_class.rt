@@ -1,6 +1,6 @@
-ghost use Rattle.std.specs.Prelude.{◌≡◌, ◌<◌, ◌^◌, length, IsTrue, MatchBool};
+ghost use Rattle.std.specs.Prelude.{◌≡◌, ◌<◌, ◌^◌, ◌↔◌, length, IsTrue, MatchBool};
 ghost use Rattle.uci_text.specs.ByteClass as class;
-ghost use Rattle.uci_text.specs.ByteClass.{is_in, SplitsBehind, IsAtEndOr};
+ghost use Rattle.uci_text.specs.ByteClass.{is_in, AllIn, SplitsBehind, IsAtEndOr};
 ghost use Rattle.uci_text.specs.Found.{BeginsOutside};
 
 /// A class of bytes.
@@ -20,6 +20,12 @@ pub enum ByteClass {
     DoubleQuotable,
     /// Any byte but the zero byte.
     NotZero,
+    /// An ASCII letter, a digit or `_`.
+    Name,
+    /// An ASCII letter, a digit, `_` or `-`.
+    PackageName,
+    /// A byte from 33 to 126.
+    Printable,
 }
 
 impl ByteClass {
@@ -35,6 +41,9 @@ impl ByteClass {
             ByteClass::Quotable => byte != b'\'',
             ByteClass::DoubleQuotable => !matches!(byte, b'"' | b'\\'),
             ByteClass::NotZero => byte != 0,
+            ByteClass::Name => is_name_byte(byte),
+            ByteClass::PackageName => is_name_byte(byte) || byte == b'-',
+            ByteClass::Printable => byte.is_ascii_graphic(),
         }
     }
 
@@ -48,6 +57,14 @@ impl ByteClass {
             }
         }
         (bytes, &[])
+    }
+
+    /// Whether all of the bytes are of the class.
+    pub fn contains_all(self, bytes: &[u8]) -> bool
+        ensures { IsTrue result ↔ AllIn self bytes.now }
+    {
+        let (_, rest) = self.split(bytes);
+        rest.is_empty()
     }
 }
 
@@ -67,6 +84,12 @@ fn is_word_end(byte: u8) -> bool
     ensures { result ≡ class.ends_word byte }
 {
     is_space(byte) || is_command_end(byte)
+}
+
+fn is_name_byte(byte: u8) -> bool
+    ensures { result ≡ class.is_name_byte byte }
+{
+    byte.is_ascii_alphanumeric() || byte == b'_'
 }
 
 /// Whether a command ends here.

@@ -15,19 +15,32 @@ pub enum TextError {
     /// The quote that opens on this line is not closed.
     #[error("open quote in line {line}")]
     OpenQuote { line: u32 },
+    /// The first word of the command on this line is not in the table of commands.
+    #[error("unknown command in line {line}")]
+    UnknownCommand { line: u32 },
+    /// The command on this line has too few arguments or too many.
+    #[error("wrong number of arguments in line {line}")]
+    ArgumentCount { line: u32 },
+    /// An argument of the command on this line is not the name or the type that it stands for.
+    #[error("bad name in line {line}")]
+    BadName { line: u32 },
     /// There was not enough memory.
     #[error("out of memory")]
     Memory,
 }
 
 impl TextError {
-    /// The number of the kind of error: 10 for `BadWord`, 11 for `OpenQuote`, 8 for `Memory`.
+    /// The number of the kind of error: 10 for `BadWord`, 11 for `OpenQuote`, 12 for `UnknownCommand`, 13 for
+    /// `ArgumentCount`, 14 for `BadName`, 8 for `Memory`.
     pub fn number(&self) -> u8
         ensures { result ≡ number_of self.now }
     {
         match self {
             TextError::BadWord { .. } => 10,
             TextError::OpenQuote { .. } => 11,
+            TextError::UnknownCommand { .. } => 12,
+            TextError::ArgumentCount { .. } => 13,
+            TextError::BadName { .. } => 14,
             TextError::Memory => 8,
         }
     }
