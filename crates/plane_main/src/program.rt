@@ -21,8 +21,9 @@ use std::alloc::Global;
 /// The program: carries a command out over the devices that it is given, and answers its exit status.
 ///
 /// `start DEV..` reads a `network` text from the input, and brings its interfaces up on the devices of those names;
-/// `--help` and `--version` print a page about the program. The words are without the name of the program. A device that the kernel does not take is absent. Status 8 is want of
-/// memory: then no object was put and nothing was written to the output, but devices may have been added.
+/// `--help` and `--version` print a page about the program. The words are without the name of the program. A device that
+/// the kernel does not take is absent. Status 8 is want of memory: then no object was put and nothing was written to the
+/// output, but devices may have been added.
 pub fn plane<S: Source, O: Sink, E: Sink, K: Kernel>(
     alloc: Global,
     words: &[String],
