@@ -1,0 +1,17 @@
+//! UCI packages, the trees that OpenWrt's configuration files stand for: sections that go on, options and lists, names of
+//! anonymous sections, and paths into a package.
+#![tactic(auto)]
+
+mod anonymous;
+mod copy;
+mod lookup;
+mod package;
+mod path;
+mod tree_error;
+
+pub use anonymous::anonymous_name;
+pub use copy::copy_package;
+pub use lookup::{Place, find};
+pub use package::{Opt, Package, Section, Value};
+pub use path::{Path, SectionRef};
+pub use tree_error::TreeError;
