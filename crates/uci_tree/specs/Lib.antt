@@ -1,4 +1,6 @@
--- UCI packages (OpenWrt's configuration files): names of anonymous sections, what a path finds, numbers of errors.
+-- UCI packages (OpenWrt's configuration files): names of anonymous sections, paths, what a path finds, numbers of errors.
 pub mod Anonymous
+pub mod Path
+pub mod Split
 pub mod Find
 pub mod TreeError

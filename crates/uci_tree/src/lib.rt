@@ -5,8 +5,11 @@
 mod anonymous;
 mod copy;
 mod lookup;
+mod names;
 mod package;
 mod path;
+mod path_text;
+mod split;
 mod tree_error;
 
 pub use anonymous::anonymous_name;
@@ -14,4 +17,5 @@ pub use copy::copy_package;
 pub use lookup::{Place, find};
 pub use package::{Opt, Package, Section, Value};
 pub use path::{Path, SectionRef};
+pub use path_text::read_path;
 pub use tree_error::TreeError;
