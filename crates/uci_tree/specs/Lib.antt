@@ -3,4 +3,8 @@ pub mod Anonymous
 pub mod Path
 pub mod Split
 pub mod Find
+pub mod Fold
+pub mod Valid
+pub mod Reading
+pub mod Index
 pub mod TreeError

@@ -6,9 +6,12 @@ mod anonymous;
 mod copy;
 mod lookup;
 mod names;
+mod options;
 mod package;
 mod path;
 mod path_text;
+mod reading;
+mod sections;
 mod split;
 mod tree_error;
 
@@ -18,4 +21,5 @@ pub use lookup::{Place, find};
 pub use package::{Opt, Package, Section, Value};
 pub use path::{Path, SectionRef};
 pub use path_text::read_path;
+pub use reading::read_package;
 pub use tree_error::TreeError;
