@@ -1,5 +1,5 @@
 -- The words of a text without a zero byte have none, so its commands are of their form.
-use Rattle.std.proofs.Common.{ℕ, zero, suc, ◌≡◌, ◌+◌, ◌<◌, Bool, true, false, cond, nat_eq, List, [], ◌∷◌, ◌++◌, length, get_or, map, Option, Some, None, sym, ap, subst, ◌∙◌, arith}
+use Rattle.std.proofs.Common.{ℕ, zero, suc, ◌+◌, Bool, true, false, cond, nat_eq, List, [], ◌∷◌, ◌++◌, get_or, map, Some, None, sym, subst, arith}
 use Rattle.std.specs.List.{AllByRecursion, AllZip, flat_map}
 use Rattle.uci_text.specs.declared.byte_class.ByteClass.TheVariants.{Name, Printable, NotZero}
 use Rattle.uci_text.specs.declared.keyword.Keyword.{Keyword}
@@ -11,8 +11,8 @@ use Rattle.uci_text.specs.ByteClass.{AllIn, newlines}
 use Rattle.uci_text.specs.Piece.{Inner, kept, pair, inner_text, inner_value, Piece, plain, escaped, single, double, piece_text, piece_value}
 use Rattle.uci_text.specs.Word.{Spaced, word_text, word_value, spaced_text}
 use Rattle.uci_text.specs.Command.{Command, command_text, command_words, SpellsCommand}
-use Rattle.uci_text.specs.Text.{SpellsLines, Spells}
-use Rattle.uci_text.specs.Table.{IsNameOf, AreNamed, section_name, cmd_of, word_at, IsCmd}
+use Rattle.uci_text.specs.Text.{SpellsLines}
+use Rattle.uci_text.specs.Table.{IsNameOf, AreNamed, section_name, cmd_of, word_at}
 use Rattle.uci_text.specs.Commands.{IsCmdOf, SpellsCommands}
 use Rattle.uci_text.proofs.ClassLemmas.{all_in-append, all_in-left, all_in-right}
 

@@ -1,15 +1,14 @@
 -- The fold of commands, by places.
-use Rattle.std.proofs.Common.{ℕ, zero, suc, ◌≡◌, ◌+◌, ◌-◌, ◌<◌, ◌≤◌, Bool, true, false, cond, nat_lt, nat_eq, List, [], ◌∷◌, ◌++◌, length, get_or, set, take, drop, Option, Some, None, Result, Ok, Err, bytes_eq, position, refl, sym, ap, subst, ◌∙◌, arith, not, ⊎_elim}
+use Rattle.std.proofs.Common.{ℕ, zero, suc, ◌≡◌, ◌+◌, ◌<◌, Bool, true, false, cond, nat_lt, nat_eq, List, [], ◌∷◌, ◌++◌, length, get_or, set, Option, Some, None, bytes_eq, position, refl, sym, ap, ◌∙◌, arith, not, ⊎_elim}
 use Rattle.std.proofs.lemmas.Bool.{cases_lt}
 use Rattle.std.specs.List.{position_or_len, remove}
 use Rattle.std.specs.Option.{option_map}
 use Rattle.std.proofs.lemmas.Bool.Decides.{nat_tests}
 use Rattle.uci_tree.specs.declared.package.Value.{Value}
-use Rattle.uci_tree.specs.declared.package.Value.TheVariants.{One, Many}
+use Rattle.uci_tree.specs.declared.package.Value.TheVariants.{One}
 use Rattle.uci_tree.specs.declared.package.Opt.{Opt}
-use Rattle.uci_tree.specs.declared.package.Section.{Section}
-use Rattle.uci_tree.specs.Find.{option_place, named_place}
-use Rattle.uci_tree.specs.Fold.{changed_at, put, without, with_option, with_item, appended}
+use Rattle.uci_tree.specs.Find.{option_place}
+use Rattle.uci_tree.specs.Fold.{changed_at, put, without, with_option}
 
 mapped : (b c : Bool) (u v : ℕ) → b ≡ c → u ≡ suc v → cond b (Some u) None ≡ option_map (λ k. suc k) (cond c (Some v) None)
 mapped true true u v e w = ap Some w

@@ -5,3 +5,4 @@ pub mod FoldLemmas
 pub mod SectionLemmas
 pub mod ReadingLemmas
 pub mod CleanLemmas
+pub mod ValidLemmas

@@ -1,5 +1,5 @@
 -- A text is a package in one way at most.
-use Rattle.std.proofs.Common.{ℕ, ◌≡◌, List, length, Ok, sym, ap, subst, ◌∙◌}
+use Rattle.std.proofs.Common.{ℕ, ◌≡◌, List, length, Ok, sym, ap, ◌∙◌}
 use Rattle.uci_text.specs.declared.cmd.Cmd.{Cmd}
 use Rattle.uci_text.specs.Commands.{SpellsCommands}
 use Rattle.uci_text.proofs.CommandsLemmas.{commands_are_one}

@@ -1,5 +1,5 @@
 -- The names of anonymous sections (OpenWrt's libuci).
-use Rattle.std.specs.Prelude.{ℕ, ◌+◌, ◌*◌, ◌-◌, ◌%◌, List, [], ◌∷◌, ◌++◌, false, fold, length, replicate, codes}
+use Rattle.std.specs.Prelude.{ℕ, ◌+◌, ◌*◌, ◌-◌, ◌%◌, List, ◌++◌, false, fold, length, replicate, codes}
 use Rattle.std.specs.Fmt.{digits}
 
 -- the hash of a type, below 65,536

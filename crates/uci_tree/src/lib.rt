@@ -13,6 +13,8 @@ mod path_text;
 mod reading;
 mod sections;
 mod split;
+#[cfg(test)]
+mod tests;
 mod tree_error;
 
 pub use anonymous::anonymous_name;

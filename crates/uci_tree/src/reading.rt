@@ -4,6 +4,9 @@ ghost use Rattle.uci_tree.specs.declared.tree_error.TreeError.{TreeError as Faul
 ghost use Rattle.uci_tree.specs.Fold as fold;
 ghost use Rattle.uci_tree.specs.Index.{IsLack, draft_of};
 ghost use Rattle.uci_tree.specs.Reading.{Reads, HasTreeFault};
+ghost use Rattle.uci_tree.specs.Valid.{IsValid};
+ghost use Rattle.uci_text.specs.Table.{IsNameOf};
+ghost use Rattle.uci_text.specs.declared.byte_class.ByteClass.{ByteClass};
 
 use crate::sections::Sections;
 use crate::{Package, TreeError};
@@ -28,6 +31,7 @@ pub fn read_package(alloc: Global, name: &[u8], text: &[u8]) -> Result<Package, 
     ensures found { IfOk result (λ tree. Reads name.now text.now tree) }
     ensures only { IfOk result (λ tree. (other : AnyPackage) → Reads name.now text.now other → other ≡ tree) }
     ensures refused { (error : Fault) → result ≡ Err error → error ≢ TreeError.Memory → HasTreeFault text.now error }
+    ensures valid { IsNameOf ByteClass.PackageName name.now → IfOk result IsValid }
 {
     let commands = read_commands(alloc, text)?;
     let sections = sections_of(alloc, commands.into_vec())?;

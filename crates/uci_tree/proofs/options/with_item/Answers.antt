@@ -1,7 +1,5 @@
-use Rattle.std.proofs.Common.{◌∙◌, ap, ◌++◌, ◌∷◌, [], List, ℕ}
-use Rattle.uci_tree.specs.declared.package.Value.TheVariants.{Many}
+use Rattle.std.proofs.Common.{◌∙◌}
 use Rattle.std.proofs.lemmas.Result.{IfOk-weaker}
-use Rattle.uci_tree.specs.declared.package.Opt.{Opt}
 use Rattle.uci_tree.specs.Fold.{appended}
 use Rattle.uci_tree.proofs.FoldLemmas.{put_some, put_none}
 use Rattle.uci_tree.proofs.options.with_item.Goals as goal

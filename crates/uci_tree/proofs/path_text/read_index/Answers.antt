@@ -1,4 +1,4 @@
-use Rattle.std.proofs.Common.{subst, sym, ◌∙◌, ◌≡◌, List, ℕ, ℤ, w32, nat_eq, [], ◌∷◌, ap, rules}
+use Rattle.std.proofs.Common.{subst, sym, ◌∙◌, List, ℕ, ℤ, w32, nat_eq, [], ◌∷◌, ap, rules}
 use mir.Val.{SFits}
 use Rattle.std.specs.List.{starts_with}
 use Rattle.std.proofs.lemmas.Str.{IsUtf8-from_ascii}
