@@ -1,0 +1,10 @@
+-- UCI packages (OpenWrt's configuration files): names of anonymous sections, paths, what a path finds, numbers of errors.
+pub mod Anonymous
+pub mod Path
+pub mod Split
+pub mod Find
+pub mod Fold
+pub mod Valid
+pub mod Reading
+pub mod Index
+pub mod TreeError

@@ -1,0 +1,29 @@
+//! UCI packages, the trees that OpenWrt's configuration files stand for: sections that go on, options and lists, names of
+//! anonymous sections, and paths into a package.
+#![tactic(auto)]
+
+mod anonymous;
+mod copy;
+mod laws;
+mod lookup;
+mod names;
+mod options;
+mod package;
+mod path;
+mod path_text;
+mod reading;
+mod sections;
+mod split;
+#[cfg(test)]
+mod tests;
+mod tree_error;
+
+pub use anonymous::anonymous_name;
+pub use copy::copy_package;
+pub use laws::{one_package, one_path};
+pub use lookup::{Place, find};
+pub use package::{Opt, Package, Section, Value};
+pub use path::{Path, SectionRef};
+pub use path_text::read_path;
+pub use reading::read_package;
+pub use tree_error::TreeError;

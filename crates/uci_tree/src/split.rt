@@ -1,0 +1,42 @@
+ghost use Rattle.std.specs.Prelude.{MatchOption};
+ghost use Rattle.std.specs.Option.{option_copied};
+ghost use Rattle.uci_tree.specs.Split.{HasNone, CutsAtFirst, CutsAtLast, CutsOption};
+
+use crate::names::is_name;
+
+/// What is in front of the first of these bytes, and what is behind it.
+pub fn cut_first(text: &[u8], byte: u8) -> Option<(&[u8], &[u8])>
+    ensures { MatchOption result (HasNone byte text.now) (λ cut. CutsAtFirst byte text.now cut.0.now cut.1.now) }
+{
+    for (at, other) in text.iter().enumerate() {
+        if *other == byte {
+            return Some((&text[..at], &text[at + 1..]));
+        }
+    }
+    None
+}
+
+/// What is in front of the last of these bytes, and what is behind it.
+pub fn cut_last(text: &[u8], byte: u8) -> Option<(&[u8], &[u8])>
+    ensures { MatchOption result (HasNone byte text.now) (λ cut. CutsAtLast byte text.now cut.0.now cut.1.now) }
+{
+    for at in (0..text.len()).rev() {
+        if text[at] == byte {
+            return Some((&text[..at], &text[at + 1..]));
+        }
+    }
+    None
+}
+
+/// A section, and the name of an option behind the last `.` where there is one.
+pub fn cut_option(text: &[u8]) -> (&[u8], Option<&[u8]>)
+    ensures { CutsOption text.now result.0.now (option_copied result.1) }
+{
+    let Some((section, name)) = cut_last(text, b'.') else {
+        return (text, None);
+    };
+    if !is_name(name) {
+        return (text, None);
+    }
+    (section, Some(name))
+}

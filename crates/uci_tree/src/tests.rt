@@ -1,0 +1,240 @@
+use super::*;
+use plane_io::Text;
+use std::alloc::Global;
+use std::process::Abort;
+use std::test::Fail;
+use uci_text::TextError;
+
+/// The network file of a router with one bridge.
+const ROUTER: &[u8] = b"config interface 'loopback'
+\toption device 'lo'
+\toption proto 'static'
+\toption ipaddr '127.0.0.1'
+\toption netmask '255.0.0.0'
+
+config globals 'globals'
+\toption ula_prefix 'fd12:3456:789a::/48'
+
+config device
+\toption name 'br-lan'
+\toption type 'bridge'
+\tlist ports 'lan1'
+\tlist ports 'lan2'
+\tlist ports 'lan3'
+\tlist ports 'lan4'
+
+config interface 'lan'
+\toption device 'br-lan'
+\toption proto 'static'
+\toption ipaddr '192.168.1.1'
+\toption netmask '255.255.255.0'
+\toption ip6assign '60'
+
+config interface 'wan'
+\toption device 'wan'
+\toption proto 'dhcp'
+
+config interface 'wan6'
+\toption device 'wan'
+\toption proto 'dhcpv6'
+";
+
+/// The package as text: a line for each section, with its name, its type and whether it is anonymous, and behind it each
+/// option with its value, or its items between brackets.
+fn shown(alloc: Global, tree: &Package) -> Result<Vec<u8>, Fail> {
+    let mut out = Vec::new(alloc);
+    for section in tree.sections.as_slice() {
+        out.extend_from_slice(section.name.as_bytes())?;
+        out.push(if section.anonymous { b'@' } else { b':' })?;
+        out.extend_from_slice(section.kind.as_bytes())?;
+        for option in section.options.as_slice() {
+            out.push(b' ')?;
+            out.extend_from_slice(option.name.as_bytes())?;
+            out.push(b'=')?;
+            show_value(&mut out, &option.value)?;
+        }
+        out.push(b'\n')?;
+    }
+    Ok(out)
+}
+
+fn show_value(out: &mut Vec<u8>, value: &Value) -> Result<(), Fail> {
+    match value {
+        Value::One(text) => out.extend_from_slice(text.as_bytes())?,
+        Value::Many(items) => {
+            for item in items.as_slice() {
+                out.push(b'[')?;
+                out.extend_from_slice(item.as_bytes())?;
+                out.push(b']')?;
+            }
+        }
+    }
+    Ok(())
+}
+
+/// What is read of a short text, as text, or the number of the error and the line.
+fn outcome(rt: &impl Abort, alloc: Global, text: &[u8]) -> Result<Vec<u8>, Fail> {
+    assert!(rt; text.len() < 4096);
+    match read_package(alloc, b"network", text) {
+        Ok(tree) => shown(alloc, &tree),
+        Err(TreeError::NoSection { line }) => {
+            Ok(format!(in alloc; "no section {line}")?.into_bytes())
+        }
+        Err(TreeError::Text(error)) => Ok(format!(in alloc; "{error}")?.into_bytes()),
+        Err(TreeError::Memory) => Ok(Vec::from_slice(alloc, b"memory")?),
+    }
+}
+
+#[test]
+fn the_file_of_a_router(rt: HostRuntime) -> Result<(), Fail> {
+    let read = outcome(&rt, rt.alloc(), ROUTER)?;
+    let expected: &[u8] =
+        b"loopback:interface device=lo proto=static ipaddr=127.0.0.1 netmask=255.0.0.0
+globals:globals ula_prefix=fd12:3456:789a::/48
+cfg030f15@device name=br-lan type=bridge ports=[lan1][lan2][lan3][lan4]
+lan:interface device=br-lan proto=static ipaddr=192.168.1.1 netmask=255.255.255.0 ip6assign=60
+wan:interface device=wan proto=dhcp
+wan6:interface device=wan proto=dhcpv6
+";
+    assert_eq!(rt; read.as_slice(), expected);
+    Ok(())
+}
+
+#[test]
+fn rules_of_the_fold(rt: HostRuntime) -> Result<(), Fail> {
+    let texts: [(&[u8], &[u8]); 19] = [
+        (b"", b""),
+        (b"package other", b""),
+        (b"config system", b"cfg01e48a@system\n"),
+        (b"config x s; option a 'b'\"c\"\\ d # end", b"s:x a=bc d\n"),
+        // a section goes on, with the type that is named last
+        (
+            b"config x s\noption a 1\nconfig y t\nconfig z s\noption b 2",
+            b"s:z a=1 b=2\nt:y\n",
+        ),
+        (
+            b"config x\nconfig y cfg01d7a8",
+            b"cfg01b61d@x\ncfg01d7a8:y\n",
+        ),
+        (b"config x\nconfig y cfg01b61d", b"cfg01b61d@y\n"),
+        // an option is replaced at its place, and an empty value removes it
+        (
+            b"config x s\noption a 1\noption b 2\noption a 3",
+            b"s:x a=3 b=2\n",
+        ),
+        (
+            b"config x s\noption a 1\noption b 2\noption a",
+            b"s:x b=2\n",
+        ),
+        (b"config x s\noption a ''", b"s:x\n"),
+        (
+            b"config x s\noption a 1\noption b 2\noption a ''\noption a 4",
+            b"s:x b=2 a=4\n",
+        ),
+        // a list goes on, begins with an option's value, and gives way to an option
+        (
+            b"config x s\nlist a 1\noption b 3\nlist a 2",
+            b"s:x a=[1][2] b=3\n",
+        ),
+        (b"config x s\noption a 1\nlist a 2", b"s:x a=[1][2]\n"),
+        (b"config x s\nlist a 1\nlist a 2\noption a 3", b"s:x a=3\n"),
+        (b"config x s\nlist a", b"s:x a=[]\n"),
+        // what stands before any section, and a later fault of the text
+        (b"option a b", b"no section 1"),
+        (b"\n\nlist a b\nconfig x\noption a b", b"no section 3"),
+        (b"option a b\noption \"a", b"open quote in line 2"),
+        (
+            b"option a b\nconfig x y z",
+            b"wrong number of arguments in line 2",
+        ),
+    ];
+    for (text, expected) in texts {
+        let read = outcome(&rt, rt.alloc(), text)?;
+        assert_eq!(rt; read.as_slice(), expected, "{text:?}");
+    }
+    Ok(())
+}
+
+/// Where the path leads in the file of a router: the section's place, and the option's where there is one.
+fn place(rt: &impl Abort, alloc: Global, path: &[u8]) -> Result<Vec<u8>, Fail> {
+    assert!(rt; ROUTER.len() < 4096);
+    let tree = read_package(alloc, b"network", ROUTER)?;
+    let Some(path) = read_path(alloc, path)? else {
+        return Ok(Vec::from_slice(alloc, b"no path")?);
+    };
+    match find(&tree, &path) {
+        None => Ok(Vec::from_slice(alloc, b"none")?),
+        Some(
+            Place {
+                section,
+                option: None,
+            },
+        ) => Ok(format!(in alloc; "{section}")?.into_bytes()),
+        Some(
+            Place {
+                section,
+                option: Some(option),
+            },
+        ) => { Ok(format!(in alloc; "{section} {option}")?.into_bytes()) }
+    }
+}
+
+#[test]
+fn places_in_the_file_of_a_router(rt: HostRuntime) -> Result<(), Fail> {
+    let paths: [(&[u8], &[u8]); 27] = [
+        (b"network.lan", b"3"),
+        (b"network.lan.ipaddr", b"3 2"),
+        (b"other.lan.ipaddr", b"3 2"),
+        (b"network.cfg030f15.ports", b"2 2"),
+        (b"network.@device[0]", b"2"),
+        (b"network.@device[-1].name", b"2 0"),
+        (b"network.@device[-2]", b"none"),
+        (b"network.@device[5]", b"none"),
+        (b"network.@interface[0]", b"0"),
+        (b"network.@interface[3]", b"5"),
+        (b"network.@interface[4]", b"none"),
+        (b"network.@interface[-1]", b"5"),
+        (b"network.@interface[-2]", b"4"),
+        (b"network.@interface[-4]", b"0"),
+        (b"network.@interface[-5]", b"none"),
+        (b"network.@interface[-2147483648]", b"none"),
+        (b"network.@interface[2147483648]", b"no path"),
+        (b"network.@interface[001].proto", b"3 1"),
+        (b"network.@interface[-0]", b"0"),
+        (b"network.@interface[+1]", b"no path"),
+        (b"network.@[0]", b"no path"),
+        (b"network.@a.b[1][0].c", b"none"),
+        (b"network.lan.", b"no path"),
+        (b"network.lan.a.b", b"no path"),
+        (b"network", b"none"),
+        (b"", b"no path"),
+        (b"network.absent.a", b"none"),
+    ];
+    for (path, expected) in paths {
+        let found = place(&rt, rt.alloc(), path)?;
+        assert_eq!(rt; found.as_slice(), expected, "{path:?}");
+    }
+    Ok(())
+}
+
+#[test]
+fn copies_and_numbers(rt: HostRuntime) -> Result<(), Fail> {
+    assert!(rt; ROUTER.len() < 4096);
+    let tree = read_package(rt.alloc(), b"network", ROUTER)?;
+    let copy = copy_package(rt.alloc(), &tree)?;
+    assert_eq!(rt; copy.made, 6);
+    assert_eq!(rt; copy.name.as_bytes(), b"network".as_slice());
+    assert_eq!(rt;
+        shown(rt.alloc(), &copy)?.as_slice(),
+        shown(rt.alloc(), &tree)?.as_slice()
+    );
+    let name: Text = anonymous_name(rt.alloc(), 300, b"system")?;
+    assert_eq!(rt; name.as_bytes(), b"cfg12ce48a".as_slice());
+    assert_eq!(rt; TreeError::NoSection { line: 1 }.number(), 15);
+    assert_eq!(rt;
+        TreeError::Text(TextError::BadName { line: 1 }).number(),
+        14
+    );
+    assert_eq!(rt; TreeError::Memory.number(), 8);
+    Ok(())
+}
