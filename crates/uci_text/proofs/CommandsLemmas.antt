@@ -1,20 +1,19 @@
 -- The commands of a text, one after another.
-use Rattle.std.proofs.Common.{ℕ, ◌≡◌, ◌+◌, ◌-◌, List, [], ◌∷◌, ◌++◌, sym, refl, subst, ap, ◌∙◌, append_assoc}
+use Rattle.std.proofs.Common.{ℕ, ◌≡◌, List, [], ◌∷◌, ◌++◌, sym, refl, subst, ap, ◌∙◌, append_assoc}
 use Rattle.std.specs.List.{AllByRecursion, AllZip, concat}
 use Rattle.uci_text.specs.declared.line.Line.{Line}
 use Rattle.uci_text.specs.declared.cmd.Cmd.{Cmd}
 use Rattle.uci_text.specs.declared.text_error.TextError.{TextError}
 use Rattle.uci_text.specs.declared.byte_class.ByteClass.TheVariants.{NotZero}
-use Rattle.uci_text.specs.ByteClass.{AllIn, newlines}
+use Rattle.uci_text.specs.ByteClass.{AllIn}
 use Rattle.uci_text.specs.Gap.{IsGap}
 use Rattle.uci_text.specs.Command.{SpellsCommand}
 use Rattle.uci_text.specs.Open.{IsExtent, ended}
-use Rattle.uci_text.specs.Text.{Spells}
-use Rattle.uci_text.specs.Fault.{HasFault, IsFreeOf, IsFirstFault}
+use Rattle.uci_text.specs.Fault.{IsFreeOf}
 use Rattle.uci_text.specs.Table.{IsCmd, HasWordsFault}
 use Rattle.uci_text.specs.Commands.{IsCmdOf, SpellsCommands, HasCommandFault, of_bytes, of_words, IsFirstCommandFault}
 use Rattle.uci_text.specs.Found.{ReadsExtent, RefusesExtent, ReadsGap, RefusesGap}
-use Rattle.uci_text.proofs.RunLemmas.{in_gap, Outcome, read, run, line_of}
+use Rattle.uci_text.proofs.RunLemmas.{in_gap, read, run}
 use Rattle.uci_text.proofs.ClassLemmas.{each-append}
 use Rattle.uci_text.proofs.FaultLemmas.{command_read, gap_read, command-alone, command_faultless, gap_faultless, reading_is_one}
 use Rattle.uci_text.proofs.ReadLemmas.{ReadSoFar, read_start, read_more, read_all, moved, extents-push}

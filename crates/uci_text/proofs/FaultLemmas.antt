@@ -20,16 +20,16 @@ use Rattle.uci_text.proofs.ClassLemmas.{all_in-append, all_in-right}
 use Rattle.uci_text.proofs.RunLemmas.{Mode, in_gap, in_command, Outcome, read, fault, run, add, line_of, finished, blank_runs, gap_runs, command_begins, command_runs, space_step, piece_begins, piece_runs, open_runs, newlines-append, reading_runs}
 
 -- the machine is between commands or in one
-abbrev IsOutside : Mode → Type 0
+abbrev pub IsOutside : Mode → Type 0
 IsOutside in_gap = Unit {0}
 IsOutside (in_command l ws o) = Unit {0}
 IsOutside _ = ⊥
 
 -- it comes to the rest outside quotes
-record Comes (top : ℕ) (m : Mode) (text rest : List ℕ) : Type 0 where
-  mode : Mode
-  outside : IsOutside mode
-  same : run top m text ≡ run top mode rest
+pub record Comes (top : ℕ) (m : Mode) (text rest : List ℕ) : Type 0 where
+  pub mode : Mode
+  pub outside : IsOutside mode
+  pub same : run top m text ≡ run top mode rest
 
 blank_space : (b : ℕ) → is_space b ≡ true → is_in Blank b ≡ true
 blank_space b h = grind (arith, nat_tests)
@@ -39,7 +39,7 @@ space_from top in_gap b rest i h = record { mode = in_gap; outside = tt; same = 
 space_from top (in_command l ws o) b rest i h = record { mode = in_command l (finished ws o) None; outside = tt; same = space_step top l ws o b rest h }
 space_from top _ b rest i h = absurd i
 
-piece_from : (top : ℕ) (m : Mode) (piece : Piece) (rest : List ℕ) → IsOutside m → IsPiece piece → Comes top m (piece_text piece ++ rest) rest
+pub piece_from : (top : ℕ) (m : Mode) (piece : Piece) (rest : List ℕ) → IsOutside m → IsPiece piece → Comes top m (piece_text piece ++ rest) rest
 piece_from top in_gap piece rest i p =
     let l : ℕ = top - newlines (piece_text piece ++ rest) in
     record {
@@ -68,7 +68,7 @@ pieces_from top m (piece ∷ pieces) rest i p =
       same = ap (λ (z : List ℕ). run top m z) (append_assoc (piece_text piece) (word_text pieces) rest) ∙ a.same ∙ r.same;
     }
 
-loose_from : (top : ℕ) (m : Mode) (front : List Spaced) (rest : List ℕ) → IsOutside m → AllByRecursion IsLoose front → Comes top m (flat_map spaced_text front ++ rest) rest
+pub loose_from : (top : ℕ) (m : Mode) (front : List Spaced) (rest : List ℕ) → IsOutside m → AllByRecursion IsLoose front → Comes top m (flat_map spaced_text front ++ rest) rest
 loose_from top m [] rest i p = record { mode = m; outside = i; same = refl }
 loose_from top m (w ∷ front) rest i p =
     let more : List ℕ = flat_map spaced_text front ++ rest in
@@ -137,7 +137,7 @@ no_both lines error r a b =
     let n : read lines ≡ fault error = sym a ∙ b in
     cc
 
-no_zero : (extent before behind : List ℕ) → AllIn NotZero extent → extent ≡ before ++ 0 ∷ behind → ⊥
+pub no_zero : (extent before behind : List ℕ) → AllIn NotZero extent → extent ≡ before ++ 0 ∷ behind → ⊥
 no_zero extent before behind c e =
     let P : List ℕ → Type 0 = λ z. AllIn NotZero z in
     let h : AllIn NotZero (0 ∷ behind) = all_in-right NotZero before (0 ∷ behind) (subst P e c) in
@@ -213,7 +213,7 @@ open_length (open_double inner) = omega arith
 open_length (open_pair inner) = omega arith
 open_length last_backslash = omega arith
 
-bad_length : (bad before : List ℕ) (o : Open) → IsOpenCommand bad before o → 0 < length bad
+pub bad_length : (bad before : List ℕ) (o : Open) → IsOpenCommand bad before o → 0 < length bad
 bad_length bad before o h =
     let a : length bad ≡ length before + length (open_text o) = ap length h.whole ∙ length-append before (open_text o) in
     let b : 0 < length (open_text o) = open_length o in
@@ -266,7 +266,7 @@ verdict text error f = go f.fault
         (ap (λ (z : List ℕ). run top in_gap z) w ∙ first_refused top f.good f.bad before o error (subst P last f.extents) h r)
 
 -- the first zero byte is one
-one_zero : (a b x y : List ℕ) → AllIn NotZero a → AllIn NotZero b → a ++ 0 ∷ x ≡ b ++ 0 ∷ y → b ≡ a
+pub one_zero : (a b x y : List ℕ) → AllIn NotZero a → AllIn NotZero b → a ++ 0 ∷ x ≡ b ++ 0 ∷ y → b ≡ a
 one_zero [] [] x y p q e = refl
 one_zero [] (c ∷ b) x y p q e =
     let h : c ≡ 0 = cc in

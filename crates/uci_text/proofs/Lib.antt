@@ -12,3 +12,6 @@ pub mod TotalLemmas
 pub mod WordsLemmas
 pub mod TableLemmas
 pub mod CommandsLemmas
+pub mod SplitLemmas
+pub mod FirstLemmas
+pub mod Examples

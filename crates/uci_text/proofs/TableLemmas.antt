@@ -1,5 +1,5 @@
 -- The table of commands: words are one command, or have one fault.
-use Rattle.std.proofs.Common.{ℕ, ◌≡◌, ◌<◌, ◌⊎◌, inl, inr, List, [], ◌∷◌, ◌++◌, length, get_or, Bool, true, false, not, arith, sym, refl, subst, ap, ◌∙◌, nat_eq}
+use Rattle.std.proofs.Common.{ℕ, ◌≡◌, ◌⊎◌, inl, inr, List, [], ◌∷◌, length, get_or, Bool, true, false, not, arith, sym, refl, subst, ap, ◌∙◌, nat_eq}
 use Rattle.std.specs.Prelude.{if◌then◌else◌}
 use Rattle.std.specs.Str.{bytes_eq}
 use Rattle.std.proofs.lemmas.Slice.Eq.{bytes_eq-Decides}
@@ -12,7 +12,7 @@ use Rattle.uci_text.specs.declared.cmd.Cmd.{Cmd}
 use Rattle.uci_text.specs.declared.text_error.TextError.{TextError}
 use Rattle.uci_text.specs.declared.text_error.TextError.TheVariants.{UnknownCommand, ArgumentCount, BadName}
 use Rattle.uci_text.specs.ByteClass.{is_in, AllIn, SplitsBehind}
-use Rattle.uci_text.specs.Table.{Begins, IsCount, IsNameOf, AreNamed, IsKind, IsCmd, HasWordsFault, of_first, of_count, of_name, cmd_of, word_at}
+use Rattle.uci_text.specs.Table.{Begins, IsCount, IsNameOf, AreNamed, IsCmd, HasWordsFault, of_first, of_count, of_name, cmd_of, word_at}
 use Rattle.uci_text.proofs.ClassLemmas.{all_in-right}
 
 not_both : (t : Bool) → t ≡ true → not t ≡ true → ⊥

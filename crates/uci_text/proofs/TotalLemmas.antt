@@ -124,9 +124,9 @@ word_at (suc fuel) bytes rest value l h r = go (piece_at rest value h) (λ next 
         elim (ends_or_begins ends_word next) [ inl e ↦ word_there new next (word_done bytes next new new w e refl) | inr b ↦ rec next new (omega arith) b w.so_far ]
 
 -- a gap stands in front
-record GapAt (bytes : List ℕ) : Type 0 where
-  behind : List ℕ
-  is : TakesGap bytes behind
+pub record GapAt (bytes : List ℕ) : Type 0 where
+  pub behind : List ℕ
+  pub is : TakesGap bytes behind
 
 gap_at : (fuel : ℕ) (bytes rest : List ℕ) → length rest ≤ fuel → GapSoFar bytes rest → GapAt bytes
 gap_at zero bytes [] l r = record { behind = []; is = gap_ends bytes [] r refl }
@@ -147,7 +147,7 @@ gap_at (suc fuel) bytes rest l r =
     go [] m s o rec = record { behind = []; is = gap_ends bytes [] s refl }
     go (b ∷ next) m s o rec = sign b next (nat_eq b 35) refl m s o rec
 
-gap_in : (bytes : List ℕ) → GapAt bytes
+pub gap_in : (bytes : List ℕ) → GapAt bytes
 gap_in bytes = gap_at (length bytes) bytes bytes (omega arith) (gap_none bytes)
 
 -- a command stands in front, or one that does not end
@@ -175,11 +175,11 @@ command_at (suc fuel) bytes rest words l n = go (word_at (length rest) rest rest
 command_in : (bytes : List ℕ) → BeginsOutside ends_word bytes → CommandAt bytes
 command_in bytes h = command_at (length bytes) bytes bytes [] (omega arith) (next_none bytes h)
 
-length_test : (bytes : List ℕ) → 0 < length bytes → nat_eq (length bytes) 0 ≡ false
+pub length_test : (bytes : List ℕ) → 0 < length bytes → nat_eq (length bytes) 0 ≡ false
 length_test bytes l = grind (arith, nat_tests)
 
 -- the extent has no zero byte, or this fault
-clean_or_fault : (number : ℕ) (extent : List ℕ) → AllIn NotZero extent ⊎ ((error : TextError) × HasFault number extent error)
+pub clean_or_fault : (number : ℕ) (extent : List ℕ) → AllIn NotZero extent ⊎ ((error : TextError) × HasFault number extent error)
 clean_or_fault number extent = go s.rest s.is
   where
     s : Split NotZero extent
@@ -192,11 +192,11 @@ clean_or_fault number extent = go s.rest s.is
     go (b ∷ rest) i = inr (BadWord (number + newlines s.front), zero_found number extent s.front (b ∷ rest) (BadWord (number + newlines s.front)) i (length_test (b ∷ rest) (omega arith)) refl)
 
 -- the extent of a command without a fault stands in front, or one with a fault
-data ExtentAt (number : ℕ) (bytes : List ℕ) : Type 0 where
+pub data ExtentAt (number : ℕ) (bytes : List ℕ) : Type 0 where
   extent_there : (line : Line) (behind : List ℕ) (next : ℕ) → ReadsExtent number bytes line behind next → ExtentAt number bytes
   extent_refused : (error : TextError) → RefusesExtent number bytes error → ExtentAt number bytes
 
-extent_in : (number : ℕ) (bytes : List ℕ) → BeginsOutside ends_word bytes → ExtentAt number bytes
+pub extent_in : (number : ℕ) (bytes : List ℕ) → BeginsOutside ends_word bytes → ExtentAt number bytes
 extent_in number bytes h = go (command_in bytes h)
   where
     go : CommandAt bytes → ExtentAt number bytes

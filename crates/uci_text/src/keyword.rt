@@ -7,9 +7,13 @@ use crate::byte_class::ByteClass;
 /// What kind of command a line is.
 #[derive(Clone, Copy, Debug)]
 pub enum Keyword {
+    /// `package` or `p`.
     Package,
+    /// `config` or `c`.
     Config,
+    /// `option` or `o`.
     Item,
+    /// `list` or `l`.
     ListItem,
 }
 

@@ -1,8 +1,10 @@
 ghost use Rattle.std.specs.Prelude.{◌≡◌, ◌⊎◌, ◌<◌, List, ℕ, length, All};
 ghost use Rattle.uci_text.specs.declared.line.Line.{Line};
+ghost use Rattle.uci_text.specs.declared.cmd.Cmd.{Cmd};
 ghost use Rattle.uci_text.specs.declared.text_error.TextError.{TextError as Fault};
 ghost use Rattle.uci_text.specs.Text.{Spells};
 ghost use Rattle.uci_text.specs.Fault.{IsFirstFault};
+ghost use Rattle.uci_text.specs.Commands.{SpellsCommands, IsFirstCommandFault};
 
 /// A text has at most one reading.
 pub fn one_reading()
@@ -27,4 +29,24 @@ pub fn reading_or_fault()
 /// Each line of a reading has a word.
 pub fn lines_have_words()
     ensures { (text : List ℕ) (lines : List Line) → Spells text lines → All (λ line. 0 < length line.words) lines }
+{}
+
+/// A text has at most one list of commands.
+pub fn one_list_of_commands()
+    ensures { (text : List ℕ) (commands others : List Cmd) → SpellsCommands text commands → SpellsCommands text others → others ≡ commands }
+{}
+
+/// A text has at most one first fault of all.
+pub fn one_command_fault()
+    ensures { (text : List ℕ) (error other : Fault) → IsFirstCommandFault text error → IsFirstCommandFault text other → other ≡ error }
+{}
+
+/// A text that has a fault has no commands.
+pub fn no_commands_with_fault()
+    ensures { (text : List ℕ) (error : Fault) (commands : List Cmd) → IsFirstCommandFault text error → SpellsCommands text commands → ⊥ }
+{}
+
+/// A text has commands or a first fault: so it has commands exactly where it has no fault.
+pub fn commands_or_fault()
+    ensures { (text : List ℕ) → ((commands : List Cmd) × SpellsCommands text commands) ⊎ ((error : Fault) × IsFirstCommandFault text error) }
 {}

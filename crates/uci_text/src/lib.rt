@@ -4,6 +4,8 @@
 mod byte_class;
 mod cmd;
 mod command;
+#[cfg(test)]
+mod command_tests;
 mod commands;
 mod extent;
 mod gap;
@@ -22,7 +24,10 @@ mod word;
 
 pub use cmd::Cmd;
 pub use commands::read_commands;
-pub use laws::{lines_have_words, no_reading_with_fault, one_fault, one_reading, reading_or_fault};
+pub use laws::{
+    commands_or_fault, lines_have_words, no_commands_with_fault, no_reading_with_fault,
+    one_command_fault, one_fault, one_list_of_commands, one_reading, reading_or_fault,
+};
 pub use line::Line;
 pub use quote::quote_into;
 pub use read::read_lines;

@@ -1,4 +1,4 @@
-use Rattle.std.proofs.Common.{◌≡◌, ℕ, List, true, length, subst, sym, ap, ◌∙◌}
+use Rattle.std.proofs.Common.{◌≡◌, ℕ, List, true, subst, sym}
 use Rattle.uci_text.specs.declared.text_error.TextError.TheVariants.{ArgumentCount, BadName}
 use Rattle.uci_text.specs.Table.{Begins, AreNamed, of_count, of_name, word_at}
 use Rattle.uci_text.proofs.table.kind_of.Goals as goal
