@@ -6,3 +6,4 @@ pub mod SectionLemmas
 pub mod ReadingLemmas
 pub mod CleanLemmas
 pub mod ValidLemmas
+pub mod LawLemmas

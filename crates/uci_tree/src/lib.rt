@@ -20,7 +20,7 @@ mod tree_error;
 
 pub use anonymous::anonymous_name;
 pub use copy::copy_package;
-pub use laws::{one_package, one_path};
+pub use laws::{no_package_with_fault, one_package, one_path, one_tree_fault, package_or_fault};
 pub use lookup::{Place, find};
 pub use package::{Opt, Package, Section, Value};
 pub use path::{Path, SectionRef};
