@@ -1,4 +1,5 @@
 -- The words that every crate cites.
 pub mod Causes
+pub mod Distinct
 pub mod Growth
 pub mod InOrder

@@ -10,6 +10,7 @@ use Rattle.uci_text.specs.declared.cmd.Cmd.TheVariants.{Package as PackageCmd, C
 use Rattle.uci_text.specs.ByteClass.{is_in, AllIn}
 use Rattle.uci_text.specs.Table.{IsNameOf}
 use Rattle.uci_text.proofs.ClassLemmas.{all_in-append, each-append}
+use Rattle.plane_words.specs.Distinct.{AreDistinct}
 use Rattle.uci_tree.specs.declared.package.Value.{Value}
 use Rattle.uci_tree.specs.declared.package.Value.TheVariants.{One, Many}
 use Rattle.uci_tree.specs.declared.package.Opt.{Opt}
@@ -19,7 +20,7 @@ use Rattle.uci_tree.specs.Anonymous.{hex, type_hash, anonymous_name}
 use Rattle.uci_tree.specs.Find.{named_place}
 use Rattle.uci_tree.specs.Fold.{changed_at, put, without, with_option, with_item, appended, Draft, nothing, added, named_config, configured, with_options_at, after, goes_on, after_all}
 use Rattle.uci_tree.specs.Reading.{Reads}
-use Rattle.uci_tree.specs.Valid.{IsValidValue, IsValidOption, AreDistinct, names_of, IsValidSection, IsValid}
+use Rattle.uci_tree.specs.Valid.{IsValidValue, IsValidOption, names_of, IsValidSection, IsValid}
 use Rattle.uci_tree.proofs.CleanLemmas.{IsGood, good_commands}
 
 -- names of anonymous sections are names

@@ -1,6 +1,7 @@
 -- Packages whose names, types and values are of their form (OpenWrt's UCI file syntax).
-use Rattle.std.specs.Prelude.{ℕ, ◌<◌, ◌≢◌, List, [], ◌∷◌, length, map}
+use Rattle.std.specs.Prelude.{ℕ, ◌<◌, List, length, map}
 use Rattle.std.specs.List.{AllByRecursion}
+use Rattle.plane_words.specs.Distinct.{AreDistinct}
 use Rattle.uci_text.specs.declared.byte_class.ByteClass.TheVariants.{Name, PackageName, Printable, NotZero}
 use Rattle.uci_text.specs.ByteClass.{AllIn}
 use Rattle.uci_text.specs.Table.{IsNameOf}
@@ -18,11 +19,6 @@ IsValidValue (Many items) = (0 < length items) × AllByRecursion (λ item. AllIn
 pub record IsValidOption (option : Opt) : Type 0 where
   pub named : IsNameOf Name option.name
   pub value : IsValidValue option.value
-
--- no name stands behind an equal one
-abbrev pub AreDistinct : List (List ℕ) → Type 0
-AreDistinct [] = Unit {0}
-AreDistinct (name ∷ names) = AllByRecursion (λ other. other ≢ name) names × AreDistinct names
 
 abbrev pub names_of : List Opt → List (List ℕ)
 names_of options = map (λ option. option.name) options
