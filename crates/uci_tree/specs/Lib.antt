@@ -8,3 +8,4 @@ pub mod Valid
 pub mod Reading
 pub mod Index
 pub mod TreeError
+pub mod Fault

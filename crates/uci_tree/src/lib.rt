@@ -4,6 +4,7 @@
 
 mod anonymous;
 mod copy;
+mod fault;
 mod laws;
 mod lookup;
 mod names;
@@ -20,6 +21,7 @@ mod tree_error;
 
 pub use anonymous::anonymous_name;
 pub use copy::copy_package;
+pub use fault::{Fault, Reason};
 pub use laws::{no_package_with_fault, one_package, one_path, one_tree_fault, package_or_fault};
 pub use lookup::{Place, find};
 pub use package::{Opt, Package, Section, Value};
