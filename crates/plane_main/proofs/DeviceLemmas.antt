@@ -1,9 +1,10 @@
 -- Devices that come one after the other.
-use Rattle.std.proofs.Common.{arith, ℕ, zero, suc, ◌≡◌, ◌<◌, ◌≤◌, ◌+◌, ◌⊎◌, inl, inr, List, [], ◌∷◌, ◌++◌, take, length, get_or, true, false, Bool, Some, refl, ap, sym, subst, ◌∙◌, Contains, cond, filter, add-zero, append-nil, length-append}
+use Rattle.std.proofs.Common.{arith, ℕ, zero, suc, ◌≡◌, ◌≢◌, ◌<◌, ◌≤◌, ◌+◌, ◌⊎◌, inl, inr, List, [], ◌∷◌, ◌++◌, take, length, get_or, true, false, Bool, Some, refl, ap, sym, subst, ◌∙◌, Contains, cond, filter, add-zero, append-nil, length-append}
 use Rattle.std.specs.Prelude.{◌||◌, not, is_some}
 use Rattle.std.specs.Ordering.{nat_cmp, eq_by_cmp, is_eq}
 use Rattle.std.specs.Cmp.{Equal-is, tied_itself}
 use Rattle.std.proofs.lemmas.List.Elements.{filter-append}
+use Rattle.std.specs.List.{AllByRecursion}
 use Rattle.plane_words.specs.Causes.{Rose}
 use Rattle.std.specs.Cmp.Lexicographic.{slice_cmp, nat_list_cmp_total}
 use Rattle.std.specs.FinSet as set
@@ -15,7 +16,7 @@ use Rattle.kern_model.specs.ObjectOrder.{Objects, Has}
 use Rattle.kern_model.specs.Kernel.{Devices, is_present, Exists, after_event}
 use Rattle.kern_model.proofs.MemberLemmas.{first_or_later, none_in_nil, here, there}
 use Rattle.kern_model.proofs.SetLemmas.{none_in_empty}
-use Rattle.plane_main.specs.Distinct.{AreDistinct}
+use Rattle.plane_words.specs.Distinct.{AreDistinct}
 use Rattle.plane_main.specs.Wanted.{with_devices, comes}
 use Rattle.plane_main.specs.Bring.{Came, absent_count}
 
@@ -23,13 +24,18 @@ use Rattle.plane_main.specs.Bring.{Came, absent_count}
 pub none_present : (name : List ℕ) → is_present map.empty name ≡ false
 none_present name = ap is_some (map.get-empty (slice_cmp nat_cmp) name)
 
+all_item : {X : Type 0} (P : X → Type 0) (xs : List X) (i : ℕ) (x : X) → AllByRecursion P xs → i < length xs → P (get_or xs i x)
+all_item P [] i x all inside = absurd (omega arith)
+all_item P (y ∷ ys) zero x all inside = all.0
+all_item P (y ∷ ys) (suc i) x all inside = all_item P ys i x all.1 (omega arith)
+
 -- an item is not among those before it
 pub not_before : {X : Type 0} → (xs : List X) (i : ℕ) (x : X) → AreDistinct xs → i < length xs → get_or xs i x ≡ x → Contains (take i xs) x → ⊥
 not_before [] i x distinct inside is before = absurd (omega arith)
 not_before (y ∷ ys) zero x distinct inside is before = none_in_nil x before
-not_before (y ∷ ys) (suc i) x distinct inside is before =
+not_before {X} (y ∷ ys) (suc i) x distinct inside is before =
     elim (first_or_later y (take i ys) x before) as (λ _. ⊥) [
-      | inl same ↦ distinct.0 (i, omega arith, subst (λ z. get_or ys i z ≡ z) (sym same) is)
+      | inl same ↦ all_item (λ (z : X). z ≢ y) ys i x distinct.0 (omega arith) (is ∙ sym same)
       | inr later ↦ not_before ys i x distinct.1 (omega arith) is later
     ]
 

@@ -1,12 +1,13 @@
 -- Lists in which no item stands twice, and the sets of the texts that were seen.
-use Rattle.std.proofs.Common.{ℕ, zero, suc, ◌≡◌, ◌<◌, List, [], ◌∷◌, ◌++◌, length, true, false, Bool, sym, ap, ◌∙◌, subst, refl, arith, take, drop, map, slice_index_or}
+use Rattle.std.proofs.Common.{ℕ, zero, suc, ◌≡◌, ◌≢◌, ◌<◌, List, [], ◌∷◌, ◌++◌, length, true, false, Bool, sym, ap, ◌∙◌, subst, refl, arith, take, drop, map, slice_index_or}
 use Rattle.std.specs.Prelude.{Contains, not}
+use Rattle.std.specs.List.{AllByRecursion}
 use Rattle.std.proofs.Math.Logic.{⊎_elim}
 use Rattle.std.specs.Ordering.{nat_cmp, is_eq}
 use Rattle.std.specs.BTreeSet.{BTreeSet, contains, Updates}
 use Rattle.std.specs.Cmp.Lexicographic.{slice_cmp, bytes_decides, texts_ties}
 use Rattle.std.proofs.lemmas.List.Elements.{Contains-push, Contains-push_cases, Contains-append_left, Contains-append_right, Contains-append_cases}
-use Rattle.plane_main.specs.Distinct.{AreDistinct}
+use Rattle.plane_words.specs.Distinct.{AreDistinct}
 
 no_item : {X : Type 0} (x : X) → Contains [] x → ⊥
 no_item x (k, low, is) = absurd (omega arith)
@@ -14,21 +15,28 @@ no_item x (k, low, is) = absurd (omega arith)
 pub first_item : {X : Type 0} (x : X) (xs : List X) → Contains (x ∷ xs) x
 first_item x xs = Contains-append_left (x ∷ []) xs x (Contains-push [] x)
 
+pub all_push : {X : Type 0} (P : X → Type 0) (xs : List X) (x : X) → AllByRecursion P xs → P x → AllByRecursion P (xs ++ x ∷ [])
+all_push P [] x all h = (h, tt)
+all_push P (y ∷ xs) x all h = (all.0, all_push P xs x all.1 h)
+
+pub all_at : {X : Type 0} (P : X → Type 0) (xs : List X) (x : X) (ys : List X) → AllByRecursion P (xs ++ x ∷ ys) → P x
+all_at P [] x ys all = all.0
+all_at P (y ∷ xs) x ys all = all_at P xs x ys all.1
+
 -- a new item at the end
 pub distinct_push : {X : Type 0} (xs : List X) (x : X) → AreDistinct xs → (Contains xs x → ⊥) → AreDistinct (xs ++ x ∷ [])
-distinct_push [] x d new = (no_item x, tt)
+distinct_push [] x d new = (tt, tt)
 distinct_push {X} (y ∷ xs) x d new =
     let rest : Contains xs x → ⊥ = λ h. new (Contains-append_right (y ∷ []) xs x h) in
-    let same : x ≡ y → ⊥ = λ e. new (subst (λ (z : X). Contains (y ∷ xs) z) (sym e) (first_item y xs)) in
-    (λ h. ⊎_elim d.0 same (Contains-push_cases xs x y h), distinct_push xs x d.1 rest)
+    let other : x ≢ y = λ e. new (subst (λ (z : X). Contains (y ∷ xs) z) (sym e) (first_item y xs)) in
+    (all_push (λ (z : X). z ≢ y) xs x d.0 other, distinct_push xs x d.1 rest)
 
 -- an item that stands behind does not stand in front
 pub distinct_behind : {X : Type 0} (xs : List X) (x : X) (ys : List X) → AreDistinct (xs ++ x ∷ ys) → Contains xs x → ⊥
 distinct_behind [] x ys d h = no_item x h
 distinct_behind {X} (y ∷ xs) x ys d h =
-    let behind : Contains (xs ++ x ∷ ys) x = Contains-append_right xs (x ∷ ys) x (first_item x ys) in
-    let same : y ≡ x → ⊥ = λ e. d.0 (subst (λ (z : X). Contains (xs ++ x ∷ ys) z) (sym e) behind) in
-    ⊎_elim (λ one. ⊎_elim (no_item x) same (Contains-push_cases [] y x one)) (distinct_behind xs x ys d.1) (Contains-append_cases (y ∷ []) xs x h)
+    let other : x ≢ y = all_at (λ (z : X). z ≢ y) xs x ys d.0 in
+    ⊎_elim (λ one. ⊎_elim (no_item x) (λ (e : y ≡ x). other (sym e)) (Contains-push_cases [] y x one)) (distinct_behind xs x ys d.1) (Contains-append_cases (y ∷ []) xs x h)
 
 -- the set of the texts that were seen has these texts
 pub record AreSeen (seen : BTreeSet (List ℕ)) (names : List (List ℕ)) : Type 0 where

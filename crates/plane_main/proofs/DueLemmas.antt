@@ -12,9 +12,9 @@ use Rattle.plane_main.specs.Wanted.{wanted}
 use Rattle.plane_main.specs.Bring.{Outside}
 use Rattle.plane_main.specs.Start.{IsInput}
 use Rattle.plane_main.specs.Run.{Input, AreRead, RunEnds}
-use Rattle.plane_main.proofs.SectionLemmas.{network_one}
+use Rattle.plane_main.proofs.InterfaceLemmas.{network_one}
 use Rattle.plane_main.proofs.CountLemmas.{some_due}
-use Rattle.plane_main.proofs.RunLemmas.{all_told, within_limit}
+use Rattle.plane_main.proofs.RunLemmas.{all_told, within_limit, faulty, formed_or_faulty, unbuilt}
 
 -- done, with nothing due, or stopped at the kernel, with objects due
 abbrev pub IsDecided : Objects → Objects → ℕ → Type 0
@@ -45,4 +45,5 @@ module _ (words : List (List ℕ)) (input : Input) (before after : Outside) (int
   decided ending.WriteFailed cause free = absurd (free (1, omega arith, refl))
   decided ending.OutOfMemory cause free = absurd (free (2, omega arith, refl))
   decided (ending.TooLong limit) cause free = absurd (within_limit input.left text is cause.2)
-  decided ending.NotBuilt cause free = absurd (cause.1.refused (interfaces, subst (λ t. IsNetwork t interfaces) (sym (all_told input.left input.left_now cause.1.text text is.told cause.1.all)) network))
+  decided (ending.Unreadable fault) cause free = absurd (formed_or_faulty text cause.1.error (interfaces, network) (faulty input fault text cause.1 is.told))
+  decided ending.NotBuilt cause free = absurd ((unbuilt input text cause.1 is.told).refused (interfaces, network))

@@ -1,8 +1,7 @@
-pub mod FirstForm
 pub mod NameLemmas
 pub mod DistinctLemmas
 pub mod StartLemmas
-pub mod SectionLemmas
+pub mod InterfaceLemmas
 pub mod ItemLemmas
 pub mod DeviceLemmas
 pub mod SettleLemmas

@@ -1,5 +1,5 @@
 -- A command prints a page or starts, and not both.
-use Rattle.std.proofs.Common.{arith, ℕ, ◌≡◌, ◌≤◌, ◌<◌, ◌⊎◌, inl, inr, List, [], ◌∷◌, map, Bool, true, Option, refl, ap, sym, ◌∙◌, Contains, length, get_or}
+use Rattle.std.proofs.Common.{arith, ℕ, ◌≡◌, ◌≤◌, ◌<◌, inl, inr, List, [], ◌∷◌, map, Bool, true, Option, refl, ap, sym, ◌∙◌, Contains, length, get_or}
 use Rattle.std.specs.Prelude.{bytes_eq}
 use Rattle.std.proofs.lemmas.Slice.Eq.{bytes_eq-Decides}
 use Rattle.plane_words.specs.Causes.{DidNotRise}
@@ -11,7 +11,7 @@ use Rattle.plane_main.specs.Ending.{status_of}
 use Rattle.plane_main.specs.Pages.{Told, IsToldPage}
 use Rattle.plane_main.specs.Bring.{Outside}
 use Rattle.plane_main.specs.Start.{IsEither}
-use Rattle.plane_main.specs.Run.{Input, RunEnds, PageRan, ProgramEnds, IsEarly}
+use Rattle.plane_main.specs.Run.{Input, RunEnds, ProgramEnds, IsEarly}
 use Rattle.plane_main.proofs.RunLemmas.{no_command, calm_status}
 
 pub not_both : (words : List (List ℕ)) (page : Page) → IsPage words page → IsStartCommand words → ⊥
@@ -29,20 +29,22 @@ told_status page held held' faults faults' ending.ReadFailed told = absurd told
 told_status page held held' faults faults' (ending.KernelFailed left) told = absurd told
 told_status page held held' faults faults' ending.OutOfMemory told = absurd told
 told_status page held held' faults faults' (ending.TooLong limit) told = absurd told
+told_status page held held' faults faults' (ending.Unreadable fault) told = absurd told
 told_status page held held' faults faults' ending.NotBuilt told = absurd told
 
 pub not_early : (page : Page) (held held' : Option (List ℕ)) (faults faults' : ℕ) (e : Ending) → Told page held held' faults faults' e → IsEarly e → ⊥
 not_early page held held' faults faults' ending.Usage told early = told
 not_early page held held' faults faults' ending.ReadFailed told early = told
 not_early page held held' faults faults' (ending.TooLong limit) told early = told
+not_early page held held' faults faults' (ending.Unreadable fault) told early = told
 not_early page held held' faults faults' ending.NotBuilt told early = told
 not_early page held held' faults faults' ending.Done told early = early
 not_early page held held' faults faults' ending.WriteFailed told early = early
 not_early page held held' faults faults' (ending.KernelFailed left) told early = early
 not_early page held held' faults faults' ending.OutOfMemory told early = early
 
-calm_told : (page : Page) (held held' : Option (List ℕ)) (faults faults' : ℕ) (e : Ending) → Told page held held' faults faults' e → DidNotRise faults faults' → Contains (0 ∷ 2 ∷ 8 ∷ 10 ∷ 11 ∷ []) (status_of e)
-calm_told page held held' faults faults' e told calm = elim (told_status page held held' faults faults' e told) as (λ _. Contains (0 ∷ 2 ∷ 8 ∷ 10 ∷ 11 ∷ []) (status_of e)) [
+calm_told : (page : Page) (held held' : Option (List ℕ)) (faults faults' : ℕ) (e : Ending) → Told page held held' faults faults' e → DidNotRise faults faults' → Contains (0 ∷ 2 ∷ 8 ∷ 9 ∷ 10 ∷ 11 ∷ []) (status_of e)
+calm_told page held held' faults faults' e told calm = elim (told_status page held held' faults faults' e told) as (λ _. Contains (0 ∷ 2 ∷ 8 ∷ 9 ∷ 10 ∷ 11 ∷ []) (status_of e)) [
   | inl done ↦ (0, omega arith, sym done.0)
   | inr failed ↦ let rose = failed.1.1 in absurd (omega arith)
 ]
@@ -60,8 +62,8 @@ module _ (words : List (List ℕ)) (input : Input) (before after : Outside) (e :
     | inr paged ↦ absurd (none (inr (paged.page, paged.asked)))
   ]
 
-  pub calm_program : DidNotRise input.faults input.faults_now → DidNotRise before.out_faults after.out_faults → DidNotRise before.kernel_faults after.kernel_faults → Contains (0 ∷ 2 ∷ 8 ∷ 10 ∷ 11 ∷ []) (status_of e)
-  calm_program i o k = elim cause as (λ _. Contains (0 ∷ 2 ∷ 8 ∷ 10 ∷ 11 ∷ []) (status_of e)) [
+  pub calm_program : DidNotRise input.faults input.faults_now → DidNotRise before.out_faults after.out_faults → DidNotRise before.kernel_faults after.kernel_faults → Contains (0 ∷ 2 ∷ 8 ∷ 9 ∷ 10 ∷ 11 ∷ []) (status_of e)
+  calm_program i o k = elim cause as (λ _. Contains (0 ∷ 2 ∷ 8 ∷ 9 ∷ 10 ∷ 11 ∷ []) (status_of e)) [
     | inl ran ↦ calm_status words input before after e ran.0 i o k
     | inr paged ↦ calm_told paged.page before.out after.out before.out_faults after.out_faults e paged.told o
   ]

@@ -1,18 +1,10 @@
 -- The words of `start`.
-use Rattle.std.proofs.Common.{ℕ, suc, ◌≡◌, ◌<◌, List, [], ◌∷◌, ◌++◌, length, ap, subst, take, drop, map, slice_index_or}
+use Rattle.std.proofs.Common.{ℕ, suc, ◌≡◌, ◌<◌, List, ◌∷◌, length, ap, subst, take, drop, map, slice_index_or}
 use Rattle.std.specs.Prelude.{Contains}
 use Rattle.std.specs.List.{AllByRecursion}
-use Rattle.plane_main.specs.Distinct.{AreDistinct}
+use Rattle.plane_words.specs.Distinct.{AreDistinct}
 use Rattle.plane_main.specs.Words.{IsPlainName, IsStart}
-use Rattle.plane_main.proofs.DistinctLemmas.{map_split, distinct_behind}
-
-pub all_push : {X : Type 0} (P : X → Type 0) (xs : List X) (x : X) → AllByRecursion P xs → P x → AllByRecursion P (xs ++ x ∷ [])
-all_push P [] x all h = (h, tt)
-all_push P (y ∷ xs) x all h = (all.0, all_push P xs x all.1 h)
-
-all_at : {X : Type 0} (P : X → Type 0) (xs : List X) (x : X) (ys : List X) → AllByRecursion P (xs ++ x ∷ ys) → P x
-all_at P [] x ys all = all.0
-all_at P (y ∷ xs) x ys all = all_at P xs x ys all.1
+use Rattle.plane_main.proofs.DistinctLemmas.{all_at, map_split, distinct_behind}
 
 -- the names of a start are the words behind the first
 names_are : {X : Type 0} (f : X → List ℕ) (words rest : List X) (first : X) (names : List (List ℕ)) → words ≡ first ∷ rest → IsStart (map f words) names → names ≡ map f rest

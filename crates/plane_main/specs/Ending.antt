@@ -1,5 +1,6 @@
 -- How a run ends: its exit status, and its text on the error output.
 use Rattle.std.specs.Prelude.{ℕ, List, [], ◌++◌, codes, decimal}
+use Rattle.uci_tree.specs.Fault.{reason_text}
 use Rattle.plane_main.specs.declared.ending.Ending.{Ending}
 use Rattle.plane_main.specs.declared.ending.Ending.TheVariants as ending
 
@@ -11,6 +12,7 @@ status_of ending.ReadFailed = 3
 status_of ending.WriteFailed = 4
 status_of (ending.KernelFailed left) = 6
 status_of ending.OutOfMemory = 8
+status_of (ending.Unreadable fault) = 9
 status_of (ending.TooLong limit) = 10
 status_of ending.NotBuilt = 11
 
@@ -22,5 +24,6 @@ text_of ending.ReadFailed = codes "plane: read failed\n"
 text_of ending.WriteFailed = codes "plane: write failed\n"
 text_of (ending.KernelFailed left) = codes "plane: kernel: " ++ decimal left ++ codes " due\n"
 text_of ending.OutOfMemory = codes "plane: out of memory\n"
+text_of (ending.Unreadable fault) = codes "plane: network: line " ++ decimal fault.line ++ codes ": " ++ reason_text fault.reason ++ codes "\n"
 text_of (ending.TooLong limit) = codes "plane: limit " ++ decimal limit ++ codes "\n"
 text_of ending.NotBuilt = codes "plane: not built\n"

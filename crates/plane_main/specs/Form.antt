@@ -1,70 +1,63 @@
--- The form of a `network` text that is read so far: sections of static IPv4 interfaces (OpenWrt's network
--- configuration).
-use Rattle.std.specs.Prelude.{ℕ, ◌≡◌, ◌≤◌, List, [], ◌∷◌, ◌++◌, length, map, codes, bytes_eq, true, Bool, ◌&&◌, ◌||◌, ◌==◌, nat_le, Option, Some, None, if◌then◌else◌}
-use Rattle.std.specs.Option.{option_or}
-use Rattle.std.specs.List.{list_all}
+-- The form of a `network` package that is brought up so far: static IPv4 interfaces (OpenWrt's network configuration).
+use Rattle.std.specs.Prelude.{ℕ, ◌≡◌, ◌≤◌, List, [], ◌∷◌, length, codes, bytes_eq, false, Option, Some, None, if◌then◌else◌}
+use Rattle.std.specs.List.{AllZip}
 use Rattle.net_addr.specs.Octets.{AreOctets}
 use Rattle.net_addr.specs.Printed.{v4_text}
 use Rattle.net_addr.specs.Mask.{mask_octets}
 use Rattle.net_addr.specs.declared.address.Addr.TheVariants as family
-use Rattle.plane_main.specs.declared.first_form.line.Line.{Line}
-use Rattle.plane_main.specs.FirstForm.Text.{Spells}
+use Rattle.uci_tree.specs.declared.package.Value.{Value}
+use Rattle.uci_tree.specs.declared.package.Value.TheVariants.{One, Many}
+use Rattle.uci_tree.specs.declared.package.Opt.{Opt}
+use Rattle.uci_tree.specs.declared.package.Section.{Section}
+use Rattle.uci_tree.specs.declared.package.Package.{Package}
+use Rattle.uci_tree.specs.Reading.{Reads}
 use Rattle.plane_main.specs.declared.interface.Interface.{Interface}
-use Rattle.plane_main.specs.Distinct.{AreDistinct}
 use Rattle.plane_main.specs.Words.{IsPlainName}
 
--- a letter, a digit or `_`
-abbrev pub is_label_byte : ℕ → Bool
-is_label_byte b = (nat_le 48 b && nat_le b 57) || (nat_le 65 b && nat_le b 90) || (nat_le 97 b && nat_le b 122) || b == 95
+-- the text of a value that is no list
+abbrev pub single : Value → Option (List ℕ)
+single (One text) = Some text
+single (Many items) = None
 
--- the name of a section
-abbrev pub is_label : List ℕ → Bool
-is_label name = nat_le 1 (length name) && list_all is_label_byte name
+-- the single value of the first option of a name
+abbrev pub value_of : List ℕ → List Opt → Option (List ℕ)
+value_of name [] = None
+value_of name (option ∷ options) = if bytes_eq option.name name then single option.value else value_of name options
 
--- the value that a line of words gives to an option
-abbrev pub value_in : List ℕ → List (List ℕ) → Option (List ℕ)
-value_in option (command ∷ name ∷ value ∷ []) = if bytes_eq command (codes "option") && bytes_eq name option then Some value else None
-value_in option _ = None
-
--- the value that lines give to an option, the first of them that gives one
-abbrev pub value_of : List ℕ → List (List (List ℕ)) → Option (List ℕ)
-value_of option [] = None
-value_of option (words ∷ lines) = option_or (value_in option words) (value_of option lines)
-
--- Lines of words are the section of an interface: its head, and four lines that give `proto`, `device`, `ipaddr` and
--- `netmask`, so each of them once.
-pub record IsSection (lines : List (List (List ℕ))) (interface : Interface) : Type 0 where
-  pub options : List (List (List ℕ))
+-- A section is an interface: it has a name and the type `interface`, and four options, which are `proto`, `device`, `ipaddr`
+-- and `netmask`, so each of them once.
+pub record IsInterface (section : Section) (interface : Interface) : Type 0 where
+  pub named : section.anonymous ≡ false
+  pub kind : section.kind ≡ codes "interface"
+  pub name : interface.name ≡ section.name
+  pub four : length section.options ≡ 4
+  pub static : value_of (codes "proto") section.options ≡ Some (codes "static")
+  pub device : value_of (codes "device") section.options ≡ Some interface.device
+  pub plain : IsPlainName interface.device
   pub address : List ℕ
   pub size : ℕ
-  pub parts : lines ≡ (codes "config" ∷ codes "interface" ∷ interface.name ∷ []) ∷ options
-  pub four : length options ≡ 4
-  pub label : is_label interface.name ≡ true
-  pub static : value_of (codes "proto") options ≡ Some (codes "static")
-  pub device : value_of (codes "device") options ≡ Some interface.device
-  pub plain : IsPlainName interface.device
-  pub ipaddr : value_of (codes "ipaddr") options ≡ Some (v4_text address)
+  pub ipaddr : value_of (codes "ipaddr") section.options ≡ Some (v4_text address)
   pub octets : AreOctets 4 address
-  pub netmask : value_of (codes "netmask") options ≡ Some (v4_text (mask_octets size))
+  pub netmask : value_of (codes "netmask") section.options ≡ Some (v4_text (mask_octets size))
   pub within : size ≤ 32
   pub cidr : interface.cidr ≡ (family.V4 (record { 0 = address }), size)
 
--- the section of an interface stands in front, and the rest goes on
-pub record SectionThen (lines : List (List (List ℕ))) (interface : Interface) (GoesOn : List (List (List ℕ)) → Type 0) : Type 0 where
-  pub section : List (List (List ℕ))
-  pub rest : List (List (List ℕ))
-  pub parts : lines ≡ section ++ rest
-  pub first : IsSection section interface
-  pub others : GoesOn rest
+-- the name of the package that is read
+abbrev pub package_name : List ℕ
+package_name = codes "network"
 
--- lines of words are the sections of these interfaces, one behind the other
-abbrev pub AreSections : List (List (List ℕ)) → List Interface → Type 0
-AreSections lines [] = lines ≡ []
-AreSections lines (interface ∷ interfaces) = SectionThen lines interface (λ rest. AreSections rest interfaces)
-
--- a text is of the form, and these are its interfaces
+-- a text is a package whose sections are these interfaces, one for each
 pub record IsNetwork (text : List ℕ) (interfaces : List Interface) : Type 0 where
-  pub lines : List Line
-  pub spelled : Spells text lines
-  pub sections : AreSections (map (λ line. line.words) lines) interfaces
-  pub distinct : AreDistinct (map (λ interface. interface.name) interfaces)
+  pub tree : Package
+  pub read : Reads package_name text tree
+  pub sections : AllZip IsInterface tree.sections interfaces
+
+-- a text is of the form
+abbrev pub IsOfForm : List ℕ → Type 0
+IsOfForm text = (interfaces : List Interface) × IsNetwork text interfaces
+
+-- a text is a package, and it is not of the form
+pub record IsOutOfForm (text : List ℕ) : Type 0 where
+  pub tree : Package
+  pub read : Reads package_name text tree
+  pub refused : IsOfForm text → ⊥

@@ -1,7 +1,5 @@
 -- What the program does: its words, the form of its input, what is wanted of the kernel, and how a run ends.
-pub mod Distinct
 pub mod Words
-pub mod FirstForm
 pub mod Places
 pub mod Form
 pub mod Options

@@ -1,25 +1,21 @@
 -- What single options of a section give (OpenWrt's network configuration).
-use Rattle.std.specs.Prelude.{ℕ, ◌≡◌, ◌≤◌, List, map, codes, Some}
+use Rattle.std.specs.Prelude.{ℕ, ◌≡◌, ◌≤◌, List, codes, Some}
 use Rattle.net_addr.specs.Octets.{AreOctets}
 use Rattle.net_addr.specs.Printed.{v4_text}
 use Rattle.net_addr.specs.Mask.{mask_octets}
 use Rattle.net_addr.specs.declared.address.Addr.{Addr}
 use Rattle.net_addr.specs.declared.address.Addr.TheVariants as family
-use Rattle.plane_main.specs.declared.first_form.line.Line.{Line}
+use Rattle.uci_tree.specs.declared.package.Opt.{Opt}
 use Rattle.plane_main.specs.Form.{value_of}
 use Rattle.plane_main.specs.Words.{IsPlainName}
 
--- the words of each line
-abbrev pub words_of : List Line → List (List (List ℕ))
-words_of lines = map (λ line. line.words) lines
-
 -- `device` is given, and is this plain name
-pub record GivesDevice (options : List (List (List ℕ))) (device : List ℕ) : Type 0 where
+pub record GivesDevice (options : List Opt) (device : List ℕ) : Type 0 where
   pub given : value_of (codes "device") options ≡ Some device
   pub plain : IsPlainName device
 
 -- `ipaddr` and `netmask` are given, and are this prefix
-pub record GivesCidr (options : List (List (List ℕ))) (cidr : Addr × ℕ) : Type 0 where
+pub record GivesCidr (options : List Opt) (cidr : Addr × ℕ) : Type 0 where
   pub address : List ℕ
   pub size : ℕ
   pub ipaddr : value_of (codes "ipaddr") options ≡ Some (v4_text address)

@@ -1,8 +1,12 @@
 -- Why a run ends so, and what it leaves.
-use Rattle.std.specs.Prelude.{ℕ, ◌≡◌, ◌≤◌, ◌⊎◌, List, length, Option, ⊤}
+use Rattle.std.specs.Prelude.{ℕ, ◌≡◌, ◌≤◌, ◌⊎◌, List, length, Option, Some, ⊤}
 use Rattle.plane_words.specs.Causes.{Rose, DidNotRise}
 use Rattle.plane_words.specs.Growth.{Grows, GrowsByFront}
 use Rattle.plane_io.specs.Source.{IsAllThatWasLeft, HadMoreThan}
+use Rattle.uci_tree.specs.declared.fault.Fault.{Fault}
+use Rattle.uci_tree.specs.declared.tree_error.TreeError.{TreeError}
+use Rattle.uci_tree.specs.Fault.{fault_of}
+use Rattle.uci_tree.specs.Reading.{HasTreeFault}
 use Rattle.plane_main.specs.declared.interface.Interface.{Interface}
 use Rattle.plane_main.specs.declared.ending.Ending.{Ending}
 use Rattle.plane_main.specs.declared.ending.Ending.TheVariants as ending
@@ -10,8 +14,8 @@ use Rattle.plane_main.specs.Ending.{status_of, text_of}
 use Rattle.plane_main.specs.declared.page.Page.{Page}
 use Rattle.plane_main.specs.Words.{IsStart, IsStartCommand, IsPage}
 use Rattle.plane_main.specs.Pages.{Told}
-use Rattle.plane_main.specs.Form.{IsNetwork}
-use Rattle.plane_main.specs.Start.{IsOfForm, input_limit}
+use Rattle.plane_main.specs.Form.{IsNetwork, IsOutOfForm}
+use Rattle.plane_main.specs.Start.{input_limit}
 use Rattle.plane_main.specs.Bring.{Outside, Finished, StoppedAtCall, StoppedAtLine, NothingMade}
 
 -- what a run sees of its input: what was left and is left now, where the source tells, and its counts of faults then
@@ -29,17 +33,27 @@ pub record AreRead (input : Input) (interfaces : List Interface) : Type 0 where
   pub within : length text ≤ input_limit
   pub network : IsNetwork text interfaces
 
--- the input was read to its end, and its text is within the limit and not of the form
+-- the input was read to its end, and its text is within the limit and no package, with this fault
+pub record IsUnreadable (input : Input) (fault : Fault) : Type 0 where
+  pub text : List ℕ
+  pub all : IsAllThatWasLeft input.left input.left_now text
+  pub within : length text ≤ input_limit
+  pub error : TreeError
+  pub refused : HasTreeFault text error
+  pub told : fault_of error ≡ Some fault
+
+-- the input was read to its end, and its text is within the limit and a package that is not of the form
 pub record IsNotBuilt (input : Input) : Type 0 where
   pub text : List ℕ
   pub all : IsAllThatWasLeft input.left input.left_now text
   pub within : length text ≤ input_limit
-  pub refused : IsOfForm text → ⊥
+  pub refused : IsOutOfForm text
 
 -- no interfaces were read, and why
 abbrev pub ReadEnds : Input → Ending → Type 0
 ReadEnds input ending.ReadFailed = Rose input.faults input.faults_now
 ReadEnds input (ending.TooLong limit) = (limit ≡ input_limit) × HadMoreThan input_limit input.left
+ReadEnds input (ending.Unreadable fault) = IsUnreadable input fault
 ReadEnds input ending.NotBuilt = IsNotBuilt input
 ReadEnds input ending.OutOfMemory = ⊤
 ReadEnds input _ = ⊥
@@ -61,6 +75,7 @@ RunEnds words input before after ending.WriteFailed = Ran words input (λ names 
 RunEnds words input before after (ending.KernelFailed left) = Ran words input (λ names interfaces. StoppedAtCall left names interfaces before after)
 RunEnds words input before after ending.OutOfMemory = NothingMade before after
 RunEnds words input before after (ending.TooLong limit) = IsStartCommand words × (limit ≡ input_limit) × HadMoreThan input_limit input.left
+RunEnds words input before after (ending.Unreadable fault) = IsStartCommand words × IsUnreadable input fault
 RunEnds words input before after ending.NotBuilt = IsStartCommand words × IsNotBuilt input
 
 -- the words ask for a page, and this came of it: nothing was done to the kernel
@@ -90,5 +105,6 @@ abbrev pub IsEarly : Ending → Type 0
 IsEarly ending.Usage = ⊤
 IsEarly ending.ReadFailed = ⊤
 IsEarly (ending.TooLong limit) = ⊤
+IsEarly (ending.Unreadable fault) = ⊤
 IsEarly ending.NotBuilt = ⊤
 IsEarly _ = ⊥

@@ -2,8 +2,6 @@
 use Rattle.std.specs.Prelude.{ℕ, ◌≡◌, ◌≤◌, ◌⊎◌, List, length, Option, Some}
 use Rattle.std.specs.List.{AllByRecursion}
 use Rattle.plane_words.specs.Causes.{DidNotRise}
-use Rattle.plane_main.specs.declared.interface.Interface.{Interface}
-use Rattle.plane_main.specs.Form.{IsNetwork}
 
 -- no count of faults rose: each before and now
 abbrev pub NoneRose : List (ℕ × ℕ) → Type 0
@@ -21,7 +19,3 @@ pub record IsInput (left : Option (List ℕ)) (text : List ℕ) : Type 0 where
 -- the status is one of two
 abbrev pub IsEither : ℕ → ℕ → ℕ → Type 0
 IsEither a b status = (status ≡ a) ⊎ (status ≡ b)
-
--- the text is of the form
-abbrev pub IsOfForm : List ℕ → Type 0
-IsOfForm text = (interfaces : List Interface) × IsNetwork text interfaces

@@ -4,7 +4,7 @@ use Rattle.std.specs.List.{AllByRecursion}
 use Rattle.kern_model.specs.Name.{is_name}
 use Rattle.plane_main.specs.declared.page.Page.{Page}
 use Rattle.plane_main.specs.declared.page.Page.TheVariants.{Help, Version}
-use Rattle.plane_main.specs.Distinct.{AreDistinct}
+use Rattle.plane_words.specs.Distinct.{AreDistinct}
 
 -- a name of the form X.N, which stands for VLAN N over X (OpenWrt's network configuration; IEEE 802.1Q): the whole and X
 -- are device names, and N is a decimal from 1 to 4094 without leading zeros

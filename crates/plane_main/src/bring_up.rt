@@ -5,7 +5,7 @@ ghost use Rattle.std.specs.Ordering.{nat_cmp};
 ghost use Rattle.std.specs.Cmp.Lexicographic.{slice_cmp};
 ghost use Rattle.std.specs.BTreeSet.{contains};
 ghost use Rattle.kern_model.specs.Kernel.{is_present};
-ghost use Rattle.plane_main.specs.Distinct.{AreDistinct};
+ghost use Rattle.plane_words.specs.Distinct.{AreDistinct};
 ghost use Rattle.plane_main.specs.Wanted.{all_objects_of};
 ghost use Rattle.plane_main.specs.Bring.{Came};
 

@@ -1,6 +1,8 @@
 ghost use Rattle.std.specs.Prelude.{◌≡◌};
 ghost use Rattle.plane_main.specs.Ending.{status_of};
 
+use uci_tree::Fault;
+
 /// How a run ends.
 #[derive(Clone, Copy, Debug, PartialEq, Eq, Hash)]
 pub enum Ending {
@@ -10,6 +12,8 @@ pub enum Ending {
     WriteFailed,
     KernelFailed { left: usize },
     OutOfMemory,
+    /// The input is no package.
+    Unreadable { fault: Fault },
     TooLong { limit: u64 },
     NotBuilt,
 }
@@ -26,6 +30,7 @@ impl Ending {
             Ending::WriteFailed => 4,
             Ending::KernelFailed { .. } => 6,
             Ending::OutOfMemory => 8,
+            Ending::Unreadable { .. } => 9,
             Ending::TooLong { .. } => 10,
             Ending::NotBuilt => 11,
         }

@@ -4,7 +4,6 @@
 mod bring_up;
 mod carry_out;
 mod ending;
-mod first_form;
 mod interface;
 mod laws;
 mod locations;

@@ -1,79 +1,66 @@
-ghost use Rattle.std.specs.Prelude.{◌≡◌, ◌≤◌, ◌-◌, ◌<◌, ◌^◌, ◌∷◌, [], ℕ, List, length, map, codes, Some, None, true, IfOk, IfSome, IfNone};
+ghost use Rattle.std.specs.Prelude.{◌≡◌, ◌≢◌, ◌≤◌, ◌-◌, ◌<◌, ◌^◌, ℕ, List, length, codes, Some, None, Err, IfOk, IfSome, IfNone};
 ghost use Rattle.std.specs.Bool.{OnTrue, OnFalse};
-ghost use Rattle.std.specs.List.{list_all};
+ghost use Rattle.std.specs.List.{AllZip};
 ghost use Rattle.net_addr.specs.Octets.{AreOctets};
 ghost use Rattle.net_addr.specs.Printed.{v4_text};
 ghost use Rattle.net_addr.specs.Mask.{mask_octets};
 ghost use Rattle.net_addr.specs.declared.address.Addr.{Addr as AnyAddr};
+ghost use Rattle.uci_tree.specs.declared.tree_error.TreeError.{TreeError as AnyError};
+ghost use Rattle.uci_tree.specs.declared.tree_error.TreeError.TheVariants as tree_error;
+ghost use Rattle.uci_tree.specs.Reading.{HasTreeFault};
 ghost use Rattle.plane_main.specs.declared.interface.Interface.{Interface};
-ghost use Rattle.plane_main.specs.Distinct.{AreDistinct};
 ghost use Rattle.plane_main.specs.Form as form;
-ghost use Rattle.plane_main.specs.Form.{IsSection, AreSections, IsNetwork};
-ghost use Rattle.plane_main.specs.Options.{words_of, GivesDevice, GivesCidr};
+ghost use Rattle.plane_main.specs.Form.{IsInterface, IsNetwork, IsOutOfForm};
+ghost use Rattle.plane_main.specs.Options.{GivesDevice, GivesCidr};
 
-use crate::first_form::{Line, TextError, read_lines};
 use crate::interface::Interface;
 use crate::words::read_plain_name;
 use kern_model::DevName;
 use net_addr::{Addr, Cidr, V4, mask_length, read_addr};
-use plane_io::{Memory, Text};
+use plane_io::Memory;
 use std::alloc::Global;
-use std::collections::BTreeSet;
+use uci_tree::{Opt, Section, TreeError, Value, read_package};
 
-/// How many lines the section of an interface has.
-const SECTION: usize = 5;
+/// How many options the section of an interface has.
+const OPTIONS: usize = 4;
 
-/// The interfaces of a `network` text, or `None` where the text is not of the form that is read so far.
-pub fn read_network(alloc: Global, text: &[u8]) -> Result<Option<Vec<Interface>>, Memory>
+/// The interfaces of a `network` text, or `None` where it is a package that is not of the form that is brought up so far.
+pub fn read_network(alloc: Global, text: &[u8]) -> Result<Option<Vec<Interface>>, TreeError>
     requires { length text.now < 2 ^ 32 - 1 }
     ensures found { IfOk result (λ found. IfSome found (λ interfaces. IsNetwork text.now interfaces.items)) }
-    ensures none { IfOk result (λ found. IfNone found ((interfaces : List Interface) → IsNetwork text.now interfaces → ⊥)) }
+    ensures none { IfOk result (λ found. IfNone found (IsOutOfForm text.now)) }
+    ensures refused { (error : AnyError) → result ≡ Err error → error ≢ tree_error.Memory → HasTreeFault text.now error }
 {
-    match read_lines(alloc, text) {
-        Ok(lines) => interfaces_of(alloc, lines.as_slice()),
-        Err(TextError::BadWord { .. }) => Ok(None),
-        Err(TextError::Memory) => Err(Memory),
-    }
+    let tree = read_package(alloc, b"network", text)?;
+    let interfaces = interfaces_of(alloc, tree.sections.as_slice())?;
+    Ok(interfaces)
 }
 
-// The interfaces whose sections the lines are, one behind the other.
-fn interfaces_of(alloc: Global, lines: &[Line]) -> Result<Option<Vec<Interface>>, Memory>
-    ensures sections { IfOk result (λ found. IfSome found (λ interfaces. AreSections (words_of lines.now) interfaces.items)) }
-    ensures distinct { IfOk result (λ found. IfSome found (λ interfaces. AreDistinct (map (λ interface. interface.name) interfaces.items))) }
-    ensures none { IfOk result (λ found. IfNone found ((interfaces : List Interface) → AreSections (words_of lines.now) interfaces → AreDistinct (map (λ interface. interface.name) interfaces) → ⊥)) }
+// The interfaces that the sections are, one for each.
+fn interfaces_of(alloc: Global, sections: &[Section]) -> Result<Option<Vec<Interface>>, Memory>
+    ensures found { IfOk result (λ found. IfSome found (λ interfaces. AllZip IsInterface sections.now interfaces.items)) }
+    ensures none { IfOk result (λ found. IfNone found ((interfaces : List Interface) → AllZip IsInterface sections.now interfaces → ⊥)) }
 {
     let mut interfaces = Vec::new(alloc);
-    let mut seen = BTreeSet::new(alloc);
-    let mut rest = lines;
-    while !rest.is_empty() {
-        if rest.len() < SECTION {
-            return Ok(None);
-        }
-        let (section, behind) = rest.split_at(SECTION);
-        let Some(interface) = section_of(alloc, section)? else {
+    for section in sections {
+        let Some(interface) = interface_of(section)? else {
             return Ok(None);
         };
-        if !seen.insert(interface.name.copy()?)? {
-            return Ok(None);
-        }
         interfaces.push(interface)?;
-        rest = behind;
     }
     Ok(Some(interfaces))
 }
 
-// The interface whose section the lines are.
-fn section_of(alloc: Global, lines: &[Line]) -> Result<Option<Interface>, Memory>
-    ensures found { IfOk result (λ found. IfSome found (λ interface. IsSection (words_of lines.now) interface)) }
-    ensures none { IfOk result (λ found. IfNone found ((interface : Interface) → IsSection (words_of lines.now) interface → ⊥)) }
+// The interface that the section is.
+fn interface_of(section: &Section) -> Result<Option<Interface>, Memory>
+    ensures found { IfOk result (λ found. IfSome found (λ interface. IsInterface section.now interface)) }
+    ensures none { IfOk result (λ found. IfNone found ((interface : Interface) → IsInterface section.now interface → ⊥)) }
 {
-    let Some((head, options)) = lines.split_first() else {
+    if section.anonymous || section.kind.as_bytes() != b"interface".as_slice() {
         return Ok(None);
-    };
-    let Some(label) = label_of(head) else {
-        return Ok(None);
-    };
-    if options.len() != SECTION - 1 || !is_static(options) {
+    }
+    let options = section.options.as_slice();
+    if options.len() != OPTIONS || !is_static(options) {
         return Ok(None);
     }
     let Some(device) = device_of(options) else {
@@ -82,51 +69,13 @@ fn section_of(alloc: Global, lines: &[Line]) -> Result<Option<Interface>, Memory
     let Some(cidr) = cidr_of(options) else {
         return Ok(None);
     };
-    let name = Text::from_bytes(alloc, label)?;
+    let name = section.name.copy()?;
     Ok(Some(Interface { name, device, cidr }))
 }
 
-// The name of the section that the line begins.
-fn label_of(head: &Line) -> Option<&[u8]>
-    ensures found { IfSome result (λ name. (head.now.words ≡ codes "config" ∷ codes "interface" ∷ name.now ∷ []) × (form.is_label name.now ≡ true)) }
-    ensures none { IfNone result ((name : List ℕ) → head.now.words ≡ codes "config" ∷ codes "interface" ∷ name ∷ [] → form.is_label name ≡ true → ⊥) }
-{
-    let [command, kind, name] = head.words.as_slice() else {
-        return None;
-    };
-    if command.as_bytes() != b"config".as_slice() || kind.as_bytes() != b"interface".as_slice() {
-        return None;
-    }
-    if !is_label(name.as_bytes()) {
-        return None;
-    }
-    Some(name.as_bytes())
-}
-
-fn is_label(name: &[u8]) -> bool
-    ensures { result ≡ form.is_label name.now }
-{
-    if name.is_empty() {
-        return false;
-    }
-    has_label_bytes(name)
-}
-
-fn has_label_bytes(name: &[u8]) -> bool
-    ensures { result ≡ list_all form.is_label_byte name.now }
-{
-    name.iter().all(|byte| is_label_byte(*byte))
-}
-
-fn is_label_byte(byte: u8) -> bool
-    ensures { result ≡ form.is_label_byte byte }
-{
-    matches!(byte, b'0'..=b'9' | b'A'..=b'Z' | b'a'..=b'z' | b'_')
-}
-
-fn is_static(options: &[Line]) -> bool
-    ensures yes { OnTrue result (form.value_of (codes "proto") (words_of options.now) ≡ Some (codes "static")) }
-    ensures no { OnFalse result (form.value_of (codes "proto") (words_of options.now) ≡ Some (codes "static") → ⊥) }
+fn is_static(options: &[Opt]) -> bool
+    ensures yes { OnTrue result (form.value_of (codes "proto") options.now ≡ Some (codes "static")) }
+    ensures no { OnFalse result (form.value_of (codes "proto") options.now ≡ Some (codes "static") → ⊥) }
 {
     match value_of(options, b"proto") {
         Some(value) => value == b"static".as_slice(),
@@ -134,16 +83,16 @@ fn is_static(options: &[Line]) -> bool
     }
 }
 
-fn device_of(options: &[Line]) -> Option<DevName>
-    ensures found { IfSome result (λ device. GivesDevice (words_of options.now) device) }
-    ensures none { IfNone result ((device : List ℕ) → GivesDevice (words_of options.now) device → ⊥) }
+fn device_of(options: &[Opt]) -> Option<DevName>
+    ensures found { IfSome result (λ device. GivesDevice options.now device) }
+    ensures none { IfNone result ((device : List ℕ) → GivesDevice options.now device → ⊥) }
 {
     read_plain_name(value_of(options, b"device")?)
 }
 
-fn cidr_of(options: &[Line]) -> Option<Cidr>
-    ensures found { IfSome result (λ cidr. GivesCidr (words_of options.now) cidr) }
-    ensures none { IfNone result ((cidr : AnyAddr × ℕ) → GivesCidr (words_of options.now) cidr → ⊥) }
+fn cidr_of(options: &[Opt]) -> Option<Cidr>
+    ensures found { IfSome result (λ cidr. GivesCidr options.now cidr) }
+    ensures none { IfNone result ((cidr : AnyAddr × ℕ) → GivesCidr options.now cidr → ⊥) }
 {
     let address = ipv4(value_of(options, b"ipaddr")?)?;
     let size = prefix_length(value_of(options, b"netmask")?)?;
@@ -169,28 +118,26 @@ fn ipv4(text: &[u8]) -> Option<V4>
     Some(address)
 }
 
-// The value that the first of the lines that gives one gives to the option.
-fn value_of<'a>(lines: &'a [Line], option: &[u8]) -> Option<&'a [u8]>
-    ensures found { IfSome result (λ value. form.value_of option.now (words_of lines.now) ≡ Some value.now) }
-    ensures none { IfNone result (form.value_of option.now (words_of lines.now) ≡ None) }
+// The single value of the first option of the name.
+fn value_of<'a>(options: &'a [Opt], name: &[u8]) -> Option<&'a [u8]>
+    ensures found { IfSome result (λ value. form.value_of name.now options.now ≡ Some value.now) }
+    ensures none { IfNone result (form.value_of name.now options.now ≡ None) }
 {
-    for line in lines {
-        if let Some(value) = value_in(line, option) {
-            return Some(value);
+    for option in options {
+        if option.name.as_bytes() == name {
+            return single(&option.value);
         }
     }
     None
 }
 
-fn value_in<'a>(line: &'a Line, option: &[u8]) -> Option<&'a [u8]>
-    ensures found { IfSome result (λ value. form.value_in option.now line.now.words ≡ Some value.now) }
-    ensures none { IfNone result (form.value_in option.now line.now.words ≡ None) }
+// The text of a value that is no list.
+fn single(value: &Value) -> Option<&[u8]>
+    ensures found { IfSome result (λ text. form.single value.now ≡ Some text.now) }
+    ensures none { IfNone result (form.single value.now ≡ None) }
 {
-    let [command, name, value] = line.words.as_slice() else {
-        return None;
-    };
-    if command.as_bytes() != b"option".as_slice() || name.as_bytes() != option {
-        return None;
+    match value {
+        Value::One(text) => Some(text.as_bytes()),
+        Value::Many(_) => None,
     }
-    Some(value.as_bytes())
 }

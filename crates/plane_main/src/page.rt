@@ -13,8 +13,9 @@ plane start DEV..   reads a network configuration from the standard input, and p
 plane --help        prints this page
 plane --version     prints the version
 
-start takes 1 to 4096 device names, each once. The input is of at most 1048576 bytes, and so far made of sections
-`config interface NAME` with the options device, proto 'static', ipaddr and netmask, once each. An example: from
+start takes 1 to 4096 device names, each once, and none that ends in a VLAN as eth0.2 does. The input is a UCI file of
+at most 1048576 bytes, and so far its sections are `config interface NAME` with the options device, proto 'static',
+ipaddr and netmask, once each. An example: from
 
 config interface 'lan'
     option device 'eth0'
@@ -28,7 +29,7 @@ link set dev eth0 up
 addr add 192.168.1.1/24 dev eth0
 
 Status: 0 done, 2 usage, 3 the input failed, 4 a line was not written, 6 a call of the kernel failed and objects
-are due, 8 out of memory, 10 the input is too long, 11 the input is not built yet.
+are due, 8 out of memory, 9 the input is no UCI file, 10 the input is too long, 11 the input is not built yet.
 The manual is docs/plane.1.
 ";
 

@@ -2,13 +2,15 @@ ghost use Rattle.std.specs.Prelude.{◌≡◌, ◌↔◌, ◌<◌, ◌∷◌, []
 ghost use Rattle.std.specs.FinSet as set;
 ghost use Rattle.std.specs.FinMap as map;
 ghost use Rattle.plane_words.specs.Causes.{DidNotRise};
+ghost use Rattle.uci_tree.specs.declared.tree_error.TreeError.{TreeError};
+ghost use Rattle.uci_tree.specs.Reading.{HasTreeFault};
 ghost use Rattle.plane_main.specs.declared.interface.Interface.{Interface};
 ghost use Rattle.plane_main.specs.declared.page.Page.{Page};
 ghost use Rattle.plane_main.specs.Words.{IsStartCommand, IsPage, IsCommand};
 ghost use Rattle.plane_main.specs.Pages.{IsToldPage};
-ghost use Rattle.plane_main.specs.Form.{IsNetwork};
+ghost use Rattle.plane_main.specs.Form.{IsNetwork, IsOfForm, IsOutOfForm};
 ghost use Rattle.plane_main.specs.Wanted.{wanted};
-ghost use Rattle.plane_main.specs.Start.{IsOfForm, IsInput, NoneRose, IsEither, input_limit};
+ghost use Rattle.plane_main.specs.Start.{IsInput, NoneRose, IsEither, input_limit};
 ghost use Rattle.plane_main.specs.Run.{Ended};
 
 use crate::carry_out::carry_out;
@@ -41,8 +43,8 @@ pub fn plane<S: Source, O: Sink, E: Sink, K: Kernel>(
         (E.held err.old) (E.held err.new) (E.faults err.old) (E.faults err.new) result }
 
     // The statuses, and those of runs in which no count of the input, the output or the kernel rose.
-    ensures status { Contains (0 ∷ 2 ∷ 3 ∷ 4 ∷ 6 ∷ 8 ∷ 10 ∷ 11 ∷ []) result }
-    ensures calm_status { NoneRose ((S.faults input.old, S.faults input.new) ∷ (O.faults out.old, O.faults out.new) ∷ (K.faults kernel.old, K.faults kernel.new) ∷ []) → Contains (0 ∷ 2 ∷ 8 ∷ 10 ∷ 11 ∷ []) result }
+    ensures status { Contains (0 ∷ 2 ∷ 3 ∷ 4 ∷ 6 ∷ 8 ∷ 9 ∷ 10 ∷ 11 ∷ []) result }
+    ensures calm_status { NoneRose ((S.faults input.old, S.faults input.new) ∷ (O.faults out.old, O.faults out.new) ∷ (K.faults kernel.old, K.faults kernel.new) ∷ []) → Contains (0 ∷ 2 ∷ 8 ∷ 9 ∷ 10 ∷ 11 ∷ []) result }
 
     // Words that are not in the table of commands end the run with 2, or 8.
     ensures no_command { (IsCommand (map string_bytes words.now) → ⊥) → IsEither 2 8 result }
@@ -51,9 +53,12 @@ pub fn plane<S: Source, O: Sink, E: Sink, K: Kernel>(
     // rise.
     ensures long_input { (text : List ℕ) → S.left input.old ≡ Some text → input_limit < length text → DidNotRise (S.faults input.old) (S.faults input.new) → IsStartCommand (map string_bytes words.now) → IsEither 10 8 result }
 
-    // Where they are, an input within the limit that is not of the form ends the run with 11, or 8, if that count did not
-    // rise.
-    ensures no_form { (text : List ℕ) → IsInput (S.left input.old) text → DidNotRise (S.faults input.old) (S.faults input.new) → IsStartCommand (map string_bytes words.now) → (IsOfForm text → ⊥) → IsEither 11 8 result }
+    // Where they are, an input within the limit that is no package ends the run with 9, or 8, if that count did not rise.
+    ensures no_package { (text : List ℕ) (error : TreeError) → IsInput (S.left input.old) text → DidNotRise (S.faults input.old) (S.faults input.new) → IsStartCommand (map string_bytes words.now) → HasTreeFault text error → IsEither 9 8 result }
+
+    // Where they are, an input within the limit that is a package and not of the form ends the run with 11, or 8, if that
+    // count did not rise.
+    ensures no_form { (text : List ℕ) → IsInput (S.left input.old) text → DidNotRise (S.faults input.old) (S.faults input.new) → IsStartCommand (map string_bytes words.now) → IsOutOfForm text → IsEither 11 8 result }
 
     // Where they are, an input of the form ends the run with 0, or 8, if no count of the input, the output or the kernel
     // rose.
@@ -75,8 +80,8 @@ pub fn plane<S: Source, O: Sink, E: Sink, K: Kernel>(
     // called, also with 8.
     ensures unread { (IsCommand (map string_bytes words.now) → ⊥) → (input.new ≡ input.old) × (out.new ≡ out.old) × (kernel.new ≡ kernel.old) }
 
-    // With 2, 3, 10 and 11 nothing was written to the output, and no call of the kernel was made.
-    ensures untouched { Contains (2 ∷ 3 ∷ 10 ∷ 11 ∷ []) result → (out.new ≡ out.old) × (kernel.new ≡ kernel.old) }
+    // With 2, 3, 9, 10 and 11 nothing was written to the output, and no call of the kernel was made.
+    ensures untouched { Contains (2 ∷ 3 ∷ 9 ∷ 10 ∷ 11 ∷ []) result → (out.new ≡ out.old) × (kernel.new ≡ kernel.old) }
 
     // With 0 nothing was written to the error output.
     ensures silent { result ≡ 0 → err.new ≡ err.old }

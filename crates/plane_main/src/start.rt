@@ -1,7 +1,8 @@
-ghost use Rattle.std.specs.Prelude.{◌≡◌, ◌≤◌, ◌⊎◌, ℕ, List, map, string_bytes, IfOk, IfErr, Some};
+ghost use Rattle.std.specs.Prelude.{◌≡◌, ◌≤◌, ◌⊎◌, ℕ, List, map, string_bytes, IfOk, IfErr, IfSome, IfNone};
 ghost use Rattle.std.specs.FinSet as set;
 ghost use Rattle.std.specs.FinMap as map;
-ghost use Rattle.plane_main.specs.Distinct.{AreDistinct};
+ghost use Rattle.plane_words.specs.Distinct.{AreDistinct};
+ghost use Rattle.uci_tree.specs.Fault.{fault_of};
 ghost use Rattle.plane_main.specs.Words.{IsStartCommand};
 ghost use Rattle.plane_main.specs.Bring.{AreSound, BringUpEnds};
 ghost use Rattle.plane_main.specs.Run.{AreRead, ReadEnds, RunEnds, IsEarly};
@@ -15,6 +16,7 @@ use crate::words::start_names;
 use kern_model::{DevName, Kernel, calls_from_nothing};
 use plane_io::{InputError, Sink, Source, read_to_end};
 use std::alloc::Global;
+use uci_tree::TreeError;
 
 /// How many bytes the input has at most.
 const INPUT_LIMIT: u64 = 1_048_576;
@@ -59,7 +61,18 @@ fn read_interfaces<S: Source>(alloc: Global, input: &mut S) -> Result<Vec<Interf
     match read_network(alloc, &text) {
         Ok(Some(interfaces)) => Ok(interfaces),
         Ok(None) => Err(Ending::NotBuilt),
-        Err(_) => Err(Ending::OutOfMemory),
+        Err(error) => Err(unread(error)),
+    }
+}
+
+/// How a run ends whose input was not read as a package.
+fn unread(error: TreeError) -> Ending
+    ensures unreadable { IfSome (fault_of error) (λ fault. result ≡ Ending.Unreadable fault) }
+    ensures lacking { IfNone (fault_of error) (result ≡ Ending.OutOfMemory) }
+{
+    match error.fault() {
+        Some(fault) => Ending::Unreadable { fault },
+        None => Ending::OutOfMemory,
     }
 }
 

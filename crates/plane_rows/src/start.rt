@@ -13,6 +13,15 @@ const IPV6: &str =
 const TWICE: &str =
     "config interface a\noption device eth0\noption proto static\noption ipaddr 10.0.0.1\noption netmask 255.0.0.0\nconfig interface b\noption device eth0\noption proto static\noption ipaddr 10.0.0.1\noption netmask 255.0.0.0\n";
 
+/// The network file of a router with one bridge, as OpenWrt ships it.
+const ROUTER: &str =
+    "config interface 'loopback'\n\toption device 'lo'\n\toption proto 'static'\n\toption ipaddr '127.0.0.1'\n\toption netmask '255.0.0.0'\n\nconfig globals 'globals'\n\toption ula_prefix 'fd12:3456:789a::/48'\n\nconfig device\n\toption name 'br-lan'\n\toption type 'bridge'\n\tlist ports 'lan1'\n\nconfig interface 'lan'\n\toption device 'br-lan'\n\toption proto 'static'\n\toption ipaddr '192.168.1.1'\n\toption netmask '255.255.255.0'\n\toption ip6assign '60'\n";
+
+/// The interface of the examples in the whole grammar of UCI files: comments, quotes, escapes, a section that goes on, an
+/// option that is given twice, and one that is removed.
+const GRAMMAR: &str =
+    "# the line to the provider\npackage network; config interface lan # first\n\toption \"device\" eth0\n\toption ipaddr 10.0.0.1\n\toption mtu 1400\nconfig \\\n\tinterface 'la'n\n\toption mtu ''\n\to proto st'at'\"ic\"\n\toption ipaddr '192.168.1.1'\n\toption netmask 255.255\\.255.0\n";
+
 const UP: &str = "link set dev eth0 up\naddr add 192.168.1.1/24 dev eth0\n";
 
 const USAGE: &str = "plane: usage\n";
@@ -28,6 +37,9 @@ fn interfaces_are_brought_up(rt: HostRuntime) -> Result<(), Fail> {
         ("start eth0", "", ""),
         ("start eth0", "\n \t \n", ""),
         ("start eth1 eth0 lo", LAN, UP),
+        ("start eth0", "# no words\n", ""),
+        ("start eth0", "package other\n", ""),
+        ("start eth0", GRAMMAR, UP),
         (
             "start eth1 eth0",
             TWO,
@@ -69,7 +81,8 @@ fn other_words_and_texts_are_refused(rt: HostRuntime) -> Result<(), Fail> {
         ("start eth0", DHCP, 11, NOT_BUILT),
         ("start eth0", IPV6, 11, NOT_BUILT),
         ("start eth0", "config interface lan\n", 11, NOT_BUILT),
-        ("start eth0", "# no words\n", 11, NOT_BUILT),
+        ("start eth0", "config interface\n", 11, NOT_BUILT),
+        ("start eth0", ROUTER, 11, NOT_BUILT),
     ];
     for (words, text, status, told) in table {
         let ran = run(alloc, words, text.as_bytes(), Failing::default())?;
@@ -79,6 +92,38 @@ fn other_words_and_texts_are_refused(rt: HostRuntime) -> Result<(), Fail> {
             assert!(rt; ran.out.bytes().is_empty());
             assert_eq!(rt; ran.calls, 0);
         }
+    }
+    Ok(())
+}
+
+#[test]
+fn texts_that_are_no_package_are_told(rt: HostRuntime) -> Result<(), Fail> {
+    let alloc = rt.alloc();
+    let table = [
+        (
+            "config interface 'lan'\noption proto 'none'\noption device 'br",
+            "plane: network: line 3: open quote\n",
+        ),
+        ("option a b", "plane: network: line 1: no section\n"),
+        (
+            "config x\noption \"a",
+            "plane: network: line 2: open quote\n",
+        ),
+        ("config x y z", "plane: network: line 1: argument count\n"),
+        ("bogus", "plane: network: line 1: unknown command\n"),
+        ("\n\nconfig a b-c", "plane: network: line 3: bad name\n"),
+        ("config a\n\\", "plane: network: line 2: bad word\n"),
+        (
+            "option a b\nbogus\nconfig x 'y",
+            "plane: network: line 2: unknown command\n",
+        ),
+    ];
+    for (text, told) in table {
+        let ran = run(alloc, "start eth0", text.as_bytes(), Failing::default())?;
+        assert_eq!(rt; ran.status, 9, "{text}");
+        assert_eq!(rt; ran.err.bytes(), told.as_bytes(), "{text}");
+        assert!(rt; ran.out.bytes().is_empty());
+        assert_eq!(rt; ran.calls, 0);
     }
     Ok(())
 }

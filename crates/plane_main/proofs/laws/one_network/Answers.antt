@@ -1,4 +1,4 @@
-use Rattle.plane_main.proofs.SectionLemmas.{network_one}
+use Rattle.plane_main.proofs.InterfaceLemmas.{network_one}
 use Rattle.plane_main.proofs.laws.one_network.Goals as goal
 
 pub returns : goal.returns

@@ -1,5 +1,5 @@
 use Rattle.net_addr.specs.declared.address.Addr.TheVariants as family
-use Rattle.plane_main.proofs.SectionLemmas.{spells_v4}
+use Rattle.plane_main.proofs.InterfaceLemmas.{spells_v4}
 use Rattle.plane_main.proofs.network.ipv4.Goals as goal
 
 pub returns-in_default-clause-none : goal.returns-in_default-clause-none

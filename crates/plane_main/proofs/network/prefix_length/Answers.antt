@@ -2,7 +2,7 @@ use Rattle.std.proofs.Common.{◌≡◌, Some, ◌∙◌, sym, ap}
 use Rattle.std.specs.Result.{result_ok}
 use Rattle.net_addr.specs.Mask.{mask_octets}
 use Rattle.plane_main.proofs.ItemLemmas.{none_by}
-use Rattle.plane_main.proofs.SectionLemmas.{one_v4, mask_is_octets}
+use Rattle.plane_main.proofs.InterfaceLemmas.{one_v4, mask_is_octets}
 use Rattle.plane_main.proofs.network.prefix_length.Goals as goal
 
 pub returns-in_err-mask-clause-none : goal.returns-in_err-mask-clause-none

@@ -1,8 +1,7 @@
 use Rattle.std.proofs.Common.{◌≡◌, drop}
 use Rattle.plane_main.specs.Form.{value_of}
-use Rattle.plane_main.specs.Options.{words_of}
 use Rattle.plane_main.proofs.network.value_of.Given as goal
 
--- the lines so far give no value
-abbrev pub invariant-loop-line : goal.invariant-loop-line
-invariant-loop-line l = value_of l.option (words_of l.lines) ≡ value_of l.option (words_of (drop l.line-index l.lines))
+-- the options so far have other names
+abbrev pub invariant-loop-option : goal.invariant-loop-option
+invariant-loop-option l = value_of l.name l.options ≡ value_of l.name (drop l.option-index l.options)

@@ -1,4 +1,4 @@
-use Rattle.std.proofs.Common.{arith, string_bytes, ap, sym, ◌∙◌}
+use Rattle.std.proofs.Common.{string_bytes, ap, ◌∙◌}
 use Rattle.std.specs.Prelude.{bytes_eq, codes}
 use Rattle.plane_main.proofs.PageLemmas.{one_word, text_of_test}
 use Rattle.plane_main.proofs.page.read_page.Goals as goal

@@ -7,14 +7,14 @@ use Rattle.plane_main.specs.Run.{Input}
 use Rattle.plane_main.specs.Wanted.{wanted}
 use Rattle.plane_main.proofs.DueLemmas.{IsDecided, decided, six_if_due, zero_if_none_due}
 use Rattle.plane_main.proofs.PageLemmas.{by_start, not_in_table, calm_program, told_status}
-use Rattle.plane_main.proofs.RunLemmas.{done_of_status, long_input, no_form, calm_end, is_status, in_front, wholly}
+use Rattle.plane_main.proofs.RunLemmas.{done_of_status, long_input, no_tree, no_form, calm_end, is_status, in_front, wholly}
 use Rattle.plane_main.proofs.program.plane.Goals as goal
 
 pub returns-clause-silent : goal.returns-clause-silent
 returns-clause-silent g c zero = c.report.ensures.silent (done_of_status c.carry_out-ending.result (sym c.status.ensures ∙ zero))
 
 pub returns-clause-status : goal.returns-clause-status
-returns-clause-status g c = subst (Contains (0 ∷ 2 ∷ 3 ∷ 4 ∷ 6 ∷ 8 ∷ 10 ∷ 11 ∷ [])) (sym c.status.ensures) (is_status c.carry_out-ending.result)
+returns-clause-status g c = subst (Contains (0 ∷ 2 ∷ 3 ∷ 4 ∷ 6 ∷ 8 ∷ 9 ∷ 10 ∷ 11 ∷ [])) (sym c.status.ensures) (is_status c.carry_out-ending.result)
 
 pub returns-clause-ended : goal.returns-clause-ended
 returns-clause-ended g c = record {
@@ -41,6 +41,14 @@ returns-clause-long_input g c text told over calm command =
     let after : Outside = record { out = g.O.Sink.held c.carry_out-ending.new.out; devices = g.K.Kernel.devices c.carry_out-ending.new.kernel; objects = g.K.Kernel.objects c.carry_out-ending.new.kernel; calls = g.K.Kernel.calls c.carry_out-ending.new.kernel; out_faults = g.O.Sink.faults c.carry_out-ending.new.out; kernel_faults = g.K.Kernel.faults c.carry_out-ending.new.kernel } in
     subst (IsEither 10 8) (sym c.status.ensures) (long_input words input before after c.carry_out-ending.result text (by_start words input before after c.carry_out-ending.result c.carry_out-ending.ensures.cause command) calm command told over)
 
+pub returns-clause-no_package : goal.returns-clause-no_package
+returns-clause-no_package g c text error is calm command bad =
+    let words = map string_bytes c.args.words.now in
+    let input : Input = record { left = g.S.Source.left c.args.input.now; left_now = g.S.Source.left c.carry_out-ending.new.input; faults = g.S.Source.faults c.args.input.now; faults_now = g.S.Source.faults c.carry_out-ending.new.input } in
+    let before : Outside = record { out = g.O.Sink.held c.args.out.now; devices = g.K.Kernel.devices c.args.kernel.now; objects = g.K.Kernel.objects c.args.kernel.now; calls = g.K.Kernel.calls c.args.kernel.now; out_faults = g.O.Sink.faults c.args.out.now; kernel_faults = g.K.Kernel.faults c.args.kernel.now } in
+    let after : Outside = record { out = g.O.Sink.held c.carry_out-ending.new.out; devices = g.K.Kernel.devices c.carry_out-ending.new.kernel; objects = g.K.Kernel.objects c.carry_out-ending.new.kernel; calls = g.K.Kernel.calls c.carry_out-ending.new.kernel; out_faults = g.O.Sink.faults c.carry_out-ending.new.out; kernel_faults = g.K.Kernel.faults c.carry_out-ending.new.kernel } in
+    subst (IsEither 9 8) (sym c.status.ensures) (no_tree words input before after c.carry_out-ending.result text error (by_start words input before after c.carry_out-ending.result c.carry_out-ending.ensures.cause command) calm command is bad)
+
 pub returns-clause-no_form : goal.returns-clause-no_form
 returns-clause-no_form g c text is calm command form =
     let words = map string_bytes c.args.words.now in
@@ -63,7 +71,7 @@ returns-clause-calm_status g c calm =
     let input : Input = record { left = g.S.Source.left c.args.input.now; left_now = g.S.Source.left c.carry_out-ending.new.input; faults = g.S.Source.faults c.args.input.now; faults_now = g.S.Source.faults c.carry_out-ending.new.input } in
     let before : Outside = record { out = g.O.Sink.held c.args.out.now; devices = g.K.Kernel.devices c.args.kernel.now; objects = g.K.Kernel.objects c.args.kernel.now; calls = g.K.Kernel.calls c.args.kernel.now; out_faults = g.O.Sink.faults c.args.out.now; kernel_faults = g.K.Kernel.faults c.args.kernel.now } in
     let after : Outside = record { out = g.O.Sink.held c.carry_out-ending.new.out; devices = g.K.Kernel.devices c.carry_out-ending.new.kernel; objects = g.K.Kernel.objects c.carry_out-ending.new.kernel; calls = g.K.Kernel.calls c.carry_out-ending.new.kernel; out_faults = g.O.Sink.faults c.carry_out-ending.new.out; kernel_faults = g.K.Kernel.faults c.carry_out-ending.new.kernel } in
-    subst (Contains (0 ∷ 2 ∷ 8 ∷ 10 ∷ 11 ∷ [])) (sym c.status.ensures) (calm_program words input before after c.carry_out-ending.result c.carry_out-ending.ensures.cause calm.0 calm.1.0 calm.1.1.0)
+    subst (Contains (0 ∷ 2 ∷ 8 ∷ 9 ∷ 10 ∷ 11 ∷ [])) (sym c.status.ensures) (calm_program words input before after c.carry_out-ending.result c.carry_out-ending.ensures.cause calm.0 calm.1.0 calm.1.1.0)
 
 pub returns-clause-due : goal.returns-clause-due
 returns-clause-due g c text interfaces is command network free =

@@ -2,11 +2,11 @@ use Rattle.std.proofs.Common.{map, string_bytes, sym, subst}
 use Rattle.plane_main.specs.Words.{IsStart}
 use Rattle.plane_main.specs.Bring.{Outside, AreSound}
 use Rattle.plane_main.specs.Run.{Input, AreRead}
-use Rattle.plane_main.proofs.RunLemmas.{sections_sound, run_ends}
+use Rattle.plane_main.proofs.RunLemmas.{interfaces_sound, run_ends}
 use Rattle.plane_main.proofs.start.start.Goals as goal
 
 pub bring_up-requires-clause-sound : goal.bring_up-requires-clause-sound
-bring_up-requires-clause-sound g c = subst AreSound (sym c.deref-in-Ok.ensures.value) (sections_sound _ c.in-Ok.interfaces.items c.in-Ok.ensures.found.network.sections)
+bring_up-requires-clause-sound g c = subst AreSound (sym c.deref-in-Ok.ensures.value) (interfaces_sound _ c.in-Ok.interfaces.items c.in-Ok.ensures.found.network.sections)
 
 pub returns-in-Ok-clause-cause : goal.returns-in-Ok-clause-cause
 returns-in-Ok-clause-cause g c =

@@ -3,8 +3,8 @@ use Rattle.std.specs.Prelude.{Contains, codes}
 use Rattle.std.proofs.lemmas.List.{take_all, map_more, length-map}
 use Rattle.std.proofs.lemmas.Bool.Decides.{nat_tests}
 use Rattle.plane_main.specs.Words.{IsPlainName}
-use Rattle.plane_main.proofs.DistinctLemmas.{distinct_push, seen_more, not_seen, was_seen}
-use Rattle.plane_main.proofs.StartLemmas.{all_push, no_start_at, no_start_twice}
+use Rattle.plane_main.proofs.DistinctLemmas.{all_push, distinct_push, seen_more, not_seen, was_seen}
+use Rattle.plane_main.proofs.StartLemmas.{no_start_at, no_start_twice}
 use Rattle.plane_main.proofs.words.start_names.Goals as goal
 
 pub returns-in_default-read_plain_name-clause-none : goal.returns-in_default-read_plain_name-clause-none

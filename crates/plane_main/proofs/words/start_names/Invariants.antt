@@ -1,6 +1,6 @@
 use Rattle.std.proofs.Common.{◌≡◌, take, map, string_bytes}
 use Rattle.std.specs.List.{AllByRecursion}
-use Rattle.plane_main.specs.Distinct.{AreDistinct}
+use Rattle.plane_words.specs.Distinct.{AreDistinct}
 use Rattle.plane_main.specs.Words.{IsPlainName}
 use Rattle.plane_main.proofs.DistinctLemmas.{AreSeen}
 use Rattle.plane_main.proofs.words.start_names.Given as goal

@@ -1,4 +1,0 @@
-pub mod ClassLemmas
-pub mod WordLemmas
-pub mod LineLemmas
-pub mod TextLemmas
