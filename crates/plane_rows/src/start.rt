@@ -20,7 +20,7 @@ const ROUTER: &str =
 /// The interface of the examples in the whole grammar of UCI files: comments, quotes, escapes, a section that goes on, an
 /// option that is given twice, and one that is removed.
 const GRAMMAR: &str =
-    "# the line to the provider\npackage network; config interface lan # first\n\toption \"device\" eth0\n\toption ipaddr 10.0.0.1\n\toption mtu 1400\nconfig \\\n\tinterface 'la'n\n\toption mtu ''\n\to proto st'at'\"ic\"\n\toption ipaddr '192.168.1.1'\n\toption netmask 255.255\\.255.0\n";
+    "# the line to the provider\npackage network; config interface lan # first\n\toption \"device\" eth0\n\toption ipaddr 10.0.0.1\n\toption mtu 1400\nconfig inter\\\nface 'la'n\n\toption mtu ''\n\to proto st'at'\"ic\"\n\toption ipaddr '192.168.1.1'\n\toption netmask 255.255\\.255.0\n";
 
 const UP: &str = "link set dev eth0 up\naddr add 192.168.1.1/24 dev eth0\n";
 
