@@ -4,6 +4,7 @@
 
 mod anonymous;
 mod copy;
+mod draft_section;
 mod laws;
 mod lookup;
 mod names;

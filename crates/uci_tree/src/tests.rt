@@ -102,7 +102,7 @@ wan6:interface device=wan proto=dhcpv6
 
 #[test]
 fn rules_of_the_fold(rt: HostRuntime) -> Result<(), Fail> {
-    let texts: [(&[u8], &[u8]); 19] = [
+    let texts: [(&[u8], &[u8]); 25] = [
         (b"", b""),
         (b"package other", b""),
         (b"config system", b"cfg01e48a@system\n"),
@@ -131,7 +131,32 @@ fn rules_of_the_fold(rt: HostRuntime) -> Result<(), Fail> {
             b"config x s\noption a 1\noption b 2\noption a ''\noption a 4",
             b"s:x b=2 a=4\n",
         ),
+        (
+            b"config x s\noption a 1\noption b 2\noption c 3\noption b ''\noption b 4\noption c 5\noption b 6",
+            b"s:x a=1 c=5 b=6\n",
+        ),
+        (
+            b"config x s\noption a 1\noption b 2\noption a ''\noption a ''\noption a 3\noption a 4",
+            b"s:x b=2 a=4\n",
+        ),
+        (
+            b"config x s\noption a 1\noption b ''\noption a ''",
+            b"s:x\n",
+        ),
+        // also in a section that goes on
+        (
+            b"config x s\noption a 1\noption b 2\nconfig y t\noption a 3\nconfig x s\noption a ''\nlist b 4\noption a 5",
+            b"s:x b=[2][4] a=5\nt:y a=3\n",
+        ),
         // a list goes on, begins with an option's value, and gives way to an option
+        (
+            b"config x s\nlist a 1\noption b 2\noption a ''\nlist a 3\nlist a 4",
+            b"s:x b=2 a=[3][4]\n",
+        ),
+        (
+            b"config x s\noption a 1\nlist b 2\noption a ''\nlist b 3",
+            b"s:x b=[2][3]\n",
+        ),
         (
             b"config x s\nlist a 1\noption b 3\nlist a 2",
             b"s:x a=[1][2] b=3\n",
