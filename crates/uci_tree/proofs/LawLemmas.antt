@@ -8,7 +8,7 @@ use Rattle.uci_tree.specs.declared.package.Package.{Package}
 use Rattle.uci_tree.specs.declared.tree_error.TreeError.{TreeError}
 use Rattle.uci_tree.specs.declared.tree_error.TreeError.TheVariants.{Text, NoSection, Memory}
 use Rattle.uci_tree.specs.Fold.{Draft, nothing, after_all}
-use Rattle.uci_tree.specs.Reading.{Reads, LacksSection, HasTreeFault}
+use Rattle.uci_tree.specs.Reading.{Reads, HasTreeFault}
 
 one_outcome : (text : List ℕ) (commands others : List Cmd) (a b : Result Draft ℕ) → SpellsCommands text commands → SpellsCommands text others → after_all nothing commands ≡ a → after_all nothing others ≡ b → b ≡ a
 one_outcome text commands others a b s t e f = sym f ∙ ap (λ (z : List Cmd). after_all nothing z) (commands_are_one text commands others s t) ∙ e

@@ -2,6 +2,7 @@ pub mod HexLemmas
 pub mod FindLemmas
 pub mod PathLemmas
 pub mod FoldLemmas
+pub mod SlotLemmas
 pub mod SectionLemmas
 pub mod ReadingLemmas
 pub mod CleanLemmas

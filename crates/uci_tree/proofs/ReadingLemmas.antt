@@ -7,20 +7,21 @@ use Rattle.uci_tree.specs.declared.package.Package.{Package}
 use Rattle.uci_tree.specs.declared.package.Section.{Section}
 use Rattle.uci_tree.specs.declared.sections.Sections.{Sections}
 use Rattle.uci_tree.specs.Fold.{Draft, nothing, after_all}
+use Rattle.uci_tree.specs.Slots.{sections_of}
 use Rattle.uci_tree.specs.Index.{draft_of}
 use Rattle.uci_tree.specs.Reading.{Reads}
 
 tree_from : List ℕ → List Section → ℕ → Package
 tree_from name sections made = record { name = name; sections = sections; made = made }
 
-pub read_as : (name text named : List ℕ) (commands listed : List Cmd) (state : Sections) (sections : List Section) (made : ℕ) → SpellsCommands text commands → listed ≡ commands → after_all nothing listed ≡ Ok (draft_of state) → named ≡ name → sections ≡ state.sections.items → made ≡ length state.sections.items → Reads name text (record { name = named; sections = sections; made = made })
+pub read_as : (name text named : List ℕ) (commands listed : List Cmd) (state : Sections) (sections : List Section) (made : ℕ) → SpellsCommands text commands → listed ≡ commands → after_all nothing listed ≡ Ok (draft_of state) → named ≡ name → sections ≡ sections_of state.sections.items → made ≡ length state.sections.items → Reads name text (record { name = named; sections = sections; made = made })
 unfolding tree_from
 read_as name text named commands listed state sections made s l f n i m = record {
   commands = commands;
   spelled = s;
   draft = draft_of state;
   folded = ap (λ (z : List Cmd). after_all nothing z) (sym l) ∙ f;
-  is = ap (λ (z : List ℕ). tree_from z sections made) n ∙ ap (λ (z : List Section). tree_from name z made) i ∙ ap (λ (z : ℕ). tree_from name state.sections.items z) m;
+  is = ap (λ (z : List ℕ). tree_from z sections made) n ∙ ap (λ (z : List Section). tree_from name z made) i ∙ ap (λ (z : ℕ). tree_from name (sections_of state.sections.items) z) m;
 }
 
 pub one_tree : (name text : List ℕ) (tree other : Package) → Reads name text tree → Reads name text other → other ≡ tree

@@ -1,11 +1,13 @@
 -- What the reader keeps beside the sections.
 use Rattle.std.specs.Prelude.{ℕ, ◌≡◌, ◌<◌, Result, Err, List, length, Option, Some, None, if◌then◌else◌, bytes_eq}
+use Rattle.std.specs.List.{AllByRecursion}
 use Rattle.std.specs.Ordering.{nat_cmp}
 use Rattle.std.specs.Cmp.Lexicographic.{slice_cmp}
 use Rattle.std.specs.BTreeMap.{BTreeMap, get}
 use Rattle.uci_tree.specs.declared.package.Section.{Section}
 use Rattle.uci_tree.specs.Find.{named_place}
 use Rattle.uci_tree.specs.Fold.{Draft}
+use Rattle.uci_tree.specs.Slots.{AreIndexed, sections_of}
 use Rattle.uci_tree.specs.declared.sections.Sections.{Sections}
 use Rattle.uci_tree.specs.declared.tree_error.TreeError.{TreeError}
 use Rattle.uci_tree.specs.declared.tree_error.TreeError.TheVariants.{Text, NoSection, Memory}
@@ -24,12 +26,13 @@ abbrev pub HasNoted : BTreeMap (List ℕ) ℕ → BTreeMap (List ℕ) ℕ → Li
 HasNoted old new name place = (other : List ℕ) → get (slice_cmp nat_cmp) new other ≡ first_place (get (slice_cmp nat_cmp) old other) (if bytes_eq name other then Some place else None)
 
 abbrev pub draft_of : Sections → Draft
-draft_of state = record { sections = state.sections.items; made = length state.sections.items; current = state.current }
+draft_of state = record { sections = sections_of state.sections.items; made = length state.sections.items; current = state.current }
 
--- the places are those of the sections, and the current place is one of them
+-- the places are those of the sections, the current place is one of them, and the options of each have their slots
 pub record IsIndexed (state : Sections) : Type 0 where
-  pub places : HasPlaces state.places state.sections.items
+  pub places : HasPlaces state.places (sections_of state.sections.items)
   pub within : (place : ℕ) → state.current ≡ Some place → place < length state.sections.items
+  pub options : AllByRecursion (λ section. AreIndexed section.options) state.sections.items
 
 -- why a step is refused: there is no section, or no memory
 abbrev pub IsLack : Result Draft ℕ → TreeError → Type 0

@@ -6,6 +6,7 @@ pub mod Find
 pub mod Fold
 pub mod Valid
 pub mod Reading
+pub mod Slots
 pub mod Index
 pub mod TreeError
 pub mod Fault

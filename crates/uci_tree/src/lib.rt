@@ -4,6 +4,7 @@
 
 mod anonymous;
 mod copy;
+mod draft_section;
 mod fault;
 mod laws;
 mod lookup;

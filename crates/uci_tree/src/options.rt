@@ -1,104 +1,116 @@
-ghost use Rattle.std.specs.Prelude.{◌≡◌, ◌<◌, ◌∷◌, ◌++◌, [], length, IfOk, Some};
+ghost use Rattle.std.specs.Prelude.{◌≡◌, [], ◌∷◌, IfOk, OnOk};
 ghost use Rattle.uci_tree.specs.Fold as fold;
-ghost use Rattle.uci_tree.specs.declared.package.Value.TheVariants.{Many};
+ghost use Rattle.uci_tree.specs.Slots.{AreIndexed, options_of, value_of};
 
-use crate::lookup::option_place;
 use crate::{Opt, Value};
 use plane_io::{Items, Memory, Text};
 use std::alloc::Global;
-use std::mem;
+use std::collections::BTreeMap;
 
-/// The options after `option NAME VALUE`.
-pub fn with_option(options: Vec<Opt>, name: Text, value: Text) -> Result<Vec<Opt>, Memory>
-    ensures { IfOk result (λ made. made.items ≡ fold.with_option name value options.items) }
-{
-    if value.as_bytes().is_empty() {
-        return Ok(without(options, name.as_bytes()));
+/// The options of a section while its commands are read: a slot for each that was added, empty where it was removed, and
+/// the place of the slot of each name.
+#[derive(Drop)]
+pub struct Options {
+    slots: Vec<Option<Opt>>,
+    places: BTreeMap<Text, usize>,
+}
+
+impl Options {
+    /// No options.
+    pub fn new(alloc: Global) -> Options
+        ensures indexed { AreIndexed result }
+        ensures none { options_of result ≡ [] }
+    {
+        Options {
+            slots: Vec::new(alloc),
+            places: BTreeMap::new(alloc),
+        }
     }
-    match option_place(options.as_slice(), name.as_bytes()) {
-        Some(place) => Ok(replaced(options, place, Value::One(value))),
-        None => pushed(options, name, Value::One(value)),
+
+    /// Does what `option NAME VALUE` says.
+    pub fn set(&mut self, name: Text, value: Text) -> Result<(), Memory>
+        requires { AreIndexed self.old }
+        ensures indexed { OnOk result (AreIndexed self.new) }
+        ensures made { OnOk result (options_of self.new ≡ fold.with_option name value (options_of self.old)) }
+    {
+        if value.as_bytes().is_empty() {
+            self.remove(&name);
+            return Ok(());
+        }
+        self.put(name, Value::One(value))
+    }
+
+    /// Does what `list NAME ITEM` says.
+    pub fn append(&mut self, alloc: Global, name: Text, item: Text) -> Result<(), Memory>
+        requires { AreIndexed self.old }
+        ensures indexed { OnOk result (AreIndexed self.new) }
+        ensures made { OnOk result (options_of self.new ≡ fold.with_item name item (options_of self.old)) }
+    {
+        let Some(place) = self.places.get(&name).copied() else {
+            let items = list_of(alloc, item)?;
+            return self.put(name, Value::Many(items));
+        };
+        let slot = &mut self.slots[place];
+        let before = slot.take();
+        let value = appended(alloc, before, item)?;
+        *slot = Some(Opt { name, value });
+        Ok(())
+    }
+
+    /// Gives the options that are there, in their order.
+    pub fn finish(self, alloc: Global) -> Result<Items<Opt>, Memory>
+        ensures { IfOk result (λ options. options ≡ options_of self) }
+    {
+        let Options { mut slots, .. } = self;
+        slots.reverse();
+        let mut options = Items::new(alloc);
+        while let Some(slot) = slots.pop() {
+            if let Some(option) = slot {
+                options.push(option)?;
+            }
+        }
+        Ok(options)
+    }
+
+    fn put(&mut self, name: Text, value: Value) -> Result<(), Memory>
+        requires { AreIndexed self.old }
+        ensures indexed { OnOk result (AreIndexed self.new) }
+        ensures made { OnOk result (options_of self.new ≡ fold.put name (λ before. value) (options_of self.old)) }
+    {
+        if let Some(place) = self.places.get(&name).copied() {
+            self.slots[place] = Some(Opt { name, value });
+            return Ok(());
+        }
+        let place = self.slots.len();
+        let _none = self.places.insert(name.copy()?, place)?;
+        self.slots.push(Some(Opt { name, value }))?;
+        Ok(())
+    }
+
+    fn remove(&mut self, name: &Text)
+        requires { AreIndexed self.old }
+        ensures indexed { AreIndexed self.new }
+        ensures made { options_of self.new ≡ fold.without name.now (options_of self.old) }
+    {
+        if let Some(place) = self.places.remove(name) {
+            self.slots[place] = None;
+        }
     }
 }
 
-/// The options after `list NAME ITEM`.
-pub fn with_item(
-    alloc: Global,
-    options: Vec<Opt>,
-    name: Text,
-    item: Text,
-) -> Result<Vec<Opt>, Memory>
-    ensures { IfOk result (λ made. made.items ≡ fold.with_item name item options.items) }
+fn appended(alloc: Global, option: Option<Opt>, item: Text) -> Result<Value, Memory>
+    ensures { IfOk result (λ made. made ≡ fold.appended item (value_of option)) }
 {
-    match option_place(options.as_slice(), name.as_bytes()) {
-        Some(place) => extended(alloc, options, place, item),
-        None => begun(alloc, options, name, item),
-    }
-}
-
-fn without(mut options: Vec<Opt>, name: &[u8]) -> Vec<Opt>
-    ensures { result.items ≡ fold.without name.now options.items }
-{
-    let Some(place) = option_place(options.as_slice(), name) else {
-        return options;
+    let Some(option) = option else {
+        return Ok(Value::Many(list_of(alloc, item)?));
     };
-    let _removed = options.remove(place);
-    options
-}
-
-fn pushed(mut options: Vec<Opt>, name: Text, value: Value) -> Result<Vec<Opt>, Memory>
-    ensures { IfOk result (λ made. made.items ≡ options.items ++ record { name = name; value = value } ∷ []) }
-{
-    options.push(Opt { name, value })?;
-    Ok(options)
-}
-
-fn begun(alloc: Global, options: Vec<Opt>, name: Text, item: Text) -> Result<Vec<Opt>, Memory>
-    ensures { IfOk result (λ made. made.items ≡ options.items ++ record { name = name; value = Many (item ∷ []) } ∷ []) }
-{
-    let items = list_of(alloc, item)?;
-    pushed(options, name, Value::Many(items))
-}
-
-fn replaced(mut options: Vec<Opt>, place: usize, value: Value) -> Vec<Opt>
-    requires { place < length options.items }
-    ensures { result.items ≡ fold.changed_at place (λ option. record option { value = value }) options.items }
-{
-    let option = &mut options[place];
-    option.value = value;
-    options
-}
-
-fn extended(
-    alloc: Global,
-    mut options: Vec<Opt>,
-    place: usize,
-    item: Text,
-) -> Result<Vec<Opt>, Memory>
-    requires { place < length options.items }
-    ensures { IfOk result (λ made. made.items ≡ fold.changed_at place (λ option. record option { value = fold.appended item (Some option.value) }) options.items) }
-{
-    let option = &mut options[place];
-    let before = mem::replace(&mut option.value, Value::Many(Items::new(alloc)));
-    option.value = appended(alloc, before, item)?;
-    Ok(options)
-}
-
-fn appended(alloc: Global, value: Value, item: Text) -> Result<Value, Memory>
-    ensures { IfOk result (λ made. made ≡ fold.appended item (Some value)) }
-{
-    match value {
-        Value::One(first) => {
-            let mut items = list_of(alloc, first)?;
-            items.push(item)?;
-            Ok(Value::Many(items))
-        }
-        Value::Many(items) => {
-            let mut items = items;
-            items.push(item)?;
-            Ok(Value::Many(items))
-        }
-    }
+    let Opt { value, .. } = option;
+    let mut items = match value {
+        Value::One(first) => list_of(alloc, first)?,
+        Value::Many(items) => items,
+    };
+    items.push(item)?;
+    Ok(Value::Many(items))
 }
 
 fn list_of(alloc: Global, item: Text) -> Result<Items<Text>, Memory>

@@ -34,9 +34,9 @@ pub fn read_package(alloc: Global, name: &[u8], text: &[u8]) -> Result<Package, 
     ensures valid { IsNameOf ByteClass.PackageName name.now → IfOk result IsValid }
 {
     let commands = read_commands(alloc, text)?;
-    let sections = sections_of(alloc, commands.into_vec())?;
+    let drafts = sections_of(alloc, commands.into_vec())?;
     let name = Text::from_bytes(alloc, name)?;
-    let sections = sections.into_vec();
+    let sections = drafts.finish(alloc)?;
     Ok(Package {
         name,
         made: sections.len() as u64,

@@ -1,20 +1,21 @@
-ghost use Rattle.std.specs.Prelude.{◌≡◌, ◌<◌, ◌+◌, length, Ok, OnOk, IfErr, true, false};
+ghost use Rattle.std.specs.Prelude.{◌≡◌, ◌<◌, ◌+◌, length, Ok, IfOk, OnOk, IfErr, true, false};
 ghost use Rattle.uci_tree.specs.Fold as fold;
 ghost use Rattle.uci_tree.specs.Index.{HasNoted, IsIndexed, IsLack, draft_of};
+ghost use Rattle.uci_tree.specs.Slots.{sections_of};
 
-use crate::options::{with_item, with_option};
+use crate::draft_section::DraftSection;
+use crate::options::Options;
 use crate::{Section, TreeError, anonymous_name};
-use plane_io::{Items, Memory, Text};
+use plane_io::{Memory, Text};
 use std::alloc::Global;
 use std::collections::BTreeMap;
-use std::mem;
 use uci_text::Cmd;
 
 /// The sections of a package while its commands are read, with the place of the first section of each name, and the place
 /// of the section that the latest `config` named.
 #[derive(Drop)]
 pub struct Sections {
-    sections: Vec<Section>,
+    sections: Vec<DraftSection>,
     places: BTreeMap<Text, usize>,
     current: Option<usize>,
 }
@@ -32,12 +33,17 @@ impl Sections {
         }
     }
 
-    /// Gives the sections.
-    pub fn into_vec(self) -> Vec<Section>
-        ensures { result.items ≡ self.sections.items }
+    /// Gives the sections, each with the options that are there.
+    pub fn finish(self, alloc: Global) -> Result<Vec<Section>, Memory>
+        ensures { IfOk result (λ finished. finished.items ≡ sections_of self.sections.items) }
     {
-        let Sections { sections, .. } = self;
-        sections
+        let Sections { mut sections, .. } = self;
+        sections.reverse();
+        let mut finished = Vec::new(alloc);
+        while let Some(section) = sections.pop() {
+            finished.push(section.finish(alloc)?)?;
+        }
+        Ok(finished)
     }
 
     /// Does what the command says.
@@ -50,7 +56,7 @@ impl Sections {
         match command {
             Cmd::Package { .. } => Ok(()),
             Cmd::Config { kind, name, .. } => Ok(self.config(alloc, kind, name)?),
-            Cmd::Item { line, name, value } => self.option(alloc, line, name, value),
+            Cmd::Item { line, name, value } => self.option(line, name, value),
             Cmd::ListItem { line, name, value } => self.item(alloc, line, name, value),
         }
     }
@@ -78,11 +84,11 @@ impl Sections {
     {
         let place = self.sections.len();
         note(&mut self.places, &name, place)?;
-        self.sections.push(Section {
+        self.sections.push(DraftSection {
             name,
             anonymous,
             kind,
-            options: Items::new(alloc),
+            options: Options::new(alloc),
         })?;
         self.current = Some(place);
         Ok(())
@@ -99,7 +105,7 @@ impl Sections {
         self.current = Some(place);
     }
 
-    fn option(&mut self, alloc: Global, line: u32, name: Text, value: Text) -> Result<(), TreeError>
+    fn option(&mut self, line: u32, name: Text, value: Text) -> Result<(), TreeError>
         requires { IsIndexed self.old }
         ensures indexed { OnOk result (IsIndexed self.new) }
         ensures made { OnOk result (fold.with_options (draft_of self.old) line (fold.with_option name value) ≡ Ok (draft_of self.new)) }
@@ -109,10 +115,7 @@ impl Sections {
             return Err(TreeError::NoSection { line });
         };
         let section = &mut self.sections[place];
-        let options = mem::replace(&mut section.options, Items::new(alloc));
-        let made = with_option(options.into_vec(), name, value)?;
-        section.options = Items::from_vec(made);
-        Ok(())
+        Ok(section.options.set(name, value)?)
     }
 
     fn item(&mut self, alloc: Global, line: u32, name: Text, item: Text) -> Result<(), TreeError>
@@ -125,10 +128,7 @@ impl Sections {
             return Err(TreeError::NoSection { line });
         };
         let section = &mut self.sections[place];
-        let options = mem::replace(&mut section.options, Items::new(alloc));
-        let made = with_item(alloc, options.into_vec(), name, item)?;
-        section.options = Items::from_vec(made);
-        Ok(())
+        Ok(section.options.append(alloc, name, item)?)
     }
 }
 

@@ -100,9 +100,17 @@ wan6:interface device=wan proto=dhcpv6
     Ok(())
 }
 
+fn assert_outcomes(rt: &impl Abort, alloc: Global, texts: &[(&[u8], &[u8])]) -> Result<(), Fail> {
+    for &(text, expected) in texts {
+        let read = outcome(rt, alloc, text)?;
+        assert_eq!(rt; read.as_slice(), expected, "{text:?}");
+    }
+    Ok(())
+}
+
 #[test]
-fn rules_of_the_fold(rt: HostRuntime) -> Result<(), Fail> {
-    let texts: [(&[u8], &[u8]); 19] = [
+fn rules_of_sections(rt: HostRuntime) -> Result<(), Fail> {
+    let texts: [(&[u8], &[u8]); 11] = [
         (b"", b""),
         (b"package other", b""),
         (b"config system", b"cfg01e48a@system\n"),
@@ -117,6 +125,21 @@ fn rules_of_the_fold(rt: HostRuntime) -> Result<(), Fail> {
             b"cfg01b61d@x\ncfg01d7a8:y\n",
         ),
         (b"config x\nconfig y cfg01b61d", b"cfg01b61d@y\n"),
+        // what stands before any section, and a later fault of the text
+        (b"option a b", b"no section 1"),
+        (b"\n\nlist a b\nconfig x\noption a b", b"no section 3"),
+        (b"option a b\noption \"a", b"open quote in line 2"),
+        (
+            b"option a b\nconfig x y z",
+            b"wrong number of arguments in line 2",
+        ),
+    ];
+    assert_outcomes(&rt, rt.alloc(), &texts)
+}
+
+#[test]
+fn rules_of_options(rt: HostRuntime) -> Result<(), Fail> {
+    let texts: [(&[u8], &[u8]); 8] = [
         // an option is replaced at its place, and an empty value removes it
         (
             b"config x s\noption a 1\noption b 2\noption a 3",
@@ -127,10 +150,35 @@ fn rules_of_the_fold(rt: HostRuntime) -> Result<(), Fail> {
             b"s:x b=2\n",
         ),
         (b"config x s\noption a ''", b"s:x\n"),
+        // what was removed is added at the end
         (
             b"config x s\noption a 1\noption b 2\noption a ''\noption a 4",
             b"s:x b=2 a=4\n",
         ),
+        (
+            b"config x s\noption a 1\noption b 2\noption c 3\noption b ''\noption b 4\noption c 5\noption b 6",
+            b"s:x a=1 c=5 b=6\n",
+        ),
+        (
+            b"config x s\noption a 1\noption b 2\noption a ''\noption a ''\noption a 3",
+            b"s:x b=2 a=3\n",
+        ),
+        (
+            b"config x s\noption a 1\noption b ''\noption a ''",
+            b"s:x\n",
+        ),
+        // also in a section that goes on
+        (
+            b"config x s\noption a 1\noption b 2\nconfig y t\noption a 3\nconfig x s\noption a ''\nlist b 4\noption a 5",
+            b"s:x b=[2][4] a=5\nt:y a=3\n",
+        ),
+    ];
+    assert_outcomes(&rt, rt.alloc(), &texts)
+}
+
+#[test]
+fn rules_of_lists(rt: HostRuntime) -> Result<(), Fail> {
+    let texts: [(&[u8], &[u8]); 6] = [
         // a list goes on, begins with an option's value, and gives way to an option
         (
             b"config x s\nlist a 1\noption b 3\nlist a 2",
@@ -139,20 +187,17 @@ fn rules_of_the_fold(rt: HostRuntime) -> Result<(), Fail> {
         (b"config x s\noption a 1\nlist a 2", b"s:x a=[1][2]\n"),
         (b"config x s\nlist a 1\nlist a 2\noption a 3", b"s:x a=3\n"),
         (b"config x s\nlist a", b"s:x a=[]\n"),
-        // what stands before any section, and a later fault of the text
-        (b"option a b", b"no section 1"),
-        (b"\n\nlist a b\nconfig x\noption a b", b"no section 3"),
-        (b"option a b\noption \"a", b"open quote in line 2"),
+        // a list that was removed begins at the end, and one behind it goes on
         (
-            b"option a b\nconfig x y z",
-            b"wrong number of arguments in line 2",
+            b"config x s\nlist a 1\noption b 2\noption a ''\nlist a 3\nlist a 4",
+            b"s:x b=2 a=[3][4]\n",
+        ),
+        (
+            b"config x s\noption a 1\nlist b 2\noption a ''\nlist b 3",
+            b"s:x b=[2][3]\n",
         ),
     ];
-    for (text, expected) in texts {
-        let read = outcome(&rt, rt.alloc(), text)?;
-        assert_eq!(rt; read.as_slice(), expected, "{text:?}");
-    }
-    Ok(())
+    assert_outcomes(&rt, rt.alloc(), &texts)
 }
 
 /// Where the path leads in the file of a router: the section's place, and the option's where there is one.

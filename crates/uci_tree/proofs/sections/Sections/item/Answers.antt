@@ -1,8 +1,21 @@
-use Rattle.std.proofs.Common.{ap, ◌∙◌, List}
-use Rattle.uci_tree.specs.declared.package.Opt.{Opt}
-use Rattle.uci_tree.proofs.SectionLemmas.{options_made}
+use Rattle.uci_tree.specs.declared.package.Section.{Section}
+use Rattle.uci_tree.specs.declared.draft_section.DraftSection.{DraftSection}
+use Rattle.std.proofs.Common.{refl}
 use Rattle.uci_tree.specs.Fold.{with_item}
+use Rattle.uci_tree.specs.Slots.{AreIndexed, options_of}
+use Rattle.uci_tree.proofs.SectionLemmas.{options_made, places_stay, within_written, all_written}
 use Rattle.uci_tree.proofs.sections.Sections.item.Goals as goal
 
+pub returns-clause-indexed : goal.returns-clause-indexed
+returns-clause-indexed c =
+    let sections = c.args.self.now.sections.items in
+    let place = c.in-Some.place in
+    let old = c.index_mut-section.result.now in
+    record {
+      places = places_stay c.args.self.now.places sections place (λ (section : Section). record section { options = options_of c.append.new.self }) old _ (c.requires.within place c.in-Some.is) c.index_mut-section.ensures.value refl (λ section. refl) c.requires.places;
+      within = λ at s. within_written sections place at _ (c.requires.within at s);
+      options = all_written (λ (section : DraftSection). AreIndexed section.options) sections place _ c.requires.options c.in_ok-append.ensures.indexed;
+    }
+
 pub returns-clause-made : goal.returns-clause-made
-returns-clause-made c = options_made c.args.self.now.sections.items c.in-Some.place c.args.line (with_item c.args.name c.args.item) c.index_mut-section.result.now _ c.args.self.now.current c.in-Some.is (c.requires.within c.in-Some.place c.in-Some.is) c.index_mut-section.ensures.value (c.from_vec.ensures ∙ c.in_ok-made.ensures ∙ ap (λ (z : List Opt). with_item c.args.name c.args.item z) (c.into_vec.ensures ∙ c.replace-options.ensures.value))
+returns-clause-made c = options_made c.args.self.now.sections.items c.in-Some.place c.args.line (with_item c.args.name c.args.item) c.index_mut-section.result.now c.append.new.self c.args.self.now.current c.in-Some.is (c.requires.within c.in-Some.place c.in-Some.is) c.index_mut-section.ensures.value c.in_ok-append.ensures.made

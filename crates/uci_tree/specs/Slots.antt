@@ -1,0 +1,49 @@
+-- The options of a section while its commands are read, in slots.
+use Rattle.std.specs.Prelude.{ℕ, zero, suc, ◌≡◌, ◌↔◌, List, [], ◌∷◌, map, Option, Some, None}
+use Rattle.std.specs.Ordering.{nat_cmp}
+use Rattle.std.specs.Cmp.Lexicographic.{slice_cmp}
+use Rattle.std.specs.BTreeMap.{BTreeMap, get}
+use Rattle.uci_tree.specs.declared.package.Value.{Value}
+use Rattle.uci_tree.specs.declared.package.Opt.{Opt}
+use Rattle.uci_tree.specs.declared.package.Section.{Section}
+use Rattle.uci_tree.specs.declared.options.Options.{Options}
+use Rattle.uci_tree.specs.declared.draft_section.DraftSection.{DraftSection}
+
+-- the options in the slots that are not empty
+abbrev pub kept : List (Option Opt) → List Opt
+kept [] = []
+kept (None ∷ slots) = kept slots
+kept (Some option ∷ slots) = option ∷ kept slots
+
+abbrev pub options_of : Options → List Opt
+options_of options = kept options.slots.items
+
+-- the value of the option in a slot
+abbrev pub value_of : Option Opt → Option Value
+value_of None = None
+value_of (Some option) = Some option.value
+
+-- a slot has an option of this name
+abbrev pub Holds : List ℕ → Option Opt → Type 0
+Holds name None = ⊥
+Holds name (Some option) = option.name ≡ name
+
+-- the slot at a place has an option of this name
+abbrev pub HoldsAt : List ℕ → List (Option Opt) → ℕ → Type 0
+HoldsAt name [] place = ⊥
+HoldsAt name (slot ∷ slots) zero = Holds name slot
+HoldsAt name (slot ∷ slots) (suc place) = HoldsAt name slots place
+
+-- the map has a name at a place exactly where the slot there has an option of the name; so no two slots have one name
+abbrev pub HasSlots : BTreeMap (List ℕ) ℕ → List (Option Opt) → Type 0
+HasSlots places slots = (name : List ℕ) (place : ℕ) → (get (slice_cmp nat_cmp) places name ≡ Some place) ↔ HoldsAt name slots place
+
+abbrev pub AreIndexed : Options → Type 0
+AreIndexed options = HasSlots options.places options.slots.items
+
+-- the section with the options that are there
+abbrev pub section_of : DraftSection → Section
+section_of draft = record { name = draft.name; anonymous = draft.anonymous; kind = draft.kind; options = options_of draft.options }
+
+abbrev pub sections_of : List DraftSection → List Section
+sections_of drafts = map section_of drafts
