@@ -7,4 +7,5 @@ pub mod Fold
 pub mod Valid
 pub mod Reading
 pub mod Index
+pub mod Print
 pub mod TreeError
