@@ -8,4 +8,5 @@ pub mod Valid
 pub mod Reading
 pub mod Index
 pub mod Print
+pub mod Placed
 pub mod TreeError

@@ -20,7 +20,12 @@ use uci_text::quote_into;
 /// # Errors
 ///
 /// `Memory` where there was not enough memory for the text.
-pub fn print_package(alloc: Global, package: &Package, header: bool, names: bool) -> Result<Vec<u8>, Memory>
+pub fn print_package(
+    alloc: Global,
+    package: &Package,
+    header: bool,
+    names: bool,
+) -> Result<Vec<u8>, Memory>
     ensures { IfOk result (λ text. text.items ≡ printed «package».now header names) }
 {
     let mut out = Vec::new(alloc);
