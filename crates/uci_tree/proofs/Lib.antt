@@ -8,3 +8,6 @@ pub mod ReadingLemmas
 pub mod CleanLemmas
 pub mod ValidLemmas
 pub mod LawLemmas
+pub mod LineLemmas
+pub mod PrintLemmas
+pub mod Examples

@@ -8,5 +8,7 @@ pub mod Valid
 pub mod Reading
 pub mod Slots
 pub mod Index
+pub mod Print
+pub mod Placed
 pub mod TreeError
 pub mod Fault

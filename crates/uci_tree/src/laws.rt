@@ -1,9 +1,12 @@
-ghost use Rattle.std.specs.Prelude.{◌≡◌, ◌⊎◌, List, ℕ};
+ghost use Rattle.std.specs.Prelude.{◌≡◌, ◌⊎◌, Bool, false, List, length, ℕ};
 ghost use Rattle.uci_tree.specs.declared.package.Package.{Package};
 ghost use Rattle.uci_tree.specs.declared.path.Path.{Path};
 ghost use Rattle.uci_tree.specs.declared.tree_error.TreeError.{TreeError as Fault};
 ghost use Rattle.uci_tree.specs.Path.{SpellsPath};
 ghost use Rattle.uci_tree.specs.Reading.{Reads, HasTreeFault};
+ghost use Rattle.uci_tree.specs.Valid.{IsValid};
+ghost use Rattle.uci_tree.specs.Print.{printed};
+ghost use Rattle.uci_tree.specs.Placed.{placed_from, IsClean};
 
 /// A text is at most one package of a name.
 pub fn one_package()
@@ -28,4 +31,10 @@ pub fn package_or_fault()
 /// A text is at most one path.
 pub fn one_path()
     ensures { (text : List ℕ) (path other : Path) → SpellsPath text path → SpellsPath text other → other ≡ path }
+{}
+
+/// What is printed without the names of anonymous sections reads as the same sections, but that each anonymous one has the
+/// name of its place; and as many were made as there are. The name in the header is passed over.
+pub fn printed_reads_back()
+    ensures { (name : List ℕ) (tree : Package) (header : Bool) → IsValid tree → IsClean tree → Reads name (printed tree header false) (record { name = name; sections = placed_from 1 tree.sections; made = length tree.sections }) }
 {}

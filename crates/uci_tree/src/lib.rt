@@ -1,5 +1,5 @@
 //! UCI packages, the trees that OpenWrt's configuration files stand for: sections that go on, options and lists, names of
-//! anonymous sections, and paths into a package.
+//! anonymous sections, paths into a package, and packages as text.
 #![tactic(auto)]
 
 mod anonymous;
@@ -13,6 +13,9 @@ mod options;
 mod package;
 mod path;
 mod path_text;
+mod print;
+#[cfg(test)]
+mod print_tests;
 mod reading;
 mod sections;
 mod split;
@@ -23,10 +26,14 @@ mod tree_error;
 pub use anonymous::anonymous_name;
 pub use copy::copy_package;
 pub use fault::{Fault, Reason};
-pub use laws::{no_package_with_fault, one_package, one_path, one_tree_fault, package_or_fault};
+pub use laws::{
+    no_package_with_fault, one_package, one_path, one_tree_fault, package_or_fault,
+    printed_reads_back,
+};
 pub use lookup::{Place, find};
 pub use package::{Opt, Package, Section, Value};
 pub use path::{Path, SectionRef};
 pub use path_text::read_path;
+pub use print::print_package;
 pub use reading::read_package;
 pub use tree_error::TreeError;

@@ -6,7 +6,7 @@ use std::test::Fail;
 use uci_text::TextError;
 
 /// The network file of a router with one bridge.
-const ROUTER: &[u8] = b"config interface 'loopback'
+pub const ROUTER: &[u8] = b"config interface 'loopback'
 \toption device 'lo'
 \toption proto 'static'
 \toption ipaddr '127.0.0.1'
