@@ -31,7 +31,7 @@ pub position-cons : {X : Type 0} (p : X → Bool) (x : X) (xs : List X) → posi
 position-cons p x xs = by_test (p x) (position_or_len p xs) (length xs)
 
 -- a write of what the item at a place becomes
-pub changed_set : {X : Type 0} (place : ℕ) (change : X → X) (xs : List X) (d : X) → place < length xs → changed_at place change xs ≡ set xs place (change (get_or xs place d))
+changed_set : {X : Type 0} (place : ℕ) (change : X → X) (xs : List X) (d : X) → place < length xs → changed_at place change xs ≡ set xs place (change (get_or xs place d))
 changed_set place change [] d h = absurd (omega (arith, h))
 changed_set zero change (x ∷ xs) d h = refl
 changed_set (suc place) change (x ∷ xs) d h = ap (λ (z : List _). x ∷ z) (changed_set place change xs d (omega arith))

@@ -29,7 +29,7 @@ is_other : (a b : List ℕ) → a ≢ b → bytes_eq a b ≡ false
 is_other a b n = refuted (bytes_eq a b) (λ e. n ((bytes_eq-Decides a b).0 e))
 
 -- where a slot has a name
-pub held_within : (name : List ℕ) (slots : List (Option Opt)) (place : ℕ) → HoldsAt name slots place → place < length slots
+held_within : (name : List ℕ) (slots : List (Option Opt)) (place : ℕ) → HoldsAt name slots place → place < length slots
 held_within name [] place h = absurd h
 held_within name (slot ∷ slots) zero h = omega arith
 held_within name (slot ∷ slots) (suc place) h = let g : place < length slots = held_within name slots place h in omega arith

@@ -9,12 +9,13 @@ use Rattle.uci_tree.specs.declared.package.Section.{Section}
 use Rattle.uci_tree.specs.declared.options.Options.{Options}
 use Rattle.uci_tree.specs.declared.draft_section.DraftSection.{DraftSection}
 
--- the options in the slots that are not empty
+-- the options in slots, in their order, without the empty slots
 abbrev pub kept : List (Option Opt) → List Opt
 kept [] = []
 kept (None ∷ slots) = kept slots
 kept (Some option ∷ slots) = option ∷ kept slots
 
+-- the options that are there
 abbrev pub options_of : Options → List Opt
 options_of options = kept options.slots.items
 
@@ -38,10 +39,11 @@ HoldsAt name (slot ∷ slots) (suc place) = HoldsAt name slots place
 abbrev pub HasSlots : BTreeMap (List ℕ) ℕ → List (Option Opt) → Type 0
 HasSlots places slots = (name : List ℕ) (place : ℕ) → (get (slice_cmp nat_cmp) places name ≡ Some place) ↔ HoldsAt name slots place
 
+-- the places are those of the slots
 abbrev pub AreIndexed : Options → Type 0
 AreIndexed options = HasSlots options.places options.slots.items
 
--- the section with the options that are there
+-- the section that a draft of one makes, and the sections that several make
 abbrev pub section_of : DraftSection → Section
 section_of draft = record { name = draft.name; anonymous = draft.anonymous; kind = draft.kind; options = options_of draft.options }
 

@@ -65,7 +65,7 @@ fn named_place(sections: &[Section], name: &[u8]) -> Option<usize>
         .position(|section| section.name.as_bytes() == name)
 }
 
-pub fn option_place(options: &[Opt], name: &[u8]) -> Option<usize>
+fn option_place(options: &[Opt], name: &[u8]) -> Option<usize>
     ensures { result ≡ spec.option_place options.now name.now }
 {
     options
