@@ -14,8 +14,8 @@ plane --help        prints this page
 plane --version     prints the version
 
 start takes 1 to 4096 device names, each once, and none that ends in a VLAN as eth0.2 does. The input is a UCI file of
-at most 1048576 bytes, and so far its sections are `config interface NAME` with the options device, proto 'static',
-ipaddr and netmask, once each. An example: from
+at most 1048576 bytes. So far it is to make sections `config interface NAME` alone, with the options device, proto
+'static', ipaddr and netmask and no other. An example: from
 
 config interface 'lan'
     option device 'eth0'

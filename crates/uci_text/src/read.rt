@@ -25,8 +25,8 @@ use std::alloc::Global;
 ///
 /// The first fault of the text, that is, of the first command that has one, a comment being part of the command before
 /// it. In a command a zero byte goes first: `BadWord` with its line. Then `OpenQuote` with the line of a quote that is
-/// not closed, or `BadWord` with the line of a backslash outside quotes that is the last byte of the text. `Memory`
-/// where there was not enough memory.
+/// not closed, or `BadWord` with the line of a backslash outside quotes and comments that is the last byte of the text.
+/// `Memory` where there was not enough memory.
 pub fn read_lines(alloc: Global, text: &[u8]) -> Result<Items<Line>, TextError>
     requires { length text.now < 2 ^ 32 - 1 }
     ensures found { IfOk result (λ lines. Spells text.now lines) }

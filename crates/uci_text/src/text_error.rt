@@ -9,7 +9,7 @@ use thiserror::Error;
 /// Why a text was not read: its first fault, or want of memory.
 #[derive(Clone, Copy, Debug, PartialEq, Eq, Error)]
 pub enum TextError {
-    /// A zero byte is on this line, or a backslash that is the last byte.
+    /// A zero byte is on this line, or a backslash that is the last byte and stands outside quotes and comments.
     #[error("bad word in line {line}")]
     BadWord { line: u32 },
     /// The quote that opens on this line is not closed.

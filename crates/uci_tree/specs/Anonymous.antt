@@ -1,4 +1,4 @@
--- The names of anonymous sections (OpenWrt's libuci).
+-- The names of anonymous sections: of the form that OpenWrt's libuci gives them, by a rule of our own.
 use Rattle.std.specs.Prelude.{ℕ, ◌+◌, ◌*◌, ◌-◌, ◌%◌, List, ◌++◌, false, fold, length, replicate, codes}
 use Rattle.std.specs.Fmt.{digits}
 

@@ -1,4 +1,5 @@
--- What the commands of a text make of a package, one after another (OpenWrt's libuci).
+-- What the commands of a text make of a package, one after another (OpenWrt's UCI files). That a section which goes on takes
+-- the new type, and that an empty value removes an option, are rules of our own.
 use Rattle.std.specs.Prelude.{ℕ, zero, suc, ◌+◌, Bool, true, false, List, [], ◌∷◌, ◌++◌, length, Option, Some, None, Result, Ok, Err, if◌then◌else◌, bytes_eq}
 use Rattle.uci_text.specs.declared.cmd.Cmd.{Cmd}
 use Rattle.uci_text.specs.declared.cmd.Cmd.TheVariants.{Package as PackageCmd, Config, Item, ListItem}

@@ -1,4 +1,5 @@
--- UCI packages (OpenWrt's configuration files): names of anonymous sections, paths, what a path finds, numbers of errors.
+-- UCI packages (OpenWrt's configuration files): what commands make of a package, names of anonymous sections, validity,
+-- paths and what they find, printed packages, faults.
 pub mod Anonymous
 pub mod Path
 pub mod Split

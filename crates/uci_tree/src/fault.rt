@@ -7,7 +7,7 @@ use uci_text::TextError;
 /// What is wrong with a text that is no package.
 #[derive(Clone, Copy, Debug, PartialEq, Eq, Hash)]
 pub enum Reason {
-    /// A zero byte, or a backslash that is the last byte.
+    /// A zero byte, or a backslash that is the last byte and stands outside quotes and comments.
     BadWord,
     /// A quote that is not closed.
     OpenQuote,
@@ -30,7 +30,7 @@ pub struct Fault {
 }
 
 impl Reason {
-    /// The reason in words, as OpenWrt's tools tell it to their users.
+    /// The reason in words, as the program tells it to its users.
     pub fn text(self) -> &'static [u8]
         ensures { result.now ≡ spec.reason_text self }
     {
