@@ -10,4 +10,5 @@ pub mod ValidLemmas
 pub mod LawLemmas
 pub mod LineLemmas
 pub mod PrintLemmas
+pub mod PlacedLemmas
 pub mod Examples

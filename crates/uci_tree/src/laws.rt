@@ -38,3 +38,8 @@ pub fn one_path()
 pub fn printed_reads_back()
     ensures { (name : List ℕ) (tree : Package) (header : Bool) → IsValid tree → IsClean tree → Reads name (printed tree header false) (record { name = name; sections = placed_from 1 tree.sections; made = length tree.sections }) }
 {}
+
+/// What a printed text reads as is printed as the same text, so that writing a file that was read anew changes no byte.
+pub fn printed_again()
+    ensures { (tree other : Package) (header : Bool) → IsValid tree → IsClean tree → Reads tree.name (printed tree header false) other → printed other header false ≡ printed tree header false }
+{}
