@@ -8,7 +8,6 @@ mod draft_section;
 mod fault;
 mod laws;
 mod lookup;
-mod names;
 mod options;
 mod package;
 mod path;

@@ -5,12 +5,12 @@ ghost use Rattle.uci_tree.specs.declared.path.Path.{Path as AnyPath};
 ghost use Rattle.uci_tree.specs.declared.path.SectionRef.{SectionRef as AnyRef};
 ghost use Rattle.uci_tree.specs.Path.{SpellsIndex, SpellsRef, SpellsPath};
 
-use crate::names::{is_kind, is_name, is_package_name};
 use crate::split::{cut_first, cut_last, cut_option};
 use crate::{Path, SectionRef};
 use plane_io::{Memory, Text};
 use std::alloc::Global;
 use std::str;
+use uci_text::{ByteClass, is_name};
 
 /// Why a text is not read as a path.
 #[derive(Clone, Copy, Debug)]
@@ -51,7 +51,7 @@ fn path_of(alloc: Global, text: &[u8]) -> Result<Path, Stop>
     let Some((name, place)) = cut_first(text, b'.') else {
         return package_path(alloc, text);
     };
-    if !is_package_name(name) {
+    if !is_name(ByteClass::PackageName, name) {
         return Err(Stop::NoPath);
     }
     let (section, option) = cut_option(place);
@@ -67,7 +67,7 @@ fn package_path(alloc: Global, text: &[u8]) -> Result<Path, Stop>
     ensures found { IfOk result (λ path. SpellsPath text.now path) }
     ensures none { result ≡ Err Stop.NoPath → (path : AnyPath) → SpellsPath text.now path → ⊥ }
 {
-    if !is_package_name(text) {
+    if !is_name(ByteClass::PackageName, text) {
         return Err(Stop::NoPath);
     }
     Ok(Path {
@@ -93,7 +93,7 @@ fn read_ref(alloc: Global, text: &[u8]) -> Result<SectionRef, Stop>
     if let Some(behind) = text.strip_prefix(b"@") {
         return read_place(alloc, behind);
     }
-    if !is_name(text) {
+    if !is_name(ByteClass::Name, text) {
         return Err(Stop::NoPath);
     }
     Ok(SectionRef::Name(Text::from_bytes(alloc, text)?))
@@ -113,7 +113,7 @@ fn read_place(alloc: Global, text: &[u8]) -> Result<SectionRef, Stop>
     if !end.is_empty() {
         return Err(Stop::NoPath);
     }
-    if !is_kind(kind) {
+    if !is_name(ByteClass::Printable, kind) {
         return Err(Stop::NoPath);
     }
     let Some(index) = read_index(digits) else {

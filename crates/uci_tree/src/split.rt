@@ -2,7 +2,7 @@ ghost use Rattle.std.specs.Prelude.{MatchOption};
 ghost use Rattle.std.specs.Option.{option_copied};
 ghost use Rattle.uci_tree.specs.Split.{HasNone, CutsAtFirst, CutsAtLast, CutsOption};
 
-use crate::names::is_name;
+use uci_text::{ByteClass, is_name};
 
 /// What is in front of the first of these bytes, and what is behind it.
 pub fn cut_first(text: &[u8], byte: u8) -> Option<(&[u8], &[u8])>
@@ -35,7 +35,7 @@ pub fn cut_option(text: &[u8]) -> (&[u8], Option<&[u8]>)
     let Some((section, name)) = cut_last(text, b'.') else {
         return (text, None);
     };
-    if !is_name(name) {
+    if !is_name(ByteClass::Name, name) {
         return (text, None);
     }
     (section, Some(name))
