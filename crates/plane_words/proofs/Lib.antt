@@ -1,1 +1,5 @@
+pub mod MemberLemmas
+pub mod NumeralLemmas
 pub mod OrderLemmas
+pub mod OrderedLemmas
+pub mod PatternLemmas

@@ -1,5 +1,5 @@
 -- A set has one strictly sorted list.
-use Rattle.std.proofs.Common.{◌≡◌, List, Bool, true}
+use Rattle.std.proofs.Common.{◌≡◌, List, Bool}
 use Rattle.std.specs.declared.cmp.Ordering.{Ordering}
 use Rattle.std.specs.Cmp.{IsTotalOrder, both_ways}
 use Rattle.std.proofs.lemmas.Map.Lookups.{btree_set_from_contains}

@@ -1,19 +1,19 @@
--- What a sink holds and a source has left, where the device tells it: a real terminal tells nothing.
-use Rattle.std.specs.Prelude.{ℕ, ◌≡◌, List, ◌++◌, Option, Some, None}
+-- What a device took or gave, where it tells: the bytes of a sink, the calls of a log. A real terminal tells nothing.
+use Rattle.std.specs.Prelude.{◌≡◌, List, ◌++◌, Option, Some, None}
 
--- a sink that held the old bytes holds these behind them
-abbrev pub Grows : Option (List ℕ) → Option (List ℕ) → List ℕ → Type 0
-Grows None new bytes = new ≡ None
-Grows (Some old) new bytes = new ≡ Some (old ++ bytes)
+-- what held the old items holds these after them
+abbrev pub Grows : {X : Type 0} → Option (List X) → Option (List X) → List X → Type 0
+Grows None new items = new ≡ None
+Grows (Some old) new items = new ≡ Some (old ++ items)
 
--- a sink grew by a front of these bytes, perhaps by none or by all of them
-pub record GrowsByFront (old new : Option (List ℕ)) (bytes : List ℕ) : Type 0 where
-  pub front : List ℕ
-  pub back : List ℕ
-  pub parts : bytes ≡ front ++ back
+-- it grew by a front of these items, perhaps by none or by all of them
+pub record GrowsByFront {X : Type 0} (old new : Option (List X)) (items : List X) : Type 0 where
+  pub front : List X
+  pub back : List X
+  pub parts : items ≡ front ++ back
   pub grows : Grows old new front
 
--- a source gave these bytes, and has the others left
-abbrev pub Gives : Option (List ℕ) → Option (List ℕ) → List ℕ → Type 0
-Gives None new bytes = new ≡ None
-Gives (Some old) new bytes = (rest : List ℕ) × (old ≡ bytes ++ rest) × (new ≡ Some rest)
+-- a source gave these items, and has the others left
+abbrev pub Gives : {X : Type 0} → Option (List X) → Option (List X) → List X → Type 0
+Gives None new items = new ≡ None
+Gives {X} (Some old) new items = (rest : List X) × (old ≡ items ++ rest) × (new ≡ Some rest)

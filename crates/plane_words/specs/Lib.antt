@@ -3,3 +3,5 @@ pub mod Causes
 pub mod Distinct
 pub mod Growth
 pub mod InOrder
+pub mod Numeral
+pub mod Pattern
