@@ -7,6 +7,9 @@ use crate::Source;
 use std::alloc::{AllocError, Global};
 use thiserror::Error;
 
+/// The most bytes that a text of configuration has: a package file, or the input of a command that reads one.
+pub const INPUT_LIMIT: u64 = 1_048_576;
+
 /// How many bytes are asked for at once.
 const PIECE: usize = 8192;
 
@@ -42,10 +45,13 @@ pub fn read_to_end<S: Source>(
     input: &mut S,
     limit: u64,
 ) -> Result<Vec<u8>, InputError>
-    ensures read { IfOk result (λ all. IsAllThatWasLeft (S.left input.old) (S.left input.new) all.items) }
+    ensures read { IfOk result (λ all.
+        IsAllThatWasLeft (S.left input.old) (S.left input.new) all.items) }
     ensures within { IfOk result (λ all. length all.items ≤ limit) }
-    ensures too_long { (passed : ℕ) → result ≡ Err (InputError.TooLong passed) → (passed ≡ limit) × HadMoreThan limit (S.left input.old) }
-    ensures read_failed { result ≡ Err InputError.ReadFailed → Rose (S.faults input.old) (S.faults input.new) }
+    ensures too_long { (passed : ℕ) → result ≡ Err (InputError.TooLong passed) →
+        (passed ≡ limit) × HadMoreThan limit (S.left input.old) }
+    ensures read_failed { result ≡ Err InputError.ReadFailed →
+        Rose (S.faults input.old) (S.faults input.new) }
     ensures later { S.faults input.old ≤ S.faults input.new }
 {
     let mut all = Vec::new(alloc);

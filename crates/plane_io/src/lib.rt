@@ -12,12 +12,10 @@ mod mem_source;
 mod outcome;
 mod sink;
 mod source;
-#[cfg(test)]
-mod tests;
 mod text;
 
 pub use append::append_text;
-pub use input::{InputError, read_to_end};
+pub use input::{INPUT_LIMIT, InputError, read_to_end};
 pub use items::Items;
 pub use mem_sink::MemSink;
 pub use mem_source::MemSource;

@@ -55,7 +55,8 @@ impl MemSink {
         ensures room { IfOk result (λ sink. size ≤ sink.room) }
         ensures empty { IfOk result (λ sink. sink.bytes ≡ []) }
         ensures list { IfOk result (λ sink. sink.failing ≡ []) }
-        ensures counts { IfOk result (λ sink. (sink.calls ≡ 0) × (sink.faults ≡ 0) × (sink.refused ≡ 0)) }
+        ensures counts { IfOk result (λ sink.
+            (sink.calls ≡ 0) × (sink.faults ≡ 0) × (sink.refused ≡ 0)) }
     {
         Ok(MemSink {
             bytes: Vec::with_capacity(alloc, size)?,
@@ -94,14 +95,17 @@ impl Sink for MemSink {
         // A call fails exactly where its number is in the list or a growth was refused, and writes nothing then.
         ensures number { self.new.calls ≡ next_count self.old.calls }
         ensures list { self.new.failing ≡ self.old.failing }
-        ensures fails { OnErr result (Contains self.old.failing self.new.calls ⊎ Rose self.old.refused self.new.refused) }
-        ensures passes { OnOk result ((¬ (Contains self.old.failing self.new.calls)) × (self.new.refused ≡ self.old.refused)) }
+        ensures fails { OnErr result (Contains self.old.failing self.new.calls
+            ⊎ Rose self.old.refused self.new.refused) }
+        ensures passes { OnOk result ((¬ (Contains self.old.failing self.new.calls))
+            × (self.new.refused ≡ self.old.refused)) }
         ensures nothing { OnErr result (self.new.bytes ≡ self.old.bytes) }
         ensures faultless { OnOk result (self.new.faults ≡ self.old.faults) }
         ensures later { self.old.refused ≤ self.new.refused }
 
         // Within its room no growth is refused, and the room stays.
-        ensures within { length self.old.bytes + length bytes.now ≤ self.old.room → self.new.refused ≡ self.old.refused }
+        ensures within { length self.old.bytes + length bytes.now ≤ self.old.room →
+            self.new.refused ≡ self.old.refused }
         ensures room { self.old.room ≤ self.new.room }
     {
         self.calls = self.calls.saturating_add(1);

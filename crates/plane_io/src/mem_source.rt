@@ -36,7 +36,8 @@ impl Model for MemSource {
 impl MemSource {
     /// A source that has these bytes, and whose calls with these numbers fail.
     pub fn new(bytes: Vec<u8>, failing: Vec<u64>) -> MemSource
-        ensures { result ≡ record { left = bytes.items; failing = failing.items; calls = 0; faults = 0 } }
+        ensures { result
+            ≡ record { left = bytes.items; failing = failing.items; calls = 0; faults = 0 } }
     {
         MemSource {
             bytes,
@@ -56,12 +57,14 @@ impl Source for MemSource {
     fn read(&mut self, into: &mut [u8]) -> Result<usize, Failed>
         requires { 0 < length into.old }
         ensures fits { IfOk result (λ count. count ≤ length into.new) }
-        ensures gives { IfOk result (λ count. Gives (Some self.old.left) (Some self.new.left) (take count into.new)) }
+        ensures gives { IfOk result (λ count.
+            Gives (Some self.old.left) (Some self.new.left) (take count into.new)) }
         ensures end { result ≡ Ok 0 → IfSome (Some self.old.left) (λ bytes. bytes ≡ []) }
         ensures cause { HasCause self.old.faults self.new.faults result }
 
         // As much is read as fits, and a call fails exactly where its number is in the list.
-        ensures whole { IfOk result (λ count. count ≡ min (length into.old) (length self.old.left)) }
+        ensures whole { IfOk result (λ count.
+            count ≡ min (length into.old) (length self.old.left)) }
         ensures number { self.new.calls ≡ next_count self.old.calls }
         ensures fails { IsErr result ↔ Contains self.old.failing self.new.calls }
         ensures list { self.new.failing ≡ self.old.failing }

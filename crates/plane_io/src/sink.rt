@@ -4,7 +4,7 @@ ghost use Rattle.plane_words.specs.Growth.{Grows, GrowsByFront};
 
 use crate::Failed;
 
-/// A place that bytes are written to, one behind the other.
+/// A place that bytes are written to, one after the other.
 pub trait Sink {
     /// The bytes that were written so far, where the sink tells them.
     ghost held: { Self → Option (List ℕ) };

@@ -16,7 +16,8 @@ pub trait Source {
     fn read(&mut self, into: &mut [u8]) -> Result<usize, Failed>
         requires { 0 < length into.old }
         ensures fits { IfOk result (λ count. count ≤ length into.new) }
-        ensures gives { IfOk result (λ count. Gives (left self.old) (left self.new) (take count into.new)) }
+        ensures gives { IfOk result (λ count.
+            Gives (left self.old) (left self.new) (take count into.new)) }
         ensures end { result ≡ Ok 0 → IfSome (left self.old) (λ bytes. bytes ≡ []) }
         ensures cause { HasCause (faults self.old) (faults self.new) result };
 }

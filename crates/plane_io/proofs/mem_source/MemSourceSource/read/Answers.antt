@@ -1,4 +1,4 @@
-use Rattle.std.proofs.Common.{arith, rules, ◌≡◌, ◌≤◌, length, take, drop, ◌+◌, sym, ap, ◌∙◌, refl}
+use Rattle.std.proofs.Common.{arith, ◌≡◌, ◌≤◌, length, take, drop, ◌+◌, sym, ap, ◌∙◌, refl}
 use Rattle.plane_io.proofs.FrontLemmas.{front_and_rest}
 use Rattle.plane_io.proofs.mem_source.MemSourceSource.read.Goals as goal
 

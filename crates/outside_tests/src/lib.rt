@@ -1,0 +1,7 @@
+//! Worked examples of the outside: the devices in memory, texts and lists.
+#![tactic(auto)]
+
+#[cfg(test)]
+mod streams;
+#[cfg(test)]
+mod texts;
