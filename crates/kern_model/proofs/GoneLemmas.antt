@@ -53,7 +53,8 @@ over_more s t within a b h = test_of_is_over t a b (more_over s t within a b (is
 pub stands_more : (s t : Objects) → ((x : Object) → Has s x → Has t x) → (base : List ℕ) (o : Object) → stands_on s base o ≡ true → stands_on t base o ≡ true
 stands_more s t within base o h = let found = from_any (is_over s base) (places_of o) h in of_any (is_over t base) (places_of o) found.passing found.member (over_more s t within base found.passing found.passes)
 
--- without one VLAN over a base, and without what then stands on that VLAN, the same stands on the base
+-- without one VLAN over a base, and without what then stands on that VLAN, the same stands on the
+-- base
 module _ (s t u : Objects) (upper base : List ℕ) (id : ℕ) (mac : Option Mac) (held : Has s (object.Link upper (Vlan base id mac)))
     (within : (x : Object) → Has t x → Has s x) (but_one : (x : Object) → Has s x → (x ≡ object.Link upper (Vlan base id mac) → ⊥) → Has t x)
     (within_again : (x : Object) → Has u x → Has t x) (but_standing : (x : Object) → Has t x → (stands_on t upper x ≡ true → ⊥) → Has u x) where

@@ -1,4 +1,5 @@
--- Between two allowed sets each call is admitted in its turn, and all of them lead from the one to the other.
+-- Between two allowed sets each call is admitted in its turn, and all of them lead from the one to
+-- the other.
 use Rattle.std.proofs.Common.{arith, ℕ, ◌≡◌, ◌≤◌, ◌-◌, ◌⊎◌, inl, inr, List, [], ◌∷◌, ◌++◌, Option, true, false, Bool, Contains, refl, ap, sym, subst}
 use Rattle.std.specs.Prelude.{not, nat_eq, bytes_eq, ⊤}
 use Rattle.std.specs.declared.cmp.Ordering.TheVariants.{Less}
@@ -78,15 +79,15 @@ module _ (devices : Devices) (held wanted : Objects) where
   pub taken_call : (o : Object) (mtu : ℕ) (mac : Mac) → is_call devices held wanted (Take o mtu mac) ≡ true → is_taken held wanted o ≡ true
   taken_call o mtu mac h = (both (is_taken held wanted o) _ h).0
 
-  carries : (o : Object) (mtu : ℕ) (mac : Mac) → is_call devices held wanted (Take o mtu mac) ≡ true → CarriesOwn devices o mtu mac
+  pub carries : (o : Object) (mtu : ℕ) (mac : Mac) → is_call devices held wanted (Take o mtu mac) ≡ true → CarriesOwn devices o mtu mac
   carries o mtu mac h =
       let own = both (nat_eq mtu (own_mtu devices (name_of o))) _ (both (is_taken held wanted o) _ h).1 in
       record { mtu_own = (Decides-eqb mtu (own_mtu devices (name_of o))).0 own.0; mac_own = let same = bytes_same mac.0 (own_mac devices (name_of o)).0 own.1 in ap (λ (xs : List ℕ). record { 0 = xs }) same }
 
-  is_own : (o : Object) (mtu : ℕ) (mac : Mac) → CarriesOwn devices o mtu mac → own_take devices o ≡ Take o mtu mac
+  pub is_own : (o : Object) (mtu : ℕ) (mac : Mac) → CarriesOwn devices o mtu mac → own_take devices o ≡ Take o mtu mac
   is_own o mtu mac own = let m = own.mtu_own in let a = own.mac_own in cc (m, a)
 
-  call_of_taken : (o : Object) → is_taken held wanted o ≡ true → is_call devices held wanted (own_take devices o) ≡ true
+  pub call_of_taken : (o : Object) → is_taken held wanted o ≡ true → is_call devices held wanted (own_take devices o) ≡ true
   call_of_taken o h = of_both (is_taken held wanted o) _ h (of_both (nat_eq (own_mtu devices (name_of o)) (own_mtu devices (name_of o))) _ ((Decides-eqb (own_mtu devices (name_of o)) (own_mtu devices (name_of o))).1 refl) (same_bytes (own_mac devices (name_of o)).0 (own_mac devices (name_of o)).0 refl))
 
 -- the first of the puts that are left
@@ -239,7 +240,7 @@ abbrev pub IsPut : Call → Type 0
 IsPut (Put o) = ⊤
 IsPut (Take o mtu mac) = ⊥
 
-first_before : (held wanted : Objects) (c : Call) (rest : List Call) → IsStrictlySortedBy (call_cmp held wanted) (c ∷ rest) → AllByRecursion (λ x. call_cmp held wanted c x ≡ Less) rest
+pub first_before : (held wanted : Objects) (c : Call) (rest : List Call) → IsStrictlySortedBy (call_cmp held wanted) (c ∷ rest) → AllByRecursion (λ x. call_cmp held wanted c x ≡ Less) rest
 unfolding IsStrictlySortedBy
 first_before held wanted c rest s = s.0
 
@@ -299,9 +300,9 @@ module _ (devices : Devices) (held wanted : Objects) (from : AreAllowed devices 
 -- the first of the takes that are left
 module _ (devices : Devices) (held wanted : Objects) (from : AreAllowed devices held) (to : AreAllowed devices wanted) (now : Objects) (rest : List Call) where
   -- what is known at a take
-  record AtTake (o : Object) : Type 0 where
-    on : TakesAreLeft devices held wanted now (own_take devices o ∷ rest)
-    first : AllByRecursion (λ x. call_cmp held wanted (own_take devices o) x ≡ Less) rest
+  pub record AtTake (o : Object) : Type 0 where
+    pub on : TakesAreLeft devices held wanted now (own_take devices o ∷ rest)
+    pub first : AllByRecursion (λ x. call_cmp held wanted (own_take devices o) x ≡ Less) rest
 
   is_first_taken : (o : Object) → AtTake o → is_taken held wanted o ≡ true
   is_first_taken o at = taken_call devices held wanted o _ _ (at.on.sound (own_take devices o) (here (own_take devices o) rest))
@@ -351,7 +352,7 @@ module _ (devices : Devices) (held wanted : Objects) (from : AreAllowed devices 
   take_admitted o at = tt
 
   -- after the take the others are left
-  after_take : (o : Object) → AtTake o → TakesAreLeft devices held wanted (set.remove now o) rest
+  pub after_take : (o : Object) → AtTake o → TakesAreLeft devices held wanted (set.remove now o) rest
   unfolding IsStrictlySortedBy
   after_take o at = record {
     sorted = at.on.sorted.1;
@@ -369,7 +370,7 @@ module _ (devices : Devices) (held wanted : Objects) (from : AreAllowed devices 
   }
 
 -- takes, and then puts
-all_puts : (devices : Devices) (held wanted : Objects) (o : Object) (rest : List Call) → AllByRecursion (λ x. call_cmp held wanted (Put o) x ≡ Less) rest → AllByRecursion IsPut rest
+pub all_puts : (devices : Devices) (held wanted : Objects) (o : Object) (rest : List Call) → AllByRecursion (λ x. call_cmp held wanted (Put o) x ≡ Less) rest → AllByRecursion IsPut rest
 all_puts devices held wanted o rest first = all_members IsPut rest each
   where
     put_or_before : (c : Call) → rank (Put o) ≤ rank c → IsPut c

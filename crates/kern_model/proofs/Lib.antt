@@ -1,4 +1,5 @@
 pub mod NameLemmas
+pub mod VlanNameLemmas
 pub mod OrderLemmas
 pub mod WordLemmas
 pub mod PairLemmas

@@ -147,10 +147,10 @@ less_or_tied Less s h = inl refl
 less_or_tied Equal s h = inr (refl, h)
 less_or_tied Greater s h = cc h
 
-below_of_less : (x y : ℕ) → nat_cmp x y ≡ Less → x < y
+pub below_of_less : (x y : ℕ) → nat_cmp x y ≡ Less → x < y
 below_of_less x y h = subst (λ r. MatchOrdering r (x < y) (x ≡ y) (y < x)) h (ranks x y)
 
-tied_of_equal : (x y : ℕ) → nat_cmp x y ≡ Equal → x ≡ y
+pub tied_of_equal : (x y : ℕ) → nat_cmp x y ≡ Equal → x ≡ y
 tied_of_equal x y h = subst (λ r. MatchOrdering r (x < y) (x ≡ y) (y < x)) h (ranks x y)
 
 pub rank_rises : (held wanted : Objects) (a b : Call) → call_cmp held wanted a b ≡ Less → rank a ≤ rank b

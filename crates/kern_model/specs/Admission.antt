@@ -9,6 +9,7 @@ use Rattle.kern_model.specs.declared.object.Object.{Object}
 use Rattle.kern_model.specs.declared.object.Object.TheVariants as object
 use Rattle.kern_model.specs.declared.object.Call.{Call}
 use Rattle.kern_model.specs.declared.object.Call.TheVariants.{Put, Take}
+use Rattle.kern_model.specs.declared.vlan_name.TheConstants.{LEAST_VLAN_ID, MOST_VLAN_ID}
 use Rattle.kern_model.specs.ObjectOrder.{Objects, Has}
 use Rattle.kern_model.specs.Standing.{places_of}
 use Rattle.kern_model.specs.Kernel.{Devices, is_present, Exists, own_mtu, own_mac, name_of}
@@ -19,21 +20,27 @@ IsBridge objects name = (mac : Option Mac) × Has objects (object.Link name (Bri
 
 -- where a VLAN has that name, the name under it is up
 abbrev pub HasLowerUp : Objects → List ℕ → Type 0
-HasLowerUp objects name = (lower : List ℕ) (id : ℕ) (mac : Option Mac) → Has objects (object.Link name (Vlan lower id mac)) → Has objects (object.Up lower)
+HasLowerUp objects name =
+    (lower : List ℕ) (id : ℕ) (mac : Option Mac)
+    → Has objects (object.Link name (Vlan lower id mac)) → Has objects (object.Up lower)
 
--- a VLAN may be made: the name under it exists and has no VLAN of this id, which is 1 to 4094 (IEEE 802.1Q)
-pub record VlanMayBeMade (devices : Devices) (objects : Objects) (lower : List ℕ) (id : ℕ) : Type 0 where
+-- a VLAN may be made: the name under it exists and has no VLAN of this id, which is 1 to 4094 (IEEE
+-- 802.1Q)
+pub record VlanMayBeMade
+    (devices : Devices) (objects : Objects) (lower : List ℕ) (id : ℕ) : Type 0 where
   pub stands : Exists devices objects lower
-  pub least : 1 ≤ id
-  pub most : id ≤ 4094
-  pub free : (name : List ℕ) (mac : Option Mac) → Has objects (object.Link name (Vlan lower id mac)) → ⊥
+  pub least : LEAST_VLAN_ID ≤ id
+  pub most : id ≤ MOST_VLAN_ID
+  pub free : (name : List ℕ) (mac : Option Mac)
+      → Has objects (object.Link name (Vlan lower id mac)) → ⊥
 
 abbrev pub MayBeMade : Devices → Objects → LinkKind → Type 0
 MayBeMade devices objects (Bridge mac) = ⊤
 MayBeMade devices objects (Vlan lower id mac) = VlanMayBeMade devices objects lower id
 
 -- a port may get a master: it exists, is no bridge and has no master, and the master is a bridge
-pub record MasterMayBeSet (devices : Devices) (objects : Objects) (port bridge : List ℕ) : Type 0 where
+pub record MasterMayBeSet
+    (devices : Devices) (objects : Objects) (port bridge : List ℕ) : Type 0 where
   pub stands : Exists devices objects port
   pub plain : IsBridge objects port → ⊥
   pub made : IsBridge objects bridge
@@ -41,7 +48,8 @@ pub record MasterMayBeSet (devices : Devices) (objects : Objects) (port bridge :
 
 -- which objects may be put where they are not held
 abbrev pub AdmitsPut : Devices → Objects → Object → Type 0
-AdmitsPut devices objects (object.Link name kind) = (Exists devices objects name → ⊥) × MayBeMade devices objects kind
+AdmitsPut devices objects (object.Link name kind) =
+    (Exists devices objects name → ⊥) × MayBeMade devices objects kind
 AdmitsPut devices objects (object.Mtu name mtu) = Exists devices objects name
 AdmitsPut devices objects (object.Mac name mac) = is_present devices name ≡ true
 AdmitsPut devices objects (object.Master port bridge) = MasterMayBeSet devices objects port bridge
@@ -53,11 +61,14 @@ AdmitsPut devices objects (object.Route r) = Has objects (object.Up r.dev)
 pub record MayGoDown (objects : Objects) (name : List ℕ) : Type 0 where
   pub addresses : (cidr : Addr × ℕ) → Has objects (object.Address name cidr) → ⊥
   pub routes : (r : RouteObject) → Has objects (object.Route r) → r.dev ≡ name → ⊥
-  pub vlans : (vlan : List ℕ) (id : ℕ) (mac : Option Mac) → Has objects (object.Link vlan (Vlan name id mac)) → Has objects (object.Up vlan) → ⊥
+  pub vlans : (vlan : List ℕ) (id : ℕ) (mac : Option Mac)
+      → Has objects (object.Link vlan (Vlan name id mac)) → Has objects (object.Up vlan) → ⊥
 
--- Which held objects may be taken. A link may where nothing is at its name; then nothing stands on it.
+-- Which held objects may be taken. A link may where nothing is at its name; then nothing stands on
+-- it.
 abbrev pub AdmitsTake : Objects → Object → Type 0
-AdmitsTake objects (object.Link name kind) = (o : Object) → Has objects o → Contains (places_of o) name → ⊥
+AdmitsTake objects (object.Link name kind) =
+    (o : Object) → Has objects o → Contains (places_of o) name → ⊥
 AdmitsTake objects (object.Up name) = MayGoDown objects name
 AdmitsTake objects _ = ⊤
 
@@ -69,4 +80,5 @@ pub record CarriesOwn (devices : Devices) (o : Object) (mtu : ℕ) (mac : Mac) :
 -- which calls the kernel admits
 abbrev pub Admits : Devices → Objects → Call → Type 0
 Admits devices objects (Put o) = (Has objects o → ⊥) × AdmitsPut devices objects o
-Admits devices objects (Take o mtu mac) = Has objects o × AdmitsTake objects o × CarriesOwn devices o mtu mac
+Admits devices objects (Take o mtu mac) =
+    Has objects o × AdmitsTake objects o × CarriesOwn devices o mtu mac

@@ -1,5 +1,5 @@
--- What a kernel holds, and what calls and events do. A kernel is a finite set of objects beside a finite map of its
--- present devices.
+-- What a kernel holds, and what calls and events do. A kernel is a finite set of objects beside a
+-- finite map of its present devices.
 use Rattle.std.specs.Prelude.{ℕ, ◌≡◌, ◌⊎◌, List, ◌∷◌, [], ◌++◌, Bool, true, false, not, bytes_eq, Option, Some, None, replicate}
 use Rattle.std.specs.Option.{option_map_or}
 use Rattle.std.specs.Ordering.{nat_cmp}
@@ -31,14 +31,17 @@ is_present devices name = map.contains_key devices name
 
 -- a name exists where it is that of a present device or of a link that was made
 abbrev pub Exists : Devices → Objects → List ℕ → Type 0
-Exists devices objects name = (is_present devices name ≡ true) ⊎ ((kind : LinkKind) × Has objects (object.Link name kind))
+Exists devices objects name =
+    (is_present devices name ≡ true) ⊎ ((kind : LinkKind) × Has objects (object.Link name kind))
 
--- a name's own MTU and hardware address: those that a present device came with, else 1500 bytes and zeros
+-- a name's own MTU and hardware address: those that a present device came with, else 1500 bytes and
+-- zeros
 abbrev pub own_mtu : Devices → List ℕ → ℕ
 own_mtu devices name = option_map_or (λ device. device.mtu) (map.get devices name) 1500
 
 abbrev pub own_mac : Devices → List ℕ → Mac
-own_mac devices name = option_map_or (λ device. device.mac) (map.get devices name) (record { 0 = replicate 6 0 })
+own_mac devices name =
+    option_map_or (λ device. device.mac) (map.get devices name) (record { 0 = replicate 6 0 })
 
 -- the name whose own values come back when an object is taken; of a master, its port
 abbrev pub name_of : Object → List ℕ
@@ -66,8 +69,8 @@ abbrev pub after_call : Objects → Call → Objects
 after_call objects (Put o) = set.insert (set.retain objects (λ old. not (replaces o old))) o
 after_call objects (Take o mtu mac) = set.remove objects o
 
--- which events may happen: a device comes under a name that does not exist; one that leaves or tells of its carrier is
--- present
+-- which events may happen: a device comes under a name that does not exist; one that leaves or
+-- tells of its carrier is present
 abbrev pub MayHappen : Devices → Objects → DevEvent → Type 0
 MayHappen devices objects (event.Add name carrier mtu mac) = Exists devices objects name → ⊥
 MayHappen devices objects (event.Remove name) = is_present devices name ≡ true
@@ -79,9 +82,12 @@ with_carrier on device = record { carrier = on; mtu = device.mtu; mac = device.m
 
 -- the present devices after an event
 abbrev pub after_event : Devices → DevEvent → Devices
-after_event devices (event.Add name carrier mtu mac) = map.insert devices name (record { carrier = carrier; mtu = mtu; mac = mac })
+after_event devices (event.Add name carrier mtu mac) =
+    map.insert devices name (record { carrier = carrier; mtu = mtu; mac = mac })
 after_event devices (event.Remove name) = map.remove devices name
-after_event devices (event.Carrier name on) = option_map_or (λ device. map.insert devices name (with_carrier on device)) (map.get devices name) devices
+after_event devices (event.Carrier name on) =
+    option_map_or (λ device. map.insert devices name (with_carrier on device))
+    (map.get devices name) devices
 
 -- the objects after an event
 abbrev pub objects_after_event : Objects → DevEvent → Objects

@@ -1,6 +1,8 @@
--- The kernel as a model: what it holds, what may be asked of it, what it does then, and how that is printed.
+-- The kernel as a model: what it holds, what may be asked of it, what it does then, and how that is
+-- printed.
 pub mod Name
 pub mod NameInside
+pub mod VlanName
 pub mod ObjectOrder
 pub mod Standing
 pub mod Kernel

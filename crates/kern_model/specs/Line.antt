@@ -1,5 +1,6 @@
--- The lines of calls, as `ip -batch` of iproute2 takes them (ip-link(8), ip-address(8), ip-route(8)). A name with `#`,
--- `\` or a quote in it is printed as it is, though `ip -batch` reads these bytes in a way of its own.
+-- The lines of calls, as `ip -batch` of iproute2 takes them (ip-link(8), ip-address(8),
+-- ip-route(8)). A name with `#`, `\` or a quote in it is printed as it is, though `ip -batch` reads
+-- these bytes in a way of its own.
 use Rattle.std.specs.Prelude.{◌≡◌, ◌<◌, ◌^◌, ◌/◌, ◌%◌, ◌==◌, if◌then◌else◌, List, [], ◌∷◌, ◌++◌, codes, decimal, ℕ, true, ⊤, Option, Some, None}
 use Rattle.std.specs.List.{join_by}
 use Rattle.std.specs.Char.{digit_char}
@@ -27,8 +28,8 @@ pairs_text bytes = join_by hex_pair (codes ":") bytes
 abbrev pub mac_text : Mac → List ℕ
 mac_text mac = pairs_text mac.0
 
--- parts of lines that may be absent: the hardware address of a link's own, a gateway, and a number that is not the usual
--- one, behind its word
+-- parts of lines that may be absent: the hardware address of a link's own, a gateway, and a number
+-- that is not the usual one, after its word
 abbrev pub own_address : Option Mac → List ℕ
 own_address None = []
 own_address (Some mac) = codes " address " ++ mac_text mac
@@ -40,14 +41,19 @@ gateway (Some via) = codes " via " ++ addr_text via
 abbrev pub unusual : List ℕ → ℕ → ℕ → List ℕ
 unusual word usual number = if number == usual then [] else word ++ decimal number
 
--- a route behind the words that add or delete it; table 254 is the main one
+-- a route after the words that add or delete it; table 254 is the main one
 abbrev pub route_line : List ℕ → RouteObject → List ℕ
-route_line words r = words ++ cidr_text r.target ++ gateway r.via ++ codes " dev " ++ r.dev ++ unusual (codes " metric ") 0 r.metric ++ unusual (codes " table ") 254 r.table
+route_line words r =
+    words ++ cidr_text r.target ++ gateway r.via ++ codes " dev " ++ r.dev
+    ++ unusual (codes " metric ") 0 r.metric ++ unusual (codes " table ") 254 r.table
 
 -- the line that puts an object
 abbrev pub put_line : Object → List ℕ
-put_line (object.Link name (Bridge mac)) = codes "link add name " ++ name ++ own_address mac ++ codes " type bridge"
-put_line (object.Link name (Vlan lower id mac)) = codes "link add link " ++ lower ++ codes " name " ++ name ++ own_address mac ++ codes " type vlan id " ++ decimal id
+put_line (object.Link name (Bridge mac)) =
+    codes "link add name " ++ name ++ own_address mac ++ codes " type bridge"
+put_line (object.Link name (Vlan lower id mac)) =
+    codes "link add link " ++ lower ++ codes " name " ++ name ++ own_address mac
+    ++ codes " type vlan id " ++ decimal id
 put_line (object.Mtu name mtu) = codes "link set dev " ++ name ++ codes " mtu " ++ decimal mtu
 put_line (object.Mac name mac) = codes "link set dev " ++ name ++ codes " address " ++ mac_text mac
 put_line (object.Master port bridge) = codes "link set dev " ++ port ++ codes " master " ++ bridge
@@ -55,14 +61,19 @@ put_line (object.Up name) = codes "link set dev " ++ name ++ codes " up"
 put_line (object.Address dev cidr) = codes "addr add " ++ cidr_text cidr ++ codes " dev " ++ dev
 put_line (object.Route r) = route_line (codes "route add ") r
 
--- the line that takes an object, after which a device has this MTU and this hardware address of its own again
+-- the line that takes an object, after which a device has this MTU and this hardware address of its
+-- own again
 abbrev pub take_line : Object → ℕ → Mac → List ℕ
 take_line (object.Link name kind) own_mtu own_mac = codes "link del dev " ++ name
-take_line (object.Mtu name mtu) own_mtu own_mac = codes "link set dev " ++ name ++ codes " mtu " ++ decimal own_mtu
-take_line (object.Mac name mac) own_mtu own_mac = codes "link set dev " ++ name ++ codes " address " ++ mac_text own_mac
-take_line (object.Master port bridge) own_mtu own_mac = codes "link set dev " ++ port ++ codes " nomaster"
+take_line (object.Mtu name mtu) own_mtu own_mac =
+    codes "link set dev " ++ name ++ codes " mtu " ++ decimal own_mtu
+take_line (object.Mac name mac) own_mtu own_mac =
+    codes "link set dev " ++ name ++ codes " address " ++ mac_text own_mac
+take_line (object.Master port bridge) own_mtu own_mac =
+    codes "link set dev " ++ port ++ codes " nomaster"
 take_line (object.Up name) own_mtu own_mac = codes "link set dev " ++ name ++ codes " down"
-take_line (object.Address dev cidr) own_mtu own_mac = codes "addr del " ++ cidr_text cidr ++ codes " dev " ++ dev
+take_line (object.Address dev cidr) own_mtu own_mac =
+    codes "addr del " ++ cidr_text cidr ++ codes " dev " ++ dev
 take_line (object.Route r) own_mtu own_mac = route_line (codes "route del ") r
 
 -- the line of a call, without its newline
@@ -92,7 +103,8 @@ pub record IsRoute (r : RouteObject) : Type 0 where
 -- the names, addresses and numbers of an object are of their form, as those of the program are
 abbrev pub IsPrintable : Object → Type 0
 IsPrintable (object.Link name (Bridge mac)) = (is_name name ≡ true) × IsOwnAddress mac
-IsPrintable (object.Link name (Vlan lower id mac)) = (is_name name ≡ true) × (is_name lower ≡ true) × (id < 2 ^ 16) × IsOwnAddress mac
+IsPrintable (object.Link name (Vlan lower id mac)) =
+    (is_name name ≡ true) × (is_name lower ≡ true) × (id < 2 ^ 16) × IsOwnAddress mac
 IsPrintable (object.Mtu name mtu) = (is_name name ≡ true) × (mtu < 2 ^ 32)
 IsPrintable (object.Mac name mac) = (is_name name ≡ true) × IsMac mac
 IsPrintable (object.Master port bridge) = (is_name port ≡ true) × (is_name bridge ≡ true)
@@ -100,8 +112,8 @@ IsPrintable (object.Up name) = is_name name ≡ true
 IsPrintable (object.Address dev cidr) = (is_name dev ≡ true) × IsCidr cidr
 IsPrintable (object.Route r) = IsRoute r
 
--- of one kind, of which the line that takes one tells its name alone: a link, an MTU, a hardware address or a master; and
--- of one name, which is that of the port for a master
+-- of one kind, of which the line that takes one tells its name alone: a link, an MTU, a hardware
+-- address or a master; and of one name, which is that of the port for a master
 abbrev pub HaveOneName : Object → Object → Type 0
 HaveOneName (object.Link name kind) (object.Link other other_kind) = name ≡ other
 HaveOneName (object.Mtu name mtu) (object.Mtu other other_mtu) = name ≡ other

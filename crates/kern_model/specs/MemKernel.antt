@@ -16,9 +16,9 @@ pub record Room : Type 0 where
   pub devices : ℕ
   pub calls : ℕ
 
--- The objects and the present devices, the newest behind, and the done calls where their list is kept. Calls of
--- `apply` and of `environment` are numbered each by itself, and those whose numbers are listed fail. Then the faults,
--- how many growths were refused, and how much there is room for.
+-- The objects and the present devices, the newest last, and the done calls where their list is
+-- kept. Calls of `apply` and of `environment` are numbered each by itself, and those whose numbers
+-- are listed fail. Then the faults, how many growths were refused, and how much there is room for.
 pub record KernelInMemory : Type 0 where
   pub objects : List Object
   pub devices : List (List ℕ × Device)
@@ -39,7 +39,8 @@ objects_of kernel = set_of kernel.objects
 abbrev pub devices_of : KernelInMemory → Devices
 devices_of kernel = map_of kernel.devices
 
--- the list of objects after a call: what is put stands behind the others, without what it takes the place of
+-- the list of objects after a call: what is put stands after the others, without what it takes the
+-- place of
 abbrev pub objects_after : List Object → Call → List Object
 objects_after objects (Put o) = filter (λ old. not (replaces o old)) objects ++ o ∷ []
 objects_after objects (Take o mtu mac) = filter (λ old. not (eq_by_cmp object_cmp o old)) objects

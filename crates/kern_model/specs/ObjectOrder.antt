@@ -1,4 +1,5 @@
--- An order of objects and of calls that tells all of them apart, so that sets of them can be written as values.
+-- An order of objects and of calls that tells all of them apart, so that sets of them can be
+-- written as values.
 use Rattle.std.specs.Prelude.{ℕ, ◌≡◌, List, [], ◌∷◌, ◌++◌, length, Option, Some, None, true}
 use Rattle.std.specs.Ordering.{nat_cmp}
 use Rattle.std.specs.declared.cmp.Ordering.{Ordering}
@@ -14,7 +15,7 @@ use Rattle.kern_model.specs.declared.object.Object.TheVariants as object
 use Rattle.kern_model.specs.declared.object.Call.{Call}
 use Rattle.kern_model.specs.declared.object.Call.TheVariants.{Put, Take}
 
--- a list behind its length, and what follows it
+-- a list after its length, and what follows it
 abbrev pub sized : List ℕ → List ℕ → List ℕ
 sized xs rest = length xs ∷ (xs ++ rest)
 
@@ -46,7 +47,8 @@ object_key (object.Mac name mac) = 2 ∷ sized mac.0 (sized name [])
 object_key (object.Master port bridge) = 3 ∷ sized port (sized bridge [])
 object_key (object.Up name) = 4 ∷ sized name []
 object_key (object.Address dev cidr) = 5 ∷ cidr_key cidr (sized dev [])
-object_key (object.Route r) = 6 ∷ r.metric ∷ r.table ∷ cidr_key r.target (via_key r.via (sized r.dev []))
+object_key (object.Route r) =
+    6 ∷ r.metric ∷ r.table ∷ cidr_key r.target (via_key r.via (sized r.dev []))
 
 -- numbers that tell a call from every other
 abbrev pub call_key : Call → List ℕ

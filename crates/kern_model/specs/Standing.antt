@@ -8,7 +8,8 @@ use Rattle.kern_model.specs.declared.object.Object.{Object}
 use Rattle.kern_model.specs.declared.object.Object.TheVariants as object
 use Rattle.kern_model.specs.ObjectOrder.{Objects, Has}
 
--- the names that an object is at: a VLAN at the name under it, a master at its port and at its bridge
+-- the names that an object is at: a VLAN at the name under it, a master at its port and at its
+-- bridge
 abbrev pub places_of : Object → List (List ℕ)
 places_of (object.Link name (Bridge mac)) = []
 places_of (object.Link name (Vlan lower id mac)) = lower ∷ []
@@ -32,21 +33,24 @@ step_of _ = None
 abbrev pub steps_of : Objects → List Step
 steps_of objects = filter_map step_of (set.items objects)
 
--- Steps lead up from a base to a name: there are none to go, or all but the first lead there, or they lead to the first,
--- and on from behind it.
+-- Steps lead up from a base to a name: there are none to go, or all but the first lead there, or
+-- they lead to the first, and on from there.
 abbrev pub lead_up : List Step → List ℕ → List ℕ → Bool
 lead_up [] base name = bytes_eq base name
-lead_up (step ∷ steps) base name = lead_up steps base name || (lead_up steps base step.lower && lead_up steps step.name name)
+lead_up (step ∷ steps) base name =
+    lead_up steps base name || (lead_up steps base step.lower && lead_up steps step.name name)
 
 -- a name is the base, or that of a VLAN over it, however far up
 abbrev pub is_over : Objects → List ℕ → List ℕ → Bool
 is_over objects base name = lead_up (steps_of objects) base name
 
--- That relation by its cases, of which `is_over` is the test: a name is over itself, and a VLAN is over what its lower name
--- is over.
+-- That relation by its cases, of which `is_over` is the test: a name is over itself, and a VLAN is
+-- over what its lower name is over.
 pub data IsOver (objects : Objects) (base : List ℕ) : List ℕ → Type 0 where
   itself : IsOver objects base base
-  above : (name lower : List ℕ) (id : ℕ) (mac : Option Mac) → Has objects (object.Link name (Vlan lower id mac)) → IsOver objects base lower → IsOver objects base name
+  above : (name lower : List ℕ) (id : ℕ) (mac : Option Mac)
+      → Has objects (object.Link name (Vlan lower id mac)) → IsOver objects base lower
+      → IsOver objects base name
 
 -- an object stands on a name
 abbrev pub stands_on : Objects → List ℕ → Object → Bool
@@ -61,7 +65,7 @@ abbrev pub is_vlan_under : Objects → List ℕ → Object → Bool
 is_vlan_under objects name (object.Link vlan (Vlan lower id mac)) = is_over objects vlan name
 is_vlan_under objects name _ = false
 
--- How many VLANs a name is over, its own counted. In an allowed set that is one more for a VLAN than for the name under it,
--- and 0 for every other name.
+-- How many VLANs a name is over, its own counted. In an allowed set that is one more for a VLAN
+-- than for the name under it, and 0 for every other name.
 abbrev pub height : Objects → List ℕ → ℕ
 height objects name = set.len (set.retain objects (is_vlan_under objects name))

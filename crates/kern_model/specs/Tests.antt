@@ -1,5 +1,6 @@
--- The tests by which a kernel in memory judges whether it admits a call, and whether an event may happen, over the lists
--- of its devices and objects. That they judge right is what `MemKernel::admits` and `MemKernel::may_happen` ensure.
+-- The tests by which a kernel in memory judges whether it admits a call, and whether an event may
+-- happen, over the lists of its devices and objects. That they judge right is what
+-- `MemKernel::admits` and `MemKernel::may_happen` ensure.
 use Rattle.std.specs.Prelude.{ℕ, List, Bool, true, false, ◌&&◌, ◌||◌, not, bytes_eq, nat_eq, nat_le}
 use Rattle.std.specs.List.{list_any}
 use Rattle.std.specs.Ordering.{eq_by_cmp}
@@ -12,6 +13,7 @@ use Rattle.kern_model.specs.declared.object.Call.{Call}
 use Rattle.kern_model.specs.declared.object.Call.TheVariants.{Put, Take}
 use Rattle.kern_model.specs.declared.object.DevEvent.{DevEvent}
 use Rattle.kern_model.specs.declared.object.DevEvent.TheVariants as event
+use Rattle.kern_model.specs.declared.vlan_name.TheConstants.{LEAST_VLAN_ID, MOST_VLAN_ID}
 use Rattle.kern_model.specs.ObjectOrder.{object_cmp}
 use Rattle.kern_model.specs.Standing.{places_of}
 use Rattle.kern_model.specs.Kernel.{map_of, is_present, own_mtu, own_mac, name_of}
@@ -28,7 +30,8 @@ is_bridge_of name _ = false
 
 -- a VLAN of that id over that name
 abbrev pub is_vlan_with : List ℕ → ℕ → Object → Bool
-is_vlan_with lower id (object.Link name (Vlan other other_id mac)) = bytes_eq other lower && nat_eq other_id id
+is_vlan_with lower id (object.Link name (Vlan other other_id mac)) =
+    bytes_eq other lower && nat_eq other_id id
 is_vlan_with lower id _ = false
 
 -- a VLAN over that name
@@ -51,14 +54,16 @@ is_among objects o = list_any (eq_by_cmp object_cmp o) objects
 
 -- a VLAN of that name whose lower name is not up
 abbrev pub lacks_lower : List Object → List ℕ → Object → Bool
-lacks_lower objects name (object.Link other (Vlan lower id mac)) = bytes_eq other name && not (is_among objects (object.Up lower))
+lacks_lower objects name (object.Link other (Vlan lower id mac)) =
+    bytes_eq other name && not (is_among objects (object.Up lower))
 lacks_lower objects name _ = false
 
 -- an address or a route on that name, or a VLAN over it that is up
 abbrev pub needs_up : List Object → List ℕ → Object → Bool
 needs_up objects name (object.Address dev cidr) = bytes_eq dev name
 needs_up objects name (object.Route r) = bytes_eq r.dev name
-needs_up objects name (object.Link vlan (Vlan lower id mac)) = bytes_eq lower name && is_among objects (object.Up vlan)
+needs_up objects name (object.Link vlan (Vlan lower id mac)) =
+    bytes_eq lower name && is_among objects (object.Up vlan)
 needs_up objects name _ = false
 
 abbrev pub exists : List (List ℕ × Device) → List Object → List ℕ → Bool
@@ -66,18 +71,26 @@ exists devices objects name = is_present (map_of devices) name || list_any (is_l
 
 abbrev pub may_be_made : List (List ℕ × Device) → List Object → LinkKind → Bool
 may_be_made devices objects (Bridge mac) = true
-may_be_made devices objects (Vlan lower id mac) = exists devices objects lower && (nat_le 1 id && (nat_le id 4094 && not (list_any (is_vlan_with lower id) objects)))
+may_be_made devices objects (Vlan lower id mac) =
+    exists devices objects lower
+    && (nat_le LEAST_VLAN_ID id
+    && (nat_le id MOST_VLAN_ID && not (list_any (is_vlan_with lower id) objects)))
 
 abbrev pub master_may_be_set : List (List ℕ × Device) → List Object → List ℕ → List ℕ → Bool
 master_may_be_set devices objects port bridge =
-    exists devices objects port && (not (list_any (is_bridge_of port) objects) && (list_any (is_bridge_of bridge) objects && not (list_any (is_master_of port) objects)))
+    exists devices objects port
+    && (not (list_any (is_bridge_of port) objects)
+    && (list_any (is_bridge_of bridge) objects && not (list_any (is_master_of port) objects)))
 
 abbrev pub may_be_put : List (List ℕ × Device) → List Object → Object → Bool
-may_be_put devices objects (object.Link name kind) = not (exists devices objects name) && may_be_made devices objects kind
+may_be_put devices objects (object.Link name kind) =
+    not (exists devices objects name) && may_be_made devices objects kind
 may_be_put devices objects (object.Mtu name mtu) = exists devices objects name
 may_be_put devices objects (object.Mac name mac) = is_present (map_of devices) name
-may_be_put devices objects (object.Master port bridge) = master_may_be_set devices objects port bridge
-may_be_put devices objects (object.Up name) = exists devices objects name && not (list_any (lacks_lower objects name) objects)
+may_be_put devices objects (object.Master port bridge) =
+    master_may_be_set devices objects port bridge
+may_be_put devices objects (object.Up name) =
+    exists devices objects name && not (list_any (lacks_lower objects name) objects)
 may_be_put devices objects (object.Address dev cidr) = is_among objects (object.Up dev)
 may_be_put devices objects (object.Route r) = is_among objects (object.Up r.dev)
 
@@ -89,7 +102,10 @@ may_be_taken objects _ = true
 abbrev pub is_admitted : List (List ℕ × Device) → List Object → Call → Bool
 is_admitted devices objects (Put o) = not (is_among objects o) && may_be_put devices objects o
 is_admitted devices objects (Take o mtu mac) =
-    is_among objects o && (may_be_taken objects o && (nat_eq mtu (own_mtu (map_of devices) (name_of o)) && bytes_eq mac.0 (own_mac (map_of devices) (name_of o)).0))
+    is_among objects o
+    && (may_be_taken objects o
+    && (nat_eq mtu (own_mtu (map_of devices) (name_of o))
+    && bytes_eq mac.0 (own_mac (map_of devices) (name_of o)).0))
 
 abbrev pub may_happen : List (List ℕ × Device) → List Object → DevEvent → Bool
 may_happen devices objects (event.Add name carrier mtu mac) = not (exists devices objects name)

@@ -12,11 +12,13 @@ use Rattle.kern_model.specs.Kernel.{Devices, own_mtu, own_mac, name_of, replaces
 
 -- a link that is not wanted, with the name over it
 abbrev pub is_unwanted_under : Objects → Objects → List ℕ → Object → Bool
-is_unwanted_under held wanted name (object.Link base kind) = not (set.contains wanted (object.Link base kind)) && is_over held base name
+is_unwanted_under held wanted name (object.Link base kind) =
+    not (set.contains wanted (object.Link base kind)) && is_over held base name
 is_unwanted_under held wanted name _ = false
 
--- A name falls where it is that of a held link that is not wanted, or over one. A wanted link over such a one is taken
--- too; what stands on it stands on the other as well, so it needs no case of its own.
+-- A name falls where it is that of a held link that is not wanted, or over one. A wanted link over
+-- such a one is taken too; what stands on it stands on the other as well, so it needs no case of
+-- its own.
 abbrev pub falls : Objects → Objects → List ℕ → Bool
 falls held wanted name = list_any (is_unwanted_under held wanted name) (set.items held)
 
@@ -26,19 +28,26 @@ is_on_taken held wanted o = list_any (falls held wanted) (places_of o)
 
 -- an object is in one of the sets and not in the other
 abbrev pub is_in_one : Objects → Objects → Object → Bool
-is_in_one held wanted o = (set.contains held o && not (set.contains wanted o)) || (set.contains wanted o && not (set.contains held o))
+is_in_one held wanted o =
+    (set.contains held o && not (set.contains wanted o))
+    || (set.contains wanted o && not (set.contains held o))
 
--- an object is touched where it is in one of held and wanted and not in the other, or stands on a link that is taken
+-- an object is touched where it is in one of held and wanted and not in the other, or stands on a
+-- link that is taken
 abbrev pub is_touched : Objects → Objects → Object → Bool
 is_touched held wanted o = is_in_one held wanted o || is_on_taken held wanted o
 
--- a wanted MTU or hardware address takes its place, on a name that stays: a present device, or a link that is not taken
+-- a wanted MTU or hardware address takes its place, on a name that stays: a present device, or a
+-- link that is not taken
 abbrev pub is_replaced : Objects → Objects → Object → Bool
-is_replaced held wanted o = not (set.contains wanted o) && (not (is_on_taken held wanted o) && list_any (λ other. replaces other o) (set.items wanted))
+is_replaced held wanted o =
+    not (set.contains wanted o)
+    && (not (is_on_taken held wanted o) && list_any (λ other. replaces other o) (set.items wanted))
 
 -- which held objects are taken
 abbrev pub is_taken : Objects → Objects → Object → Bool
-is_taken held wanted o = set.contains held o && (is_touched held wanted o && not (is_replaced held wanted o))
+is_taken held wanted o =
+    set.contains held o && (is_touched held wanted o && not (is_replaced held wanted o))
 
 -- which wanted objects are put
 abbrev pub is_put : Objects → Objects → Object → Bool
@@ -47,4 +56,6 @@ is_put held wanted o = set.contains wanted o && is_touched held wanted o
 -- the calls between what is held and what is wanted, each take with the own values
 abbrev pub is_call : Devices → Objects → Objects → Call → Bool
 is_call devices held wanted (Put o) = is_put held wanted o
-is_call devices held wanted (Take o mtu mac) = is_taken held wanted o && (nat_eq mtu (own_mtu devices (name_of o)) && bytes_eq mac.0 (own_mac devices (name_of o)).0)
+is_call devices held wanted (Take o mtu mac) =
+    is_taken held wanted o
+    && (nat_eq mtu (own_mtu devices (name_of o)) && bytes_eq mac.0 (own_mac devices (name_of o)).0)

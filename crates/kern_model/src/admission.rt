@@ -1,4 +1,5 @@
-//! Whether a kernel admits a call, judged by the list of its present devices and that of its objects.
+//! Whether a kernel admits a call, judged by the list of its present devices and that of its
+//! objects.
 ghost use Rattle.std.specs.Prelude.{◌≡◌};
 ghost use Rattle.std.specs.List.{list_any};
 ghost use Rattle.std.specs.FinMap as map;
@@ -7,6 +8,7 @@ ghost use Rattle.kern_model.specs.Tests.{is_link_of, is_vlan_with, is_master_of,
 
 use crate::name::DevName;
 use crate::object::{Call, DevEvent, Device, LinkKind, Mac, Object};
+use crate::vlan_name::{LEAST_VLAN_ID, MOST_VLAN_ID};
 
 pub(crate) fn may_happen(
     devices: &[(DevName, Device)],
@@ -71,8 +73,8 @@ fn may_be_made(devices: &[(DevName, Device)], objects: &[Object], kind: &LinkKin
         LinkKind::Bridge { .. } => true,
         LinkKind::Vlan { lower, id, .. } => {
             exists(devices, objects, lower)
-                && 1 <= *id
-                && *id <= 4094
+                && LEAST_VLAN_ID <= *id
+                && *id <= MOST_VLAN_ID
                 && !has_vlan(objects, lower, *id)
         }
     }

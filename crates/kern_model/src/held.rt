@@ -27,9 +27,12 @@ fn replaces_one(objects: &[Object], object: &Object) -> bool
 /// Makes room for what the call puts, where it takes the place of no other object.
 pub(crate) fn make_room(objects: &mut Vec<Object>, call: &Call) -> Result<(), AllocError>
     ensures items { objects.new.items ≡ objects.old.items }
-    ensures ok { OnOk result (needs_room objects.old.items call.now ≡ true → vec_len objects.new < vec_capacity objects.new) }
-    ensures full { OnErr result ((needs_room objects.old.items call.now ≡ true) × (vec_capacity objects.old ≤ vec_len objects.old)) }
-    ensures room { (vec_capacity objects.old ≤ vec_capacity objects.new) × (vec_len objects.new ≡ vec_len objects.old) }
+    ensures ok { OnOk result (needs_room objects.old.items call.now ≡ true
+        → vec_len objects.new < vec_capacity objects.new) }
+    ensures full { OnErr result ((needs_room objects.old.items call.now ≡ true)
+        × (vec_capacity objects.old ≤ vec_len objects.old)) }
+    ensures room { (vec_capacity objects.old ≤ vec_capacity objects.new)
+        × (vec_len objects.new ≡ vec_len objects.old) }
 {
     if !needs_room(objects, call) {
         return Ok(());
@@ -39,8 +42,10 @@ pub(crate) fn make_room(objects: &mut Vec<Object>, call: &Call) -> Result<(), Al
 
 // Removes what the object takes the place of.
 fn remove_replaced(objects: &mut Vec<Object>, object: &Object)
-    ensures items { objects.new.items ≡ filter (λ old. not (replaces object.now old)) objects.old.items }
-    ensures room { (vec_len objects.new ≤ vec_len objects.old) × (vec_capacity objects.new ≡ vec_capacity objects.old) }
+    ensures items { objects.new.items
+        ≡ filter (λ old. not (replaces object.now old)) objects.old.items }
+    ensures room { (vec_len objects.new ≤ vec_len objects.old)
+        × (vec_capacity objects.new ≡ vec_capacity objects.old) }
 {
     if object.is_value() {
         objects.retain(|old| !object.replaces(old));
@@ -49,9 +54,11 @@ fn remove_replaced(objects: &mut Vec<Object>, object: &Object)
 
 /// Does what an admitted call does. There has to be room for what it puts.
 pub(crate) fn change(objects: &mut Vec<Object>, call: &Call)
-    requires { needs_room objects.old.items call.now ≡ true → vec_len objects.old < vec_capacity objects.old }
+    requires { needs_room objects.old.items call.now ≡ true
+        → vec_len objects.old < vec_capacity objects.old }
     ensures items { objects.new.items ≡ objects_after objects.old.items call.now }
-    ensures room { (vec_len objects.new ≤ vec_len objects.old + 1) × (vec_capacity objects.new ≡ vec_capacity objects.old) }
+    ensures room { (vec_len objects.new ≤ vec_len objects.old + 1)
+        × (vec_capacity objects.new ≡ vec_capacity objects.old) }
 {
     // A push is proved only where a local names the enums within.
     let _named: Option<LinkKind> = None;
@@ -70,10 +77,12 @@ fn find_vlan_over(objects: &[Object], name: &DevName) -> Option<usize>
     objects.iter().position(|held| held.is_vlan_over(name))
 }
 
-/// Removes what stands on the name: with each VLAN over it what stands on that, and then the objects at the name.
+/// Removes what stands on the name: with each VLAN over it what stands on that, and then the
+/// objects at the name.
 pub(crate) fn remove_standing_on(objects: &mut Vec<Object>, name: &DevName)
     ensures items { objects.new.items ≡ left_standing objects.old.items name.now }
-    ensures room { (vec_len objects.new ≤ vec_len objects.old) × (vec_capacity objects.new ≡ vec_capacity objects.old) }
+    ensures room { (vec_len objects.new ≤ vec_len objects.old)
+        × (vec_capacity objects.new ≡ vec_capacity objects.old) }
 {
     let Some(index) = find_vlan_over(objects, name) else {
         objects.retain(|held| !held.is_at(name));

@@ -27,17 +27,20 @@ pub trait Kernel {
         requires { Admits (devices self.old) (objects self.old) call.now }
         ensures did { OnOk result (objects self.new ≡ after_call (objects self.old) call.now) }
         ensures logged { OnOk result (Logs (calls self.old) (calls self.new) call.now) }
-        ensures err { OnErr result ((objects self.new ≡ objects self.old) × (calls self.new ≡ calls self.old)) }
+        ensures err { OnErr result ((objects self.new ≡ objects self.old)
+            × (calls self.new ≡ calls self.old)) }
         ensures devices { devices self.new ≡ devices self.old }
         ensures cause { HasCause (faults self.old) (faults self.new) result };
 
-    /// Tells the kernel what happened to a device: what stands on one that leaves goes with it. Where that fails, nothing
-    /// changes.
+    /// Tells the kernel what happened to a device: what stands on one that leaves goes with it.
+    /// Where that fails, nothing changes.
     fn environment(&mut self, event: &DevEvent) -> Result<(), Failed>
         requires { MayHappen (devices self.old) (objects self.old) event.now }
         ensures did { OnOk result (devices self.new ≡ after_event (devices self.old) event.now) }
-        ensures stayed { OnOk result (objects self.new ≡ objects_after_event (objects self.old) event.now) }
-        ensures err { OnErr result ((devices self.new ≡ devices self.old) × (objects self.new ≡ objects self.old)) }
+        ensures stayed { OnOk result (objects self.new
+            ≡ objects_after_event (objects self.old) event.now) }
+        ensures err { OnErr result ((devices self.new ≡ devices self.old)
+            × (objects self.new ≡ objects self.old)) }
         ensures calls { calls self.new ≡ calls self.old }
         ensures cause { HasCause (faults self.old) (faults self.new) result };
 }

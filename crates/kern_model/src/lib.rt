@@ -1,11 +1,10 @@
-//! The kernel as a model: devices, objects, the calls that change them, their order and their lines.
+//! The kernel as a model: devices, objects, the calls that change them, their order and their
+//! lines.
 #![tactic(auto)]
 
 mod admission;
 mod held;
 mod kernel;
-#[cfg(test)]
-mod kernel_tests;
 mod laws;
 mod mem_kernel;
 mod name;
@@ -13,10 +12,8 @@ mod object;
 mod plan;
 mod present;
 mod print;
-#[cfg(test)]
-mod print_tests;
-#[cfg(test)]
-mod tests;
+mod rank;
+mod vlan_name;
 
 pub use kernel::Kernel;
 pub use laws::{
@@ -29,3 +26,4 @@ pub use name::{DevName, read_name};
 pub use object::{Call, DevEvent, Device, LinkKind, Mac, Object, RouteObject};
 pub use plan::calls_from_nothing;
 pub use print::print_call;
+pub use vlan_name::{LEAST_VLAN_ID, MOST_VLAN_ID, read_plain_name};

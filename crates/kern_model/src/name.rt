@@ -8,8 +8,8 @@ ghost use Rattle.kern_model.specs.Name.{is_name, is_name_byte};
 use std::cmp::Ordering;
 use std::marker::Model;
 
-/// The name of a network device: 1 to 15 bytes from 33 to 126 but `/` and `:`, and neither `.` nor `..`. Contracts see
-/// its bytes, and names are ordered by them.
+/// The name of a network device: 1 to 15 bytes from 33 to 126 but `/` and `:`, and neither `.` nor
+/// `..`. Contracts see its bytes, and names are ordered by them.
 #[derive(Clone, Copy, Debug, Hash)]
 pub struct DevName {
     pub bytes: [u8; 15],

@@ -1,7 +1,6 @@
 ghost use Rattle.std.specs.Prelude.{◌≡◌, ◌↔◌, IsTrue, false};
 ghost use Rattle.std.specs.Ordering.{eq_by_cmp};
 ghost use Rattle.kern_model.specs.ObjectOrder.{object_cmp};
-ghost use Rattle.kern_model.specs.declared.object.Object.{Object as Held};
 ghost use Rattle.kern_model.specs.Kernel.{object_of, name_of, replaces};
 ghost use Rattle.kern_model.specs.Tests.{is_link_of, is_bridge_of, is_vlan_with, is_vlan_over, is_master_of, is_at};
 
@@ -20,8 +19,8 @@ pub struct Device {
     pub mac: Mac,
 }
 
-/// The kinds of links that are made: bridges, and VLANs (IEEE 802.1Q) of an `id` over a `lower` name. A link may be
-/// made with a hardware address.
+/// The kinds of links that are made: bridges, and VLANs (IEEE 802.1Q) of an `id` over a `lower`
+/// name. A link may be made with a hardware address.
 #[derive(Clone, Copy, Debug, PartialEq, Eq, PartialOrd, Ord, Hash)]
 pub enum LinkKind {
     Bridge {
@@ -44,7 +43,8 @@ pub struct RouteObject {
     pub table: u32,
 }
 
-/// What a kernel holds beside its present devices. Two objects are one exactly where all their fields are equal.
+/// What a kernel holds beside its present devices. Two objects are one exactly where all their
+/// fields are equal.
 #[derive(Clone, Copy, Debug, PartialEq, Eq, PartialOrd, Ord, Hash)]
 pub enum Object {
     Link { name: DevName, kind: LinkKind },
@@ -56,7 +56,8 @@ pub enum Object {
     Route(RouteObject),
 }
 
-/// A call: put an object, or take it. A take carries the values of the device's own that come back with it.
+/// A call: put an object, or take it. A take carries the values of the device's own that come back
+/// with it.
 #[derive(Clone, Copy, Debug, PartialEq, Eq, PartialOrd, Ord, Hash)]
 pub enum Call {
     Put(Object),
@@ -95,12 +96,13 @@ impl Object {
 
     // Whether this object may take the place of another.
     pub(crate) fn is_value(&self) -> bool
-        ensures { (result ≡ false) → (old : Held) → replaces self.now old ≡ false }
+        ensures { (result ≡ false) → (old : _) → replaces self.now old ≡ false }
     {
         matches!(self, Object::Mtu { .. } | Object::Mac { .. })
     }
 
-    /// Whether this object takes the place of the other: an MTU or a hardware address that of the one of its name.
+    /// Whether this object takes the place of the other: an MTU or a hardware address that of the
+    /// one of its name.
     pub fn replaces(&self, old: &Object) -> bool
         ensures { result ≡ replaces self.now old.now }
     {
@@ -173,7 +175,8 @@ impl Object {
         }
     }
 
-    // Whether the object is at that name: a VLAN at the name under it, a master at its port and at its bridge.
+    // Whether the object is at that name: a VLAN at the name under it, a master at its port and at
+    // its bridge.
     pub(crate) fn is_at(&self, name: &DevName) -> bool
         ensures { result ≡ is_at name.now self.now }
     {

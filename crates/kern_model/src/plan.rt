@@ -23,7 +23,8 @@ pub(crate) struct Place {
 /// The calls from nothing to the set of these objects, in their order.
 pub fn calls_from_nothing(alloc: Global, objects: &[Object]) -> Result<Vec<Call>, Memory>
     requires { AllByRecursion IsBroughtUp objects.now }
-    ensures { IfOk result (λ calls. (devices : Devices) → AreCalls devices set.empty (set_of objects.now) calls.items) }
+    ensures { IfOk result (λ calls. (devices : Devices)
+        → AreCalls devices set.empty (set_of objects.now) calls.items) }
 {
     // A push of objects is proved only where a local names the enums within.
     let _named: Option<LinkKind> = None;
@@ -40,18 +41,13 @@ pub fn calls_from_nothing(alloc: Global, objects: &[Object]) -> Result<Vec<Call>
 }
 
 fn find_place(alloc: Global, object: &Object) -> Result<Place, Memory>
-    requires { IsBroughtUp object.now }
     ensures { IfOk result (λ place. place ≡ place_of object.now) }
 {
-    let rank = match object {
-        Object::Up { .. } => 11,
-        Object::Address { .. } => 12,
-        _ => unreachable!(),
-    };
+    let call = Call::Put(*object);
     let mut buffer = [0u8; 256];
-    let size = print_call(&Call::Put(*object), &mut buffer);
+    let size = print_call(&call, &mut buffer);
     Ok(Place {
-        rank,
+        rank: call.rank(),
         line: Text::from_bytes(alloc, &buffer[..size])?,
     })
 }

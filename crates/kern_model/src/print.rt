@@ -1,21 +1,19 @@
 ghost use Rattle.std.specs.Prelude.{◌≡◌, ◌≤◌, ◌<◌, ◌+◌, ◌*◌, ◌++◌, take, length, codes, decimal};
-ghost use Rattle.std.specs.Char.{digit_char};
 ghost use Rattle.net_addr.specs.Printed.{cidr_text};
 ghost use Rattle.kern_model.specs.Line.{line_of, put_line, take_line, route_line, hex_pair, pairs_text, own_address, gateway, unusual};
-ghost use Rattle.kern_model.specs.declared.object.LinkKind.TheVariants.{Bridge, Vlan};
-ghost use Rattle.kern_model.specs.declared.object.Object.TheVariants as object;
 
 use crate::name::DevName;
 use crate::object::{Call, LinkKind, Mac, Object, RouteObject};
 use itoa::Buffer;
-use net_addr::{Addr, Cidr, print_addr, print_cidr};
+use net_addr::{Addr, Cidr, hex_digit, print_addr, print_cidr};
 use plane_io::append_text;
 
 /// The table of the routes that name none.
 const MAIN_TABLE: u32 = 254;
 
-/// Prints the line of a call, as `ip -batch` takes it, without its newline, and returns how many bytes that is. Bytes of
-/// a name that `ip -batch` reads in a way of its own (`#`, `\` and quotes) are printed as they are.
+/// Prints the line of a call, as `ip -batch` takes it, without its newline, and returns how many
+/// bytes that is. Bytes of a name that `ip -batch` reads in a way of its own (`#`, `\` and quotes)
+/// are printed as they are.
 pub fn print_call(call: &Call, into: &mut [u8; 256]) -> usize
     ensures written { take result into.new ≡ line_of call.now }
     ensures fits { result ≤ 255 }
@@ -57,7 +55,7 @@ fn print_take(object: &Object, mtu: u32, mac: Mac, into: &mut [u8; 256]) -> usiz
 }
 
 fn print_link(name: DevName, kind: &LinkKind, into: &mut [u8; 256]) -> usize
-    ensures written { take result into.new ≡ put_line (object.Link name kind.now) }
+    ensures written { take result into.new ≡ put_line (Object.Link name kind.now) }
     ensures fits { result ≤ 255 }
 {
     match kind {
@@ -67,7 +65,7 @@ fn print_link(name: DevName, kind: &LinkKind, into: &mut [u8; 256]) -> usize
 }
 
 fn print_bridge(name: DevName, mac: Option<Mac>, into: &mut [u8; 256]) -> usize
-    ensures written { take result into.new ≡ put_line (object.Link name (Bridge mac)) }
+    ensures written { take result into.new ≡ put_line (Object.Link name (LinkKind.Bridge mac)) }
     ensures fits { result ≤ 255 }
 {
     let end = append_text(into, 0, b"link add name ");
@@ -83,7 +81,8 @@ fn print_vlan(
     mac: Option<Mac>,
     into: &mut [u8; 256],
 ) -> usize
-    ensures written { take result into.new ≡ put_line (object.Link name (Vlan lower id mac)) }
+    ensures written { take result into.new
+        ≡ put_line (Object.Link name (LinkKind.Vlan lower id mac)) }
     ensures fits { result ≤ 255 }
 {
     let end = append_text(into, 0, b"link add link ");
@@ -114,7 +113,7 @@ fn print_set(name: DevName, setting: &[u8], into: &mut [u8; 256]) -> usize
 }
 
 fn print_mtu(name: DevName, mtu: u32, into: &mut [u8; 256]) -> usize
-    ensures written { take result into.new ≡ put_line (object.Mtu name mtu) }
+    ensures written { take result into.new ≡ put_line (Object.Mtu name mtu) }
     ensures fits { result ≤ 255 }
 {
     let end = print_set(name, b" mtu ", into);
@@ -122,7 +121,7 @@ fn print_mtu(name: DevName, mtu: u32, into: &mut [u8; 256]) -> usize
 }
 
 fn print_mac(name: DevName, mac: Mac, into: &mut [u8; 256]) -> usize
-    ensures written { take result into.new ≡ put_line (object.Mac name mac) }
+    ensures written { take result into.new ≡ put_line (Object.Mac name mac) }
     ensures fits { result ≤ 255 }
 {
     let end = print_set(name, b" address ", into);
@@ -130,7 +129,7 @@ fn print_mac(name: DevName, mac: Mac, into: &mut [u8; 256]) -> usize
 }
 
 fn print_master(port: DevName, bridge: DevName, into: &mut [u8; 256]) -> usize
-    ensures written { take result into.new ≡ put_line (object.Master port bridge) }
+    ensures written { take result into.new ≡ put_line (Object.Master port bridge) }
     ensures fits { result ≤ 255 }
 {
     let end = print_set(port, b" master ", into);
@@ -192,7 +191,7 @@ fn append_gateway(into: &mut [u8; 256], at: usize, via: Option<Addr>) -> usize
     }
 }
 
-// The number behind its word, or nothing where it is the usual one.
+// The number after its word, or nothing where it is the usual one.
 fn append_unusual(into: &mut [u8; 256], at: usize, word: &[u8], usual: u32, number: u32) -> usize
     requires room { at ≤ 230 }
     requires short { length word.now ≤ 8 }
@@ -245,15 +244,4 @@ fn hex_pair(byte: u8) -> [u8; 2]
     ensures { result ≡ hex_pair byte }
 {
     [hex_digit(byte / 16), hex_digit(byte % 16)]
-}
-
-fn hex_digit(value: u8) -> u8
-    requires { value < 16 }
-    ensures { result ≡ digit_char value }
-{
-    if value < 10 {
-        b'0' + value
-    } else {
-        b'a' + (value - 10)
-    }
 }

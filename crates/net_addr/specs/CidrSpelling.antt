@@ -5,6 +5,7 @@ use Rattle.std.specs.Net.Grammar.{IsNumber}
 use Rattle.net_addr.specs.declared.address.Addr.{Addr}
 use Rattle.net_addr.specs.declared.error.AddrError.{AddrError}
 use Rattle.net_addr.specs.declared.error.AddrError.TheVariants.{BadAddress, BadMask, BadLength}
+use Rattle.net_addr.specs.Byte.{slash}
 use Rattle.net_addr.specs.Spelling.{Spells}
 use Rattle.net_addr.specs.Width.{bits}
 
@@ -27,7 +28,7 @@ pub record SpellsCidr (text : List ℕ) (c : Addr × ℕ) : Type 0 where
 
 -- what stands before the first slash, or the whole text where there is none
 abbrev pub before_slash : List ℕ → List ℕ
-before_slash text = before_first (λ b. b == 47) text
+before_slash text = before_first (λ b. b == slash) text
 
 -- Why a text is no prefix: what stands before the first slash is no address; or it is one, and no
 -- length that it has room for follows.

@@ -1,4 +1,6 @@
--- What the contracts of this crate speak of, from the numbers of an address to the texts of a prefix.
+-- What the contracts of this crate speak of, from the numbers of an address to the texts of a
+-- prefix.
+pub mod Byte
 pub mod Octets
 pub mod Width
 pub mod CidrModel

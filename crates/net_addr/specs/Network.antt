@@ -9,7 +9,8 @@ use Rattle.net_addr.specs.Width.{bits}
 abbrev pub bit_of : List ℕ → ℕ → ℕ
 bit_of xs k = bit_at (slice_index xs (k / 8)) (7 - k % 8)
 
--- n has the family, the length and the first bits of c, as many as the length says, and zeros behind them
+-- n has the family, the length and the first bits of c, as many as the length says, and zeros
+-- after them
 pub record IsNetworkOf (c n : Addr × ℕ) : Type 0 where
   pub family : bits n.0 ≡ bits c.0
   pub same_length : n.1 ≡ c.1

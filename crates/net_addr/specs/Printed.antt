@@ -9,8 +9,9 @@ use Rattle.net_addr.specs.declared.address.Addr.TheVariants as Family
 abbrev pub v4_text : List ℕ → List ℕ
 v4_text xs = ipv4_text xs
 
--- Sixteen octets as eight groups in lower-case hex with no leading zeros. The longest run of two or more
--- zero groups, and of two as long the first, is `::` (RFC 5952, 4). No group is in dotted decimal.
+-- Sixteen octets as eight groups in lower-case hex with no leading zeros. The longest run of two or
+-- more zero groups, and of two as long the first, is `::` (RFC 5952, 4). No group is in dotted
+-- decimal.
 abbrev pub v6_text : List ℕ → List ℕ
 v6_text xs = hex_groups_text (segments_of xs)
 

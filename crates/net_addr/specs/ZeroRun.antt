@@ -6,7 +6,8 @@ abbrev pub IsZeroRun : List ℕ → ℕ → ℕ → Type 0
 IsZeroRun groups start len = (start + len ≤ length groups)
     × (take len (drop start groups) ≡ replicate len 0)
 
--- a run of zero groups, given by its start and its length: none is longer, and none as long starts before it
+-- a run of zero groups, given by its start and its length: none is longer, and none as long starts
+-- before it
 pub record IsFirstLongestRun (groups : List ℕ) (run : ℕ × ℕ) : Type 0 where
   pub zeros : IsZeroRun groups run.0 run.1
   pub longest : (start len : ℕ) → IsZeroRun groups start len → len ≤ run.1

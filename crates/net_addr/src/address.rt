@@ -1,4 +1,4 @@
-ghost use Rattle.std.specs.Prelude.{◌≡◌, ◌↔◌, IsTrue};
+ghost use Rattle.std.specs.Prelude.{◌≡◌};
 ghost use Rattle.net_addr.specs.Octets.{AreOctets, IsAddr};
 ghost use Rattle.net_addr.specs.Width.{bits};
 
@@ -49,12 +49,5 @@ impl Addr {
             Addr::V4(v4) => 8 * v4.octets().len() as u8,
             Addr::V6(v6) => 8 * v6.octets().len() as u8,
         }
-    }
-
-    /// Whether both are of one family and have the same octets.
-    pub fn same(&self, other: &Addr) -> bool
-        ensures { IsTrue result ↔ (self.now ≡ other.now) }
-    {
-        self == other
     }
 }

@@ -36,7 +36,8 @@ pub fn printed_cidr_reads_back()
     ensures { (c : Addr × ℕ) → IsCidr c → SpellsCidr (cidr_text c) c }
 {}
 
-/// The text of a prefix has at most 43 bytes, and none but `0` to `9`, `a` to `f`, `.`, `:` and `/`.
+/// The text of a prefix has at most 43 bytes, and none but `0` to `9`, `a` to `f`, `.`, `:` and
+/// `/`.
 pub fn short_plain_texts()
     ensures plain { (c : Addr × ℕ) → IsCidr c → All IsCidrByte (cidr_text c) }
     ensures short { (c : Addr × ℕ) → IsCidr c → length (cidr_text c) ≤ 43 }

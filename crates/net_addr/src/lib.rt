@@ -1,7 +1,7 @@
 //! IPv4 and IPv6 addresses and prefixes: read from text, and printed in one form.
 //!
-//! An IPv4 address is read in dotted decimal, and an IPv6 address as RFC 4291, section 2.2, writes it.
-//! No call takes memory.
+//! An IPv4 address is read in dotted decimal, and an IPv6 address as RFC 4291, section 2.2, writes
+//! it. No call takes memory.
 #![tactic(auto)]
 
 mod address;
@@ -22,8 +22,5 @@ pub use laws::{
 pub use mask::mask_length;
 pub use network::network_of;
 pub use prefix::Cidr;
-pub use print::{print_addr, print_cidr};
+pub use print::{hex_digit, print_addr, print_cidr};
 pub use read::{read_addr, read_cidr};
-
-#[cfg(test)]
-mod tests;

@@ -25,7 +25,7 @@ pub fn network_of(cidr: Cidr) -> Cidr
     Cidr { addr, length }
 }
 
-// Clears the bits behind the first `kept`.
+// Clears the bits after the first `kept`.
 fn clear_hosts(octets: &mut [u8], kept: u8)
     requires { length octets.old ≤ 16 }
     ensures { (i : ℕ) → i < length octets.old → slice_index octets.new i

@@ -40,21 +40,6 @@ impl Cidr {
         Some(Cidr { addr, length })
     }
 
-    /// The address, with its host bits.
-    pub fn addr(&self) -> Addr
-        ensures { result ≡ self.now.0 }
-    {
-        self.addr
-    }
-
-    /// The length of the prefix in bits.
-    pub fn length(&self) -> u8
-        ensures value { result ≡ self.now.1 }
-        ensures within { result ≤ bits self.now.0 }
-    {
-        self.length
-    }
-
     /// Whether both have the same address, host bits included, and the same length.
     pub fn same(&self, other: &Cidr) -> bool
         ensures { IsTrue result ↔ (self.now ≡ other.now) }

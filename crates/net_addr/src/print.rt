@@ -1,4 +1,4 @@
-ghost use Rattle.std.specs.Prelude.{◌≡◌, ◌+◌, ◌*◌, ◌<◌, ◌≤◌, ◌++◌, ◌∷◌, decimal, drop, length, take};
+ghost use Rattle.std.specs.Prelude.{◌≡◌, ◌+◌, ◌*◌, ◌<◌, ◌≤◌, ◌++◌, codes, decimal, drop, length, take};
 ghost use Rattle.std.specs.Char.{digit_char};
 ghost use Rattle.std.specs.Net.Text as Text;
 ghost use Rattle.net_addr.specs.Printed.{addr_text, cidr_text, v4_text, v6_text};
@@ -10,11 +10,11 @@ use itoa::Buffer;
 use std::net::Ipv6Addr;
 
 /// Prints an address in its one form, and returns how many bytes that is.
-/// The bytes behind them stay as they are.
+/// The bytes after them stay as they are.
 ///
-/// An IPv4 address is in dotted decimal. An IPv6 address is eight groups in lower-case hex, with the
-/// longest run of two or more zero groups as `::`, and of two such runs the first (RFC 5952, section 4).
-/// An IPv4-mapped address is in hex groups too, as `::ffff:102:304`.
+/// An IPv4 address is in dotted decimal. An IPv6 address is eight groups in lower-case hex, with
+/// the longest run of two or more zero groups as `::`, and of two such runs the first (RFC 5952,
+/// section 4). An IPv4-mapped address is in hex groups too, as `::ffff:102:304`.
 pub fn print_addr(addr: Addr, into: &mut [u8; 64]) -> usize
     ensures written { take result into.new ≡ addr_text addr }
     ensures fits { result ≤ 39 }
@@ -23,8 +23,8 @@ pub fn print_addr(addr: Addr, into: &mut [u8; 64]) -> usize
     append_addr(into, addr)
 }
 
-/// Prints a prefix as its address, `/` and its length in decimal, and returns how many bytes that is.
-/// The bytes behind them stay as they are.
+/// Prints a prefix as its address, `/` and its length in decimal, and returns how many bytes that
+/// is. The bytes after them stay as they are.
 pub fn print_cidr(cidr: Cidr, into: &mut [u8; 64]) -> usize
     ensures written { take result into.new ≡ cidr_text cidr }
     ensures fits { result ≤ 43 }
@@ -114,22 +114,23 @@ fn append_hex(into: &mut [u8; 64], at: usize, group: u16) -> usize
     ensures fits { result ≤ at + 4 }
 {
     let digits = [
-        hex_digit(group / 0x1000),
-        hex_digit(group / 0x100 % 16),
-        hex_digit(group / 0x10 % 16),
-        hex_digit(group % 16),
+        hex_digit((group / 0x1000) as u8),
+        hex_digit((group / 0x100 % 16) as u8),
+        hex_digit((group / 0x10 % 16) as u8),
+        hex_digit((group % 16) as u8),
     ];
     append(into, at, &digits[leading_zero_digits(group)..])
 }
 
-fn hex_digit(value: u16) -> u8
+/// A hexadecimal digit in lower case.
+pub fn hex_digit(value: u8) -> u8
     requires { value < 16 }
     ensures { result ≡ digit_char value }
 {
     if value < 10 {
-        b'0' + value as u8
+        b'0' + value
     } else {
-        b'a' + (value - 10) as u8
+        b'a' + (value - 10)
     }
 }
 
@@ -147,7 +148,7 @@ fn leading_zero_digits(group: u16) -> usize
 
 fn append_after_dot(into: &mut [u8; 64], at: usize, number: u8) -> usize
     requires { at ≤ 60 }
-    ensures text { Appends into.old at (46 ∷ decimal number) into.new result }
+    ensures text { Appends into.old at (codes "." ++ decimal number) into.new result }
     ensures fits { result ≤ at + 4 }
 {
     let end = append(into, at, b".");

@@ -1,4 +1,5 @@
 ghost use Rattle.std.specs.Prelude.{◌≡◌, ◌^◌, ◌<◌, ◌≤◌, ◌==◌, ℕ, length, position, IfErr, IfOk, IfSome, Ok, Some};
+ghost use Rattle.net_addr.specs.Byte.{slash};
 ghost use Rattle.net_addr.specs.CidrSpelling.{IsRefusal, SpellsCidr, SpellsLength, SpellsSuffix};
 ghost use Rattle.net_addr.specs.CidrSpelling as CidrSpelling;
 ghost use Rattle.net_addr.specs.Spelling.{Spells};
@@ -36,8 +37,8 @@ pub fn read_addr(text: &[u8]) -> Result<Addr, AddrError>
 ///
 /// # Errors
 ///
-/// `BadAddress` where what stands before the first `/`, or the whole text without one, is no address.
-/// Else `BadLength`, where no length that the address has room for stands behind it.
+/// `BadAddress` where what stands before the first `/`, or the whole text without one, is no
+/// address. Else `BadLength`, where no length that the address has room for follows.
 pub fn read_cidr(text: &[u8]) -> Result<Cidr, AddrError>
     ensures found { IfOk result (SpellsCidr text.now) }
     ensures only { (c : Addr × ℕ) → SpellsCidr text.now c → result ≡ Ok c }
@@ -65,7 +66,7 @@ fn before_slash(text: &[u8]) -> &[u8]
 }
 
 fn first_slash(text: &[u8]) -> Option<usize>
-    ensures { result ≡ position (λ b. b == 47) text.now }
+    ensures { result ≡ position (λ b. b == slash) text.now }
 {
     text.iter().position(|b| *b == b'/')
 }

@@ -1,4 +1,4 @@
-use crate::{Call, DevName, LinkKind, Mac, Object, RouteObject, print_call, read_name};
+use kern_model::{Call, DevName, LinkKind, Mac, Object, RouteObject, print_call, read_name};
 use net_addr::{Addr, Cidr, read_addr, read_cidr};
 use std::process::Abort;
 

@@ -1,4 +1,4 @@
-use crate::{
+use net_addr::{
     Addr, AddrError, Cidr, V4, V6, mask_length, network_of, print_addr, print_cidr, read_addr,
     read_cidr,
 };
@@ -190,11 +190,8 @@ fn keeps_the_length_within_the_address(rt: HostRuntime) -> Result<(), AddrError>
     let v6 = read_addr(b"::1")?;
     assert!(rt; Cidr::new(v4, 33).is_none());
     assert!(rt; Cidr::new(v6, 129).is_none());
-    assert!(rt; !v4.same(&v6));
     let narrow = Cidr::new(v4, 32).expect(&rt, "the length fits");
     let wide = Cidr::new(v4, 8).expect(&rt, "the length fits");
-    assert_eq!(rt; narrow.length(), 32);
-    assert!(rt; narrow.addr().same(&v4));
     assert_eq!(rt; v4.bits(), 32);
     assert_eq!(rt; v6.bits(), 128);
     assert_eq!(rt; V4([10, 0, 0, 1]).octets(), [10, 0, 0, 1]);

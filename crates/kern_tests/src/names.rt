@@ -1,4 +1,6 @@
-use crate::{Call, DevName, MemKernel, Object, calls_from_nothing, read_name};
+use kern_model::{
+    Call, DevName, MemKernel, Object, calls_from_nothing, read_name, read_plain_name,
+};
 use std::process::Abort;
 use std::test::Fail;
 
@@ -34,6 +36,26 @@ fn names_are_read(rt: HostRuntime) {
         "é",
     ] {
         assert!(rt; read_name(text.as_bytes()).is_none(), "{text}");
+    }
+}
+
+#[test]
+fn plain_names_stand_for_no_vlan(rt: HostRuntime) {
+    for text in [
+        "eth0",
+        "br-lan",
+        "eth0.",
+        ".2",
+        "eth0.0",
+        "eth0.02",
+        "eth0.4095",
+        "eth0.x",
+        "...",
+    ] {
+        assert!(rt; read_plain_name(text.as_bytes()).is_some(), "{text}");
+    }
+    for text in ["eth0.1", "eth0.4094", "eth0.2.3", "a b", ""] {
+        assert!(rt; read_plain_name(text.as_bytes()).is_none(), "{text}");
     }
 }
 

@@ -1,4 +1,4 @@
-use crate::{
+use kern_model::{
     Call, DevEvent, DevName, Kernel, LinkKind, Mac, MemKernel, Object, RouteObject, print_call,
     read_name,
 };

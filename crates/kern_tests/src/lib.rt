@@ -1,0 +1,11 @@
+//! Worked examples of addresses, of device names and of the modelled kernel.
+#![tactic(auto)]
+
+#[cfg(test)]
+mod addresses;
+#[cfg(test)]
+mod kernel;
+#[cfg(test)]
+mod lines;
+#[cfg(test)]
+mod names;
