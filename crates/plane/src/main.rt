@@ -2,8 +2,9 @@
 #![tactic(auto)]
 
 use kern_model::MemKernel;
-use plane_main::plane;
+use plane_main::{lack_memory, plane};
 use plane_real::{StdSink, StdSource};
+use std::io::ErrorKind;
 use std::process::ExitCode;
 use std::rt::Env;
 use std::{env, io};
@@ -19,10 +20,17 @@ fn words(rt: &(impl Env + AllocGlobal)) -> io::Result<Vec<String>> {
 
 fn main(rt: HostRuntime) -> ExitCode {
     let alloc = rt.alloc();
-    let words = words(&rt).unwrap_or(Vec::new(alloc));
+    let mut err = StdSink::new(rt.stderr());
+    let words = match words(&rt) {
+        Ok(words) => words,
+        Err(error) if error.kind() == ErrorKind::OutOfMemory => {
+            return ExitCode::from(lack_memory(&mut err));
+        }
+        // Words that are no text are those of no command.
+        Err(_) => Vec::new(alloc),
+    };
     let mut input = StdSource::new(rt.stdin());
     let mut out = StdSink::new(rt.stdout());
-    let mut err = StdSink::new(rt.stderr());
     let mut kernel = MemKernel::unlogged(alloc);
     let status = plane(alloc, &words, &mut input, &mut out, &mut err, &mut kernel);
     ExitCode::from(status)

@@ -1,6 +1,7 @@
 -- Devices that come one after the other.
-use Rattle.std.proofs.Common.{arith, ℕ, zero, suc, ◌≡◌, ◌≢◌, ◌<◌, ◌≤◌, ◌+◌, ◌⊎◌, inl, inr, List, [], ◌∷◌, ◌++◌, take, length, get_or, true, false, Bool, Some, refl, ap, sym, subst, ◌∙◌, Contains, cond, filter, add-zero, append-nil, length-append}
+use Rattle.std.proofs.Common.{arith, ℕ, zero, suc, ◌≡◌, ◌≢◌, ◌<◌, ◌≤◌, ◌+◌, ◌⊎◌, inl, inr, List, [], ◌∷◌, ◌++◌, take, drop, length, get_or, true, false, Bool, Some, refl, ap, sym, subst, ◌∙◌, Contains, cond, filter, add-zero, append-nil, length-append}
 use Rattle.std.specs.Prelude.{◌||◌, not, is_some}
+use Rattle.std.proofs.lemmas.List.{take_more, take-append-drop}
 use Rattle.std.specs.Ordering.{nat_cmp, eq_by_cmp, is_eq}
 use Rattle.std.specs.Cmp.{Equal-is, tied_itself}
 use Rattle.std.proofs.lemmas.List.Elements.{filter-append}
@@ -18,7 +19,7 @@ use Rattle.kern_model.proofs.MemberLemmas.{first_or_later, none_in_nil, here, th
 use Rattle.kern_model.proofs.SetLemmas.{none_in_empty}
 use Rattle.plane_words.specs.Distinct.{AreDistinct}
 use Rattle.plane_main.specs.Wanted.{with_devices, comes}
-use Rattle.plane_main.specs.Bring.{Came, absent_count}
+use Rattle.plane_main.specs.Bring.{Came, CameInFront, absent_count}
 
 -- nothing is present at first
 pub none_present : (name : List ℕ) → is_present map.empty name ≡ false
@@ -126,3 +127,26 @@ others_stay devices names name q device new member =
 
 pub now_there : (devices : Devices) (name : List ℕ) (device : Device) → is_present (map.insert devices name device) name ≡ true
 now_there devices name device = present_after devices name name device ∙ ap (λ r. is_eq r || is_present devices name) (tied_itself nat_list_cmp_total name)
+
+-- the next of the named devices came
+module _ (names : List (List ℕ)) (index : ℕ) (name : List ℕ) (distinct : AreDistinct names) (inside : index < length names) (is : get_or names index name ≡ name) where
+  pub one_more : take (index + 1) names ≡ take index names ++ name ∷ []
+  one_more = take_more names index name inside ∙ ap (λ x. take index names ++ x ∷ []) is
+
+  pub came_next : (before after : Devices) (first between now : ℕ) → after ≡ after_event before (comes name) → between ≤ now → Came (take index names) before first between → Came (take (index + 1) names) after first now
+  came_next before after first between now did later came =
+      let new : Contains (take index names) name → ⊥ = not_before names index name distinct inside is in
+      subst (λ xs. Came xs after first now) (sym one_more)
+      (came_more (take index names) name before after first between now new
+      (ap (λ d. is_present d name) did ∙ now_there before name _)
+      (λ q member. ap (λ d. is_present d q) did ∙ others_stay before (take index names) name q _ new member)
+      did later came)
+
+  -- it came, and the others were not tried
+  pub came_in_front : (before after : Devices) (first between now : ℕ) → after ≡ after_event before (comes name) → between ≤ now → Came (take index names) before first between → CameInFront names after first now
+  came_in_front before after first between now did later came = record {
+    front = take (index + 1) names;
+    back = drop (index + 1) names;
+    parts = sym (take-append-drop (index + 1) names);
+    came = came_next before after first between now did later came;
+  }

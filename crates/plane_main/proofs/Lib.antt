@@ -1,13 +1,11 @@
-pub mod NameLemmas
+pub mod WordLemmas
 pub mod DistinctLemmas
-pub mod StartLemmas
 pub mod InterfaceLemmas
 pub mod ItemLemmas
 pub mod DeviceLemmas
 pub mod SettleLemmas
 pub mod BringLemmas
-pub mod RunLemmas
-pub mod EndLemmas
 pub mod CountLemmas
-pub mod DueLemmas
-pub mod PageLemmas
+pub mod EndLemmas
+pub mod StartLemmas
+pub mod RunLemmas

@@ -1,5 +1,5 @@
--- What it is to bring interfaces up, to its end or a part of the way.
-use Rattle.std.specs.Prelude.{ℕ, ◌≡◌, ◌+◌, ◌<◌, List, [], filter, length, not, Option, true}
+-- What it is to bring interfaces up on named devices, to its end or a part of the way.
+use Rattle.std.specs.Prelude.{ℕ, ◌≡◌, ◌+◌, ◌<◌, List, [], ◌++◌, filter, length, not, true}
 use Rattle.std.specs.List.{AllByRecursion}
 use Rattle.std.specs.FinSet as set
 use Rattle.std.specs.FinMap as map
@@ -13,17 +13,9 @@ use Rattle.kern_model.specs.CallOrder.{AreCalls}
 use Rattle.plane_main.specs.declared.interface.Interface.{Interface}
 use Rattle.plane_main.specs.declared.ending.Ending.{Ending}
 use Rattle.plane_main.specs.declared.ending.Ending.TheVariants as ending
+use Rattle.plane_main.specs.Outside.{Outside}
 use Rattle.plane_main.specs.Wanted.{wanted, with_devices}
 use Rattle.plane_main.specs.Settle.{Settled, SettledInPart}
-
--- what a run changes outside, before it or after it
-pub record Outside : Type 0 where
-  pub out : Option (List ℕ)
-  pub devices : Devices
-  pub objects : Objects
-  pub calls : Option (List Call)
-  pub out_faults : ℕ
-  pub kernel_faults : ℕ
 
 -- the device and the address of an interface are of their form
 abbrev pub IsSound : Interface → Type 0
@@ -41,12 +33,19 @@ pub record Came (names : List (List ℕ)) (devices : Devices) (before now : ℕ)
   pub present : devices ≡ with_devices map.empty (filter (is_present devices) names)
   pub absent : RoseBy (absent_count devices names) before now
 
+-- a front of the named devices was tried so, perhaps none or all of them
+pub record CameInFront (names : List (List ℕ)) (devices : Devices) (before now : ℕ) : Type 0 where
+  pub front : List (List ℕ)
+  pub back : List (List ℕ)
+  pub parts : names ≡ front ++ back
+  pub came : Came front devices before now
+
 -- all calls that lead from nothing to what the interfaces want were made, and their lines written
 pub record Finished (names : List (List ℕ)) (interfaces : List Interface) (before after : Outside) : Type 0 where
   pub calls : List Call
   pub came : Came names after.devices before.kernel_faults after.kernel_faults
   pub order : AreCalls after.devices set.empty (wanted interfaces after.devices) calls
-  pub settled : Settled calls [] set.empty after.objects before.calls after.calls before.out after.out
+  pub settled : Settled calls [] before after
   pub held : after.objects ≡ wanted interfaces after.devices
 
 -- how many objects are in one of what is held and what is wanted, and not in the other
@@ -61,7 +60,7 @@ pub record StoppedAtCall (left : ℕ) (names : List (List ℕ)) (interfaces : Li
   pub present : after.devices ≡ with_devices map.empty (filter (is_present after.devices) names)
   pub absent : RoseBy (absent_count after.devices names + 1) before.kernel_faults after.kernel_faults
   pub order : AreCalls after.devices set.empty (wanted interfaces after.devices) calls
-  pub settled : Settled calls rest set.empty after.objects before.calls after.calls before.out after.out
+  pub settled : Settled calls rest before after
   pub due : AreCalls after.devices after.objects (wanted interfaces after.devices) rest
   pub count : length rest ≡ left
   pub objects : due_count after.objects (wanted interfaces after.devices) ≡ left
@@ -73,19 +72,20 @@ pub record StoppedAtLine (names : List (List ℕ)) (interfaces : List Interface)
   pub rest : List Call
   pub came : Came names after.devices before.kernel_faults after.kernel_faults
   pub order : AreCalls after.devices set.empty (wanted interfaces after.devices) calls
-  pub settled : SettledInPart calls rest set.empty after.objects before.calls after.calls before.out after.out
+  pub settled : SettledInPart calls rest before after
   pub cause : Rose before.out_faults after.out_faults
 
--- no object was put and nothing was written; devices may have been added
-pub record NothingMade (before after : Outside) : Type 0 where
+-- memory was lacking: the output is as it was, and so is the kernel, but for a front of the named devices
+pub record LackedMemory (names : List (List ℕ)) (before after : Outside) : Type 0 where
   pub out : after.out ≡ before.out
-  pub objects : after.objects ≡ set.empty
+  pub objects : after.objects ≡ before.objects
   pub calls : after.calls ≡ before.calls
+  pub came : CameInFront names after.devices before.kernel_faults after.kernel_faults
 
 -- the endings of bringing up, and what they leave
 abbrev pub BringUpEnds : List (List ℕ) → List Interface → Outside → Outside → Ending → Type 0
 BringUpEnds names interfaces before after ending.Done = Finished names interfaces before after
-BringUpEnds names interfaces before after ending.OutOfMemory = NothingMade before after
+BringUpEnds names interfaces before after ending.OutOfMemory = LackedMemory names before after
 BringUpEnds names interfaces before after (ending.KernelFailed left) = StoppedAtCall left names interfaces before after
 BringUpEnds names interfaces before after ending.WriteFailed = StoppedAtLine names interfaces before after
 BringUpEnds names interfaces before after _ = ⊥

@@ -1,8 +1,13 @@
--- How a run ends: its exit status, and its text on the error output.
-use Rattle.std.specs.Prelude.{ℕ, List, [], ◌++◌, codes, decimal}
-use Rattle.uci_tree.specs.Fault.{reason_text}
+-- How a run ends: its exit status, and its text on the error output. The texts are those of the program (`texts.rt`).
+use Rattle.std.specs.Prelude.{ℕ, ◌≡◌, ◌⊎◌, List, [], ◌++◌, decimal, ⊤, IsSomeAnd}
+use Rattle.plane_words.specs.Causes.{DidNotRise}
+use Rattle.plane_words.specs.Growth.{Grows, GrowsByFront}
+use Rattle.uci_tree.specs.declared.tree_error.TreeError.{TreeError}
+use Rattle.uci_tree.specs.Fault.{reason_text, fault_of}
 use Rattle.plane_main.specs.declared.ending.Ending.{Ending}
 use Rattle.plane_main.specs.declared.ending.Ending.TheVariants as ending
+use Rattle.plane_main.specs.declared.texts.TheConstants as texts
+use Rattle.plane_main.specs.Outside.{ErrorOutput}
 
 -- the exit status
 abbrev pub status_of : Ending → ℕ
@@ -19,11 +24,52 @@ status_of ending.NotBuilt = 11
 -- the text, nothing for a good end
 abbrev pub text_of : Ending → List ℕ
 text_of ending.Done = []
-text_of ending.Usage = codes "plane: usage\n"
-text_of ending.ReadFailed = codes "plane: read failed\n"
-text_of ending.WriteFailed = codes "plane: write failed\n"
-text_of (ending.KernelFailed left) = codes "plane: kernel: " ++ decimal left ++ codes " due\n"
-text_of ending.OutOfMemory = codes "plane: out of memory\n"
-text_of (ending.Unreadable fault) = codes "plane: network: line " ++ decimal fault.line ++ codes ": " ++ reason_text fault.reason ++ codes "\n"
-text_of (ending.TooLong limit) = codes "plane: limit " ++ decimal limit ++ codes "\n"
-text_of ending.NotBuilt = codes "plane: not built\n"
+text_of ending.Usage = texts.USAGE.now
+text_of ending.ReadFailed = texts.READ_FAILED.now
+text_of ending.WriteFailed = texts.WRITE_FAILED.now
+text_of (ending.KernelFailed left) = texts.KERNEL.now ++ decimal left ++ texts.DUE.now
+text_of ending.OutOfMemory = texts.OUT_OF_MEMORY.now
+text_of (ending.Unreadable fault) = texts.NETWORK_LINE.now ++ decimal fault.line ++ texts.COLON.now ++ reason_text fault.reason ++ texts.NEWLINE.now
+text_of (ending.TooLong limit) = texts.LIMIT.now ++ decimal limit ++ texts.NEWLINE.now
+text_of ending.NotBuilt = texts.NOT_BUILT.now
+
+-- the text is on the error output, all of it where no fault was counted there, and else a front of it
+pub record IsTold (text : List ℕ) (errors : ErrorOutput) : Type 0 where
+  pub front : GrowsByFront errors.held errors.held_now text
+  pub whole : DidNotRise errors.faults errors.faults_now → Grows errors.held errors.held_now text
+
+-- a device failed
+abbrev pub IsFailure : Ending → Type 0
+IsFailure ending.ReadFailed = ⊤
+IsFailure ending.WriteFailed = ⊤
+IsFailure (ending.KernelFailed left) = ⊤
+IsFailure _ = ⊥
+
+-- objects are due
+abbrev pub IsKernelFailed : Ending → Type 0
+IsKernelFailed (ending.KernelFailed left) = ⊤
+IsKernelFailed _ = ⊥
+
+-- the run was cut short, at its input, at its output or for want of memory
+abbrev pub IsCutShort : Ending → Type 0
+IsCutShort ending.ReadFailed = ⊤
+IsCutShort ending.WriteFailed = ⊤
+IsCutShort ending.OutOfMemory = ⊤
+IsCutShort _ = ⊥
+
+-- nothing was done outside but reading
+abbrev pub IsEarly : Ending → Type 0
+IsEarly ending.Usage = ⊤
+IsEarly ending.ReadFailed = ⊤
+IsEarly (ending.TooLong limit) = ⊤
+IsEarly (ending.Unreadable fault) = ⊤
+IsEarly ending.NotBuilt = ⊤
+IsEarly _ = ⊥
+
+-- the fault of this error is told
+abbrev pub Tells : TreeError → Ending → Type 0
+Tells error end = IsSomeAnd (fault_of error) (λ fault. end ≡ ending.Unreadable fault)
+
+-- that, or want of memory
+abbrev pub OrLacksMemory : Type 0 → Ending → Type 0
+OrLacksMemory fact end = fact ⊎ (end ≡ ending.OutOfMemory)

@@ -12,7 +12,7 @@ use Rattle.uci_tree.specs.declared.package.Section.{Section}
 use Rattle.uci_tree.specs.declared.package.Package.{Package}
 use Rattle.uci_tree.specs.Reading.{Reads}
 use Rattle.plane_main.specs.declared.interface.Interface.{Interface}
-use Rattle.plane_main.specs.Words.{IsPlainName}
+use Rattle.kern_model.specs.VlanName.{IsPlainName}
 
 -- the text of a value that is no list
 abbrev pub single : Value → Option (List ℕ)

@@ -7,7 +7,7 @@ use Rattle.net_addr.specs.declared.address.Addr.{Addr}
 use Rattle.net_addr.specs.declared.address.Addr.TheVariants as family
 use Rattle.uci_tree.specs.declared.package.Opt.{Opt}
 use Rattle.plane_main.specs.Form.{value_of}
-use Rattle.plane_main.specs.Words.{IsPlainName}
+use Rattle.kern_model.specs.VlanName.{IsPlainName}
 
 -- `device` is given, and is this plain name
 pub record GivesDevice (options : List Opt) (device : List ℕ) : Type 0 where

@@ -1,110 +1,60 @@
--- Why a run ends so, and what it leaves.
-use Rattle.std.specs.Prelude.{ℕ, ◌≡◌, ◌≤◌, ◌⊎◌, List, length, Option, Some, ⊤}
-use Rattle.plane_words.specs.Causes.{Rose, DidNotRise}
-use Rattle.plane_words.specs.Growth.{Grows, GrowsByFront}
-use Rattle.plane_io.specs.Source.{IsAllThatWasLeft, HadMoreThan}
-use Rattle.uci_tree.specs.declared.fault.Fault.{Fault}
-use Rattle.uci_tree.specs.declared.tree_error.TreeError.{TreeError}
-use Rattle.uci_tree.specs.Fault.{fault_of}
-use Rattle.uci_tree.specs.Reading.{HasTreeFault}
-use Rattle.plane_main.specs.declared.interface.Interface.{Interface}
+-- How a run of the program ends, and when: by cases on its command. A command adds a case to each of the two relations.
+use Rattle.std.specs.Prelude.{ℕ, ◌≡◌, List}
+use Rattle.plane_main.specs.declared.command.Command.{Command}
+use Rattle.plane_main.specs.declared.command.Command.TheVariants.{Start, Show}
 use Rattle.plane_main.specs.declared.ending.Ending.{Ending}
 use Rattle.plane_main.specs.declared.ending.Ending.TheVariants as ending
-use Rattle.plane_main.specs.Ending.{status_of, text_of}
-use Rattle.plane_main.specs.declared.page.Page.{Page}
-use Rattle.plane_main.specs.Words.{IsStart, IsStartCommand, IsPage}
-use Rattle.plane_main.specs.Pages.{Told}
-use Rattle.plane_main.specs.Form.{IsNetwork, IsOutOfForm}
-use Rattle.plane_main.specs.Start.{input_limit}
-use Rattle.plane_main.specs.Bring.{Outside, Finished, StoppedAtCall, StoppedAtLine, NothingMade}
+use Rattle.plane_main.specs.Outside.{Input, Outside, ErrorOutput}
+use Rattle.plane_main.specs.Command.{AskFor, IsCommand, IsStartCommand, IsPageCommand}
+use Rattle.plane_main.specs.Ending.{status_of, text_of, IsTold, IsEarly, OrLacksMemory}
+use Rattle.plane_main.specs.Start.{StartEnds, StartComes}
+use Rattle.plane_main.specs.Page.{PageEnds, PageComes}
 
--- what a run sees of its input: what was left and is left now, where the source tells, and its counts of faults then
--- and now
-pub record Input : Type 0 where
-  pub left : Option (List ℕ)
-  pub left_now : Option (List ℕ)
-  pub faults : ℕ
-  pub faults_now : ℕ
+-- why a run of a command ends so, and what it leaves
+abbrev pub CommandEnds : Command → Input → Outside → Outside → Ending → Type 0
+CommandEnds (Start devices) input before after end = StartEnds devices input before after end
+CommandEnds (Show page) input before after end = PageEnds page before after end
 
--- the input was read to its end, and the interfaces are those of its text, which is within the limit
-pub record AreRead (input : Input) (interfaces : List Interface) : Type 0 where
-  pub text : List ℕ
-  pub all : IsAllThatWasLeft input.left input.left_now text
-  pub within : length text ≤ input_limit
-  pub network : IsNetwork text interfaces
-
--- the input was read to its end, and its text is within the limit and no package, with this fault
-pub record IsUnreadable (input : Input) (fault : Fault) : Type 0 where
-  pub text : List ℕ
-  pub all : IsAllThatWasLeft input.left input.left_now text
-  pub within : length text ≤ input_limit
-  pub error : TreeError
-  pub refused : HasTreeFault text error
-  pub told : fault_of error ≡ Some fault
-
--- the input was read to its end, and its text is within the limit and a package that is not of the form
-pub record IsNotBuilt (input : Input) : Type 0 where
-  pub text : List ℕ
-  pub all : IsAllThatWasLeft input.left input.left_now text
-  pub within : length text ≤ input_limit
-  pub refused : IsOutOfForm text
-
--- no interfaces were read, and why
-abbrev pub ReadEnds : Input → Ending → Type 0
-ReadEnds input ending.ReadFailed = Rose input.faults input.faults_now
-ReadEnds input (ending.TooLong limit) = (limit ≡ input_limit) × HadMoreThan input_limit input.left
-ReadEnds input (ending.Unreadable fault) = IsUnreadable input fault
-ReadEnds input ending.NotBuilt = IsNotBuilt input
-ReadEnds input ending.OutOfMemory = ⊤
-ReadEnds input _ = ⊥
-
--- the words name devices, the text gives interfaces, and this was done with them
-pub record Ran (words : List (List ℕ)) (input : Input) (Did : List (List ℕ) → List Interface → Type 0) : Type 0 where
-  pub names : List (List ℕ)
-  pub interfaces : List Interface
-  pub command : IsStart words names
-  pub read : AreRead input interfaces
-  pub did : Did names interfaces
+-- when a run of a command ends so
+abbrev pub CommandComes : Command → Input → Outside → Outside → Ending → Type 0
+CommandComes (Start devices) input before after end = StartComes input before after end
+CommandComes (Show page) input before after end = PageComes before after end
 
 -- why a run ends so, and what it leaves
-abbrev pub RunEnds : List (List ℕ) → Input → Outside → Outside → Ending → Type 0
-RunEnds words input before after ending.Done = Ran words input (λ names interfaces. Finished names interfaces before after)
-RunEnds words input before after ending.Usage = IsStartCommand words → ⊥
-RunEnds words input before after ending.ReadFailed = IsStartCommand words × Rose input.faults input.faults_now
-RunEnds words input before after ending.WriteFailed = Ran words input (λ names interfaces. StoppedAtLine names interfaces before after)
-RunEnds words input before after (ending.KernelFailed left) = Ran words input (λ names interfaces. StoppedAtCall left names interfaces before after)
-RunEnds words input before after ending.OutOfMemory = NothingMade before after
-RunEnds words input before after (ending.TooLong limit) = IsStartCommand words × (limit ≡ input_limit) × HadMoreThan input_limit input.left
-RunEnds words input before after (ending.Unreadable fault) = IsStartCommand words × IsUnreadable input fault
-RunEnds words input before after ending.NotBuilt = IsStartCommand words × IsNotBuilt input
+pub data Ends (words : List (List ℕ)) (input : Input) (before after : Outside) (end : Ending) : Type 0 where
+  -- the words ask for a command, and it ended so
+  of_command : (command : Command) → AskFor words command → CommandEnds command input before after end → Ends words input before after end
+  -- they are in no row of the table
+  of_no_command : (IsCommand words → ⊥) → end ≡ ending.Usage → Ends words input before after end
+  -- memory was lacking while they were read, which takes none for a page
+  of_unread_words : (IsPageCommand words → ⊥) → after ≡ before → end ≡ ending.OutOfMemory → Ends words input before after end
 
--- the words ask for a page, and this came of it: nothing was done to the kernel
-pub record PageRan (words : List (List ℕ)) (before after : Outside) (end : Ending) : Type 0 where
-  pub page : Page
-  pub asked : IsPage words page
-  pub told : Told page before.out after.out before.out_faults after.out_faults end
-  pub devices : after.devices ≡ before.devices
-  pub objects : after.objects ≡ before.objects
-  pub calls : after.calls ≡ before.calls
+-- when a run ends so
+pub record Comes (words : List (List ℕ)) (input : Input) (before after : Outside) (end : Ending) : Type 0 where
+  pub command : (command : Command) → AskFor words command → CommandComes command input before after end
+  pub no_command : (IsCommand words → ⊥) → OrLacksMemory (end ≡ ending.Usage) end
 
--- why the program ends so, and what it leaves: as a `start` does where the words ask for no page
-abbrev pub ProgramEnds : List (List ℕ) → Input → Outside → Outside → Ending → Type 0
-ProgramEnds words input before after end = (RunEnds words input before after end × ((page : Page) → IsPage words page → ⊥)) ⊎ PageRan words before after end
+-- A run ends with an ending, whose status is the answer: it has its cause, it comes where it must, and its text is on
+-- the error output.
+pub record Ended (words : List (List ℕ)) (input : Input) (before after : Outside) (errors : ErrorOutput) (answer : ℕ) : Type 0 where
+  pub end : Ending
+  pub status : status_of end ≡ answer
+  pub cause : Ends words input before after end
+  pub comes : Comes words input before after end
+  pub told : IsTold (text_of end) errors
 
--- A run ends with an ending: its status is the answer, and its text is on the error output, wholly where the count of
--- faults there did not rise, and otherwise in front.
-pub record Ended (words : List (List ℕ)) (input : Input) (before after : Outside) (err err' : Option (List ℕ)) (faults faults' : ℕ) (answer : ℕ) : Type 0 where
-  pub ending : Ending
-  pub status : status_of ending ≡ answer
-  pub cause : ProgramEnds words input before after ending
-  pub told : GrowsByFront err err' (text_of ending)
-  pub wholly : DidNotRise faults faults' → Grows err err' (text_of ending)
+-- Which devices a run leaves wholly alone, as the values that they are. They are the input, the output and the kernel,
+-- each before and after.
+pub record LeavesAlone {S O K : Type 0} (words : List (List ℕ)) (end : Ending) (before after : S × O × K) : Type 0 where
+  pub input : (IsStartCommand words → ⊥) → after.0 ≡ before.0
+  pub out : IsEarly end → after.1 ≡ before.1
+  pub out_unfilled : end ≡ ending.OutOfMemory → after.1 ≡ before.1
+  pub out_unasked : (IsCommand words → ⊥) → after.1 ≡ before.1
+  pub kernel : IsEarly end → after.2 ≡ before.2
+  pub kernel_unasked : (IsStartCommand words → ⊥) → after.2 ≡ before.2
 
--- the endings before which nothing was done outside but reading
-abbrev pub IsEarly : Ending → Type 0
-IsEarly ending.Usage = ⊤
-IsEarly ending.ReadFailed = ⊤
-IsEarly (ending.TooLong limit) = ⊤
-IsEarly (ending.Unreadable fault) = ⊤
-IsEarly ending.NotBuilt = ⊤
-IsEarly _ = ⊥
+-- a run with this answer leaves those devices alone
+pub record LeftAlone {S O K : Type 0} (words : List (List ℕ)) (answer : ℕ) (before after : S × O × K) : Type 0 where
+  pub end : Ending
+  pub status : status_of end ≡ answer
+  pub alone : LeavesAlone words end before after

@@ -1,32 +1,63 @@
 -- How far a settling came: the calls that were made, what they made the kernel hold, and their lines.
-use Rattle.std.specs.Prelude.{ℕ, ◌≡◌, List, [], ◌∷◌, ◌++◌, Option}
+use Rattle.std.specs.Prelude.{ℕ, ◌≡◌, ◌<◌, List, [], ◌∷◌, ◌++◌, codes, length}
+use Rattle.std.specs.List.{flat_map}
+use Rattle.plane_words.specs.Causes.{Rose}
 use Rattle.plane_words.specs.Growth.{Grows}
 use Rattle.kern_model.specs.declared.object.Call.{Call}
-use Rattle.kern_model.specs.ObjectOrder.{Objects}
-use Rattle.kern_model.specs.Kernel.{LogsAll}
 use Rattle.kern_model.specs.CallOrder.{after_calls}
 use Rattle.kern_model.specs.Line.{line_of}
-use Rattle.plane_main.specs.Texts.{lines_of}
+use Rattle.plane_main.specs.declared.ending.Ending.{Ending}
+use Rattle.plane_main.specs.declared.ending.Ending.TheVariants as ending
+use Rattle.plane_main.specs.Outside.{Outside}
+
+-- the line of a call, with its newline
+abbrev pub whole_line : Call → List ℕ
+whole_line call = line_of call ++ codes "\n"
+
+-- the lines of the calls
+abbrev pub lines_of : List Call → List ℕ
+lines_of calls = flat_map whole_line calls
 
 -- these calls were made, and the kernel holds what they made
-pub record Made (made : List Call) (objects objects' : Objects) (log log' : Option (List Call)) : Type 0 where
-  pub held : objects' ≡ after_calls objects made
-  pub logged : LogsAll log log' made
+pub record Made (made : List Call) (before after : Outside) : Type 0 where
+  pub held : after.objects ≡ after_calls before.objects made
+  pub logged : Grows before.calls after.calls made
 
 -- all calls but the rest were made, and their lines written
-pub record Settled (calls rest : List Call) (objects objects' : Objects) (log log' : Option (List Call)) (out out' : Option (List ℕ)) : Type 0 where
+pub record Settled (calls rest : List Call) (before after : Outside) : Type 0 where
   pub made : List Call
   pub parts : calls ≡ made ++ rest
-  pub done : Made made objects objects' log log'
-  pub printed : Grows out out' (lines_of made)
+  pub done : Made made before after
+  pub printed : Grows before.out after.out (lines_of made)
 
 -- all calls but the rest were made, and their lines written, of the last one but a front
-pub record SettledInPart (calls rest : List Call) (objects objects' : Objects) (log log' : Option (List Call)) (out out' : Option (List ℕ)) : Type 0 where
+pub record SettledInPart (calls rest : List Call) (before after : Outside) : Type 0 where
   pub earlier : List Call
   pub last : Call
   pub parts : calls ≡ earlier ++ last ∷ rest
-  pub done : Made (earlier ++ last ∷ []) objects objects' log log'
+  pub done : Made (earlier ++ last ∷ []) before after
   pub front : List ℕ
   pub back : List ℕ
-  pub line : line_of last ++ 10 ∷ [] ≡ front ++ back
-  pub printed : Grows out out' (lines_of earlier ++ front)
+  pub line : whole_line last ≡ front ++ back
+  pub printed : Grows before.out after.out (lines_of earlier ++ front)
+
+-- a call failed, and so many were left, the failed one among them
+pub record StopsAtCall (calls : List Call) (left : ℕ) (before after : Outside) : Type 0 where
+  pub rest : List Call
+  pub count : length rest ≡ left
+  pub some : 0 < left
+  pub settled : Settled calls rest before after
+  pub cause : Rose before.kernel_faults after.kernel_faults
+
+-- a line was not written, or not wholly
+pub record StopsAtLine (calls : List Call) (before after : Outside) : Type 0 where
+  pub rest : List Call
+  pub settled : SettledInPart calls rest before after
+  pub cause : Rose before.out_faults after.out_faults
+
+-- the endings of a settling
+abbrev pub SettleEnds : List Call → Outside → Outside → Ending → Type 0
+SettleEnds calls before after ending.Done = Settled calls [] before after
+SettleEnds calls before after (ending.KernelFailed left) = StopsAtCall calls left before after
+SettleEnds calls before after ending.WriteFailed = StopsAtLine calls before after
+SettleEnds calls before after _ = ⊥

@@ -8,6 +8,7 @@ use Rattle.kern_model.specs.declared.object.DevEvent.{DevEvent}
 use Rattle.kern_model.specs.declared.object.DevEvent.TheVariants as event
 use Rattle.kern_model.specs.ObjectOrder.{Objects}
 use Rattle.kern_model.specs.Kernel.{Devices, is_present, after_event}
+use Rattle.plane_main.specs.declared.bring_up.TheConstants.{ETHERNET_MTU}
 use Rattle.plane_main.specs.declared.interface.Interface.{Interface}
 
 -- an interface on a present device wants it up, and its address on it
@@ -22,9 +23,9 @@ all_objects_of present interfaces = flat_map (objects_of present) interfaces
 abbrev pub wanted : List Interface → Devices → Objects
 wanted interfaces devices = set.from_list (all_objects_of (is_present devices) interfaces)
 
--- a device of this name comes, with carrier, an MTU of 1500 bytes and a hardware address of zeros
+-- a device of this name comes, with carrier, the MTU of Ethernet and a hardware address of zeros
 abbrev pub comes : List ℕ → DevEvent
-comes name = event.Add name true 1500 (record { 0 = replicate 6 0 })
+comes name = event.Add name true ETHERNET_MTU (record { 0 = replicate 6 0 })
 
 -- the devices after those of these names came in turn
 abbrev pub with_devices : Devices → List (List ℕ) → Devices

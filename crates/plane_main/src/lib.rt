@@ -3,6 +3,7 @@
 
 mod bring_up;
 mod carry_out;
+mod command;
 mod ending;
 mod interface;
 mod laws;
@@ -13,9 +14,11 @@ mod program;
 mod report;
 mod settle;
 mod start;
-mod words;
+mod texts;
 
+pub use command::{Command, read_command};
 pub use interface::Interface;
-pub use laws::{one_network, one_start};
+pub use laws::{one_command, one_list_of_interfaces};
 pub use locations::{Locations, places};
-pub use program::plane;
+pub use page::Page;
+pub use program::{lack_memory, plane};

@@ -1,9 +1,8 @@
 ghost use Rattle.std.specs.Prelude.{map, string_bytes, IfOk, IfSome, IfNone};
-ghost use Rattle.plane_main.specs.Places.{IsNowhere};
-ghost use Rattle.plane_main.specs.Words.{IsCommand};
+ghost use Rattle.plane_main.specs.Locations.{IsNowhere};
+ghost use Rattle.plane_main.specs.Command.{IsCommand};
 
-use crate::page::read_page;
-use crate::words::start_names;
+use crate::command::read_command;
 use plane_io::Memory;
 use std::alloc::Global;
 
@@ -21,13 +20,15 @@ pub struct Locations {
 
 /// Where the devices of the command are, or `None` where the words are not in the table of commands.
 pub fn places(alloc: Global, words: &[String]) -> Result<Option<Locations>, Memory>
-    ensures found { IfOk result (λ found. IfSome found (λ locations. IsCommand (map string_bytes words.now))) }
-    ensures none { IfOk result (λ found. IfNone found (IsCommand (map string_bytes words.now) → ⊥)) }
+    ensures found { IfOk result (λ found.
+        IfSome found (λ locations. IsCommand (map string_bytes words.now))) }
+    ensures none { IfOk result (λ found.
+        IfNone found (IsCommand (map string_bytes words.now) → ⊥)) }
     ensures nowhere { IfOk result (λ found. IfSome found (λ locations. IsNowhere locations)) }
 {
-    if read_page(words).is_none() && start_names(alloc, words)?.is_none() {
+    let Some(_) = read_command(alloc, words)? else {
         return Ok(None);
-    }
+    };
     Ok(Some(Locations {
         files: String::new(alloc),
         staged: String::new(alloc),

@@ -1,56 +1,48 @@
-ghost use Rattle.std.specs.Prelude.{◌≡◌, ◌≤◌, ◌⊎◌, ℕ, List, map, string_bytes, IfOk, IfErr, IfSome, IfNone};
-ghost use Rattle.std.specs.FinSet as set;
-ghost use Rattle.std.specs.FinMap as map;
+ghost use Rattle.std.specs.Prelude.{◌≡◌, IfOk, IfErr, IfSome, IfNone};
 ghost use Rattle.plane_words.specs.Distinct.{AreDistinct};
 ghost use Rattle.uci_tree.specs.Fault.{fault_of};
-ghost use Rattle.plane_main.specs.Words.{IsStartCommand};
+ghost use Rattle.plane_main.specs.Outside.{IsBare, input_of, outside_of};
+ghost use Rattle.plane_main.specs.Ending.{IsEarly};
 ghost use Rattle.plane_main.specs.Bring.{AreSound, BringUpEnds};
-ghost use Rattle.plane_main.specs.Run.{AreRead, ReadEnds, RunEnds, IsEarly};
+ghost use Rattle.plane_main.specs.Start.{AreRead, ReadEnds, StartEnds};
 
-use crate::bring_up::{add_devices, wanted_objects};
+use crate::bring_up::{add_devices, wanted_calls};
 use crate::ending::Ending;
 use crate::interface::Interface;
 use crate::network::read_network;
-use crate::settle::{Stop, settle};
-use crate::words::start_names;
-use kern_model::{DevName, Kernel, calls_from_nothing};
-use plane_io::{InputError, Sink, Source, read_to_end};
+use crate::settle::settle;
+use kern_model::{DevName, Kernel};
+use plane_io::{INPUT_LIMIT, InputError, Sink, Source, read_to_end};
 use std::alloc::Global;
 use uci_tree::TreeError;
-
-/// How many bytes the input has at most.
-const INPUT_LIMIT: u64 = 1_048_576;
 
 /// Adds the named devices to a kernel that has none, and brings the interfaces of the input up on them.
 pub fn start<S: Source, O: Sink, K: Kernel>(
     alloc: Global,
-    words: &[String],
+    devices: &[DevName],
     input: &mut S,
     out: &mut O,
     kernel: &mut K,
 ) -> Ending
-    requires bare { (K.objects kernel.old ≡ set.empty) × (K.devices kernel.old ≡ map.empty) }
-    ensures cause { RunEnds (map string_bytes words.now) (record { left = S.left input.old; left_now = S.left input.new; faults = S.faults input.old; faults_now = S.faults input.new })
-        (record { out = O.held out.old; devices = K.devices kernel.old; objects = K.objects kernel.old; calls = K.calls kernel.old; out_faults = O.faults out.old; kernel_faults = K.faults kernel.old })
-        (record { out = O.held out.new; devices = K.devices kernel.new; objects = K.objects kernel.new; calls = K.calls kernel.new; out_faults = O.faults out.new; kernel_faults = K.faults kernel.new })
-        result }
-    ensures unread { (IsStartCommand (map string_bytes words.now) → ⊥) → (input.new ≡ input.old) × (out.new ≡ out.old) × (kernel.new ≡ kernel.old) }
+    requires bare { IsBare K.Kernel kernel.old }
+    requires distinct { AreDistinct devices.now }
+    ensures cause { StartEnds devices.now
+        (input_of S.Source input.old input.new)
+        (outside_of O.Sink K.Kernel out.old kernel.old)
+        (outside_of O.Sink K.Kernel out.new kernel.new) result }
     ensures early { IsEarly result → (out.new ≡ out.old) × (kernel.new ≡ kernel.old) }
+    ensures memory { result ≡ Ending.OutOfMemory → out.new ≡ out.old }
 {
-    let names = match start_names(alloc, words) {
-        Ok(Some(names)) => names,
-        Ok(None) => return Ending::Usage,
-        Err(_) => return Ending::OutOfMemory,
-    };
     match read_interfaces(alloc, input) {
-        Ok(interfaces) => bring_up(alloc, &names, &interfaces, kernel, out),
+        Ok(interfaces) => bring_up(alloc, devices, &interfaces, kernel, out),
         Err(ending) => ending,
     }
 }
 
 fn read_interfaces<S: Source>(alloc: Global, input: &mut S) -> Result<Vec<Interface>, Ending>
-    ensures found { IfOk result (λ interfaces. AreRead (record { left = S.left input.old; left_now = S.left input.new; faults = S.faults input.old; faults_now = S.faults input.new }) interfaces.items) }
-    ensures refused { IfErr result (ReadEnds (record { left = S.left input.old; left_now = S.left input.new; faults = S.faults input.old; faults_now = S.faults input.new })) }
+    ensures found { IfOk result (λ interfaces.
+        AreRead (input_of S.Source input.old input.new) interfaces.items) }
+    ensures refused { IfErr result (ReadEnds (input_of S.Source input.old input.new)) }
 {
     let text = match read_to_end(alloc, input, INPUT_LIMIT) {
         Ok(text) => text,
@@ -61,12 +53,12 @@ fn read_interfaces<S: Source>(alloc: Global, input: &mut S) -> Result<Vec<Interf
     match read_network(alloc, &text) {
         Ok(Some(interfaces)) => Ok(interfaces),
         Ok(None) => Err(Ending::NotBuilt),
-        Err(error) => Err(unread(error)),
+        Err(error) => Err(refusal(error)),
     }
 }
 
-/// How a run ends whose input was not read as a package.
-fn unread(error: TreeError) -> Ending
+/// How a run ends whose input is no package, or was not read as one.
+fn refusal(error: TreeError) -> Ending
     ensures unreadable { IfSome (fault_of error) (λ fault. result ≡ Ending.Unreadable fault) }
     ensures lacking { IfNone (fault_of error) (result ≡ Ending.OutOfMemory) }
 {
@@ -83,26 +75,19 @@ fn bring_up<K: Kernel, O: Sink>(
     kernel: &mut K,
     out: &mut O,
 ) -> Ending
-    requires bare { (K.objects kernel.old ≡ set.empty) × (K.devices kernel.old ≡ map.empty) }
+    requires bare { IsBare K.Kernel kernel.old }
     requires distinct { AreDistinct names.now }
     requires sound { AreSound interfaces.now }
     ensures cause { BringUpEnds names.now interfaces.now
-        (record { out = O.held out.old; devices = K.devices kernel.old; objects = K.objects kernel.old; calls = K.calls kernel.old; out_faults = O.faults out.old; kernel_faults = K.faults kernel.old })
-        (record { out = O.held out.new; devices = K.devices kernel.new; objects = K.objects kernel.new; calls = K.calls kernel.new; out_faults = O.faults out.new; kernel_faults = K.faults kernel.new })
-        result }
+        (outside_of O.Sink K.Kernel out.old kernel.old)
+        (outside_of O.Sink K.Kernel out.new kernel.new) result }
+    ensures memory { result ≡ Ending.OutOfMemory → out.new ≡ out.old }
 {
     let Ok(present) = add_devices(alloc, names, kernel) else {
         return Ending::OutOfMemory;
     };
-    let Ok(objects) = wanted_objects(alloc, interfaces, &present) else {
+    let Ok(calls) = wanted_calls(alloc, interfaces, &present) else {
         return Ending::OutOfMemory;
     };
-    let Ok(calls) = calls_from_nothing(alloc, &objects) else {
-        return Ending::OutOfMemory;
-    };
-    match settle(&calls, kernel, out) {
-        Ok(()) => Ending::Done,
-        Err(Stop::KernelFailed { left }) => Ending::KernelFailed { left },
-        Err(Stop::WriteFailed) => Ending::WriteFailed,
-    }
+    settle(&calls, kernel, out)
 }

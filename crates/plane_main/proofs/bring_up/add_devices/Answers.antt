@@ -6,12 +6,11 @@ use Rattle.std.specs.Cmp.Lexicographic.{slice_cmp, nat_list_cmp_total}
 use Rattle.std.specs.BTreeSet.{contains}
 use Rattle.std.specs.BTreeMap.{is_at}
 use Rattle.std.specs.List.{list_any}
-use Rattle.std.proofs.lemmas.List.{take_more}
 use Rattle.std.proofs.lemmas.List.Elements.{Contains-append_left, Contains-push}
 use Rattle.kern_model.specs.Kernel.{is_present, after_event}
 use Rattle.plane_main.specs.Wanted.{comes}
 use Rattle.plane_main.specs.Bring.{Came}
-use Rattle.plane_main.proofs.DeviceLemmas.{none_present, may_come, not_before, present_after, same_name, either, added, came_none, came_more, came_not, now_there, others_stay, false_of_not}
+use Rattle.plane_main.proofs.DeviceLemmas.{none_present, may_come, not_before, present_after, same_name, either, added, came_none, came_not, came_next, came_in_front, one_more, false_of_not}
 use Rattle.plane_main.proofs.bring_up.add_devices.Goals as goal
 
 pub loop-name-init : goal.loop-name-init
@@ -36,26 +35,26 @@ loop-name-preserved g c =
     let names = c.args.names.now in
     let index = c.loop-name.name-index in
     let name = c.name-item.result in
-    let more : take (index + 1) names ≡ take index names ++ name ∷ [] = take_more names index name (omega arith) ∙ ap (λ x. take index names ++ x ∷ []) (sym c.name-item.is) in
-    let new : Contains (take index names) name → ⊥ = not_before names index name c.requires.distinct (omega arith) (sym c.name-item.is) in
-    let did : g.K.Kernel.devices c.environment.new.self ≡ after_event (g.K.Kernel.devices c.loop-name.kernel) (comes name) = c.in-Ok.ensures.did in
-    let now_present : (q : List ℕ) → is_present (g.K.Kernel.devices c.environment.new.self) q ≡ (eq_by_cmp (slice_cmp nat_cmp) q name || is_present (g.K.Kernel.devices c.loop-name.kernel) q) = λ q. ap (λ d. is_present d q) did ∙ present_after (g.K.Kernel.devices c.loop-name.kernel) name q _ in
+    let before = g.K.Kernel.devices c.loop-name.kernel in
+    let after = g.K.Kernel.devices c.environment.new.self in
+    let more : take (index + 1) names ≡ take index names ++ name ∷ [] = one_more names index name c.requires.distinct (omega arith) (sym c.name-item.is) in
+    let did : after ≡ after_event before (comes name) = c.in-Ok.ensures.did in
+    let now_present : (q : List ℕ) → is_present after q ≡ (eq_by_cmp (slice_cmp nat_cmp) q name || is_present before q) = λ q. ap (λ d. is_present d q) did ∙ present_after before name q _ in
     record {
       objects = c.in-Ok.ensures.stayed ∙ c.loop-name.invariant.objects;
       calls = c.environment.ensures.calls ∙ c.loop-name.invariant.calls;
       later = omega arith;
-      present = λ q. c.in_ok-insert.ensures.updates.0 q ∙ added (is_at (slice_cmp nat_cmp name) q) (contains (slice_cmp nat_cmp) c.loop-name.present q) ∙ ap (λ b. b || contains (slice_cmp nat_cmp) c.loop-name.present q) ((eq_by_cmp_equiv nat_list_cmp_total).symm name q) ∙ ap (λ b. eq_by_cmp (slice_cmp nat_cmp) q name || b) (c.loop-name.invariant.present q) ∙ sym (now_present q);
-      only = λ q h. elim (either (eq_by_cmp (slice_cmp nat_cmp) q name) (is_present (g.K.Kernel.devices c.loop-name.kernel) q) (sym (now_present q) ∙ h)) as (λ _. Contains (take (index + 1) names) q) [
+      present = λ q. c.in-Ok-insert.ensures.updates.0 q ∙ added (is_at (slice_cmp nat_cmp name) q) (contains (slice_cmp nat_cmp) c.loop-name.present q) ∙ ap (λ b. b || contains (slice_cmp nat_cmp) c.loop-name.present q) ((eq_by_cmp_equiv nat_list_cmp_total).symm name q) ∙ ap (λ b. eq_by_cmp (slice_cmp nat_cmp) q name || b) (c.loop-name.invariant.present q) ∙ sym (now_present q);
+      only = λ q h. elim (either (eq_by_cmp (slice_cmp nat_cmp) q name) (is_present before q) (sym (now_present q) ∙ h)) as (λ _. Contains (take (index + 1) names) q) [
         | inl same ↦ subst (λ xs. Contains xs q) (sym more) (subst (Contains (take index names ++ name ∷ [])) (sym (same_name q name same)) (Contains-push (take index names) name))
         | inr before ↦ subst (λ xs. Contains xs q) (sym more) (Contains-append_left (take index names) (name ∷ []) q (c.loop-name.invariant.only q before))
       ];
-      came = subst (λ xs. Came xs (g.K.Kernel.devices c.environment.new.self) (g.K.Kernel.faults c.args.kernel.now) (g.K.Kernel.faults c.environment.new.self)) (sym more)
-          (came_more (take index names) name (g.K.Kernel.devices c.loop-name.kernel) (g.K.Kernel.devices c.environment.new.self) (g.K.Kernel.faults c.args.kernel.now) (g.K.Kernel.faults c.loop-name.kernel) (g.K.Kernel.faults c.environment.new.self)
-          new
-          (ap (λ d. is_present d name) did ∙ now_there (g.K.Kernel.devices c.loop-name.kernel) name _)
-          (λ q member. ap (λ d. is_present d q) did ∙ others_stay (g.K.Kernel.devices c.loop-name.kernel) (take index names) name q _ new member)
-          did c.environment.ensures.cause.later c.loop-name.invariant.came);
+      came = came_next names index name c.requires.distinct (omega arith) (sym c.name-item.is) before after (g.K.Kernel.faults c.args.kernel.now) (g.K.Kernel.faults c.loop-name.kernel) (g.K.Kernel.faults c.environment.new.self) did c.environment.ensures.cause.later c.loop-name.invariant.came;
     }
+
+pub returns-in_default-insert-clause-memory : goal.returns-in_default-insert-clause-memory
+returns-in_default-insert-clause-memory g c =
+    came_in_front c.args.names.now c.loop-name.name-index c.name-item.result c.requires.distinct (omega arith) (sym c.name-item.is) (g.K.Kernel.devices c.loop-name.kernel) (g.K.Kernel.devices c.environment.new.self) (g.K.Kernel.faults c.args.kernel.now) (g.K.Kernel.faults c.loop-name.kernel) (g.K.Kernel.faults c.environment.new.self) c.in-Ok.ensures.did c.environment.ensures.cause.later c.loop-name.invariant.came
 
 pub loop-name-preserved-in_default : goal.loop-name-preserved-in_default
 loop-name-preserved-in_default g c =
@@ -64,7 +63,7 @@ loop-name-preserved-in_default g c =
     let name = c.name-item.result in
     let before = g.K.Kernel.devices c.loop-name.kernel in
     let after = g.K.Kernel.devices c.environment.new.self in
-    let more : take (index + 1) names ≡ take index names ++ name ∷ [] = take_more names index name (omega arith) ∙ ap (λ x. take index names ++ x ∷ []) (sym c.name-item.is) in
+    let more : take (index + 1) names ≡ take index names ++ name ∷ [] = one_more names index name c.requires.distinct (omega arith) (sym c.name-item.is) in
     let new : Contains (take index names) name → ⊥ = not_before names index name c.requires.distinct (omega arith) (sym c.name-item.is) in
     let did : after ≡ before = c.in_default.ensures.err.0 in
     let absent : is_present before name ≡ false = false_of_not (is_present before name) (λ h. new (c.loop-name.invariant.only name h)) in

@@ -1,9 +1,9 @@
 use Rattle.std.proofs.Common.{◌≡◌, take, map, string_bytes}
 use Rattle.std.specs.List.{AllByRecursion}
 use Rattle.plane_words.specs.Distinct.{AreDistinct}
-use Rattle.plane_main.specs.Words.{IsPlainName}
+use Rattle.kern_model.specs.VlanName.{IsPlainName}
 use Rattle.plane_main.proofs.DistinctLemmas.{AreSeen}
-use Rattle.plane_main.proofs.words.start_names.Given as goal
+use Rattle.plane_main.proofs.command.start_devices.Given as goal
 
 -- the names so far are the words so far, and a name was seen where it is among them
 abbrev pub invariant-loop-word : goal.invariant-loop-word

@@ -1,7 +1,7 @@
 use Rattle.std.proofs.Common.{string_bytes, ap, ◌∙◌}
 use Rattle.std.specs.Prelude.{bytes_eq, codes}
-use Rattle.plane_main.proofs.PageLemmas.{one_word, text_of_test}
-use Rattle.plane_main.proofs.page.read_page.Goals as goal
+use Rattle.plane_main.proofs.WordLemmas.{one_word, text_of_test}
+use Rattle.plane_main.proofs.page.Page.read.Goals as goal
 
 pub returns-then-eq-clause-found : goal.returns-then-eq-clause-found
 returns-then-eq-clause-found c =

@@ -2,10 +2,10 @@ use Rattle.std.proofs.Common.{rules, arith, ◌≡◌, ◌∷◌, ◌++◌, [], 
 use Rattle.std.specs.Prelude.{Contains, codes}
 use Rattle.std.proofs.lemmas.List.{take_all, map_more, length-map}
 use Rattle.std.proofs.lemmas.Bool.Decides.{nat_tests}
-use Rattle.plane_main.specs.Words.{IsPlainName}
+use Rattle.kern_model.specs.VlanName.{IsPlainName}
 use Rattle.plane_main.proofs.DistinctLemmas.{all_push, distinct_push, seen_more, not_seen, was_seen}
-use Rattle.plane_main.proofs.StartLemmas.{no_start_at, no_start_twice}
-use Rattle.plane_main.proofs.words.start_names.Goals as goal
+use Rattle.plane_main.proofs.WordLemmas.{no_start_at, no_start_twice}
+use Rattle.plane_main.proofs.command.start_devices.Goals as goal
 
 pub returns-in_default-read_plain_name-clause-none : goal.returns-in_default-read_plain_name-clause-none
 returns-in_default-read_plain_name-clause-none c names = no_start_at string_bytes c.args.words.now c.in-Some.rest.now c.in-Some.command.now c.word-item.result c.loop-word.word-index names c.in-Some.ensures.cases.0 c.loop-word-test.true c.word-item.is (λ h. c.in_default-read_plain_name.ensures.none (subst IsPlainName (sym c.as_bytes-in-loop-word.ensures.value) h))

@@ -1,0 +1,75 @@
+-- The words of commands.
+use Rattle.std.proofs.Common.{arith, ℕ, suc, ◌≡◌, ◌<◌, ◌≤◌, List, [], ◌∷◌, length, Bool, true, refl, ap, sym, ◌∙◌, subst, take, drop, map, slice_index_or, get_or}
+use Rattle.std.specs.Prelude.{Contains, bytes_eq}
+use Rattle.std.proofs.lemmas.Slice.Eq.{bytes_eq-Decides}
+use Rattle.std.specs.List.{AllByRecursion}
+use Rattle.plane_words.specs.Distinct.{AreDistinct}
+use Rattle.kern_model.specs.VlanName.{IsPlainName}
+use Rattle.plane_main.specs.declared.page.Page.{Page}
+use Rattle.plane_main.specs.declared.page.Page.TheVariants.{Help, Version}
+use Rattle.plane_main.specs.declared.command.Command.{Command}
+use Rattle.plane_main.specs.declared.command.Command.TheVariants.{Start, Show}
+use Rattle.plane_main.specs.Command.{AskFor, IsStart, IsCommand, IsPageCommand, page_word}
+use Rattle.plane_main.proofs.DistinctLemmas.{all_at, map_split, distinct_behind}
+
+-- the names of a start are the words after the first
+names_are : {X : Type 0} (f : X → List ℕ) (words rest : List X) (first : X) (names : List (List ℕ)) → words ≡ first ∷ rest → IsStart (map f words) names → names ≡ map f rest
+names_are f words rest first names cut s =
+    let spelled = s.spelled in
+    let parts : map f words ≡ f first ∷ map f rest = ap (map f) cut in
+    cc
+
+-- a word that is no plain name
+pub no_start_at : {X : Type 0} (f : X → List ℕ) (words rest : List X) (first word : X) (i : ℕ) (names : List (List ℕ)) → words ≡ first ∷ rest → i < length rest → word ≡ slice_index_or rest i word → (IsPlainName (f word) → ⊥) → IsStart (map f words) names → ⊥
+no_start_at f words rest first word i names cut low is bad s =
+    let all : AllByRecursion IsPlainName (map f rest) = subst (AllByRecursion IsPlainName) (names_are f words rest first names cut s) s.plain in
+    bad (all_at IsPlainName (map f (take i rest)) (f word) (map f (drop (suc i) rest)) (subst (AllByRecursion IsPlainName) (map_split f rest i word low is) all))
+
+-- a word that stands twice
+pub no_start_twice : {X : Type 0} (f : X → List ℕ) (words rest : List X) (first word : X) (i : ℕ) (names : List (List ℕ)) → words ≡ first ∷ rest → i < length rest → word ≡ slice_index_or rest i word → Contains (map f (take i rest)) (f word) → IsStart (map f words) names → ⊥
+no_start_twice f words rest first word i names cut low is twice s =
+    let all : AreDistinct (map f rest) = subst (λ (z : List (List ℕ)). AreDistinct z) (names_are f words rest first names cut s) s.distinct in
+    distinct_behind (map f (take i rest)) (f word) (map f (drop (suc i) rest)) (subst (λ (z : List (List ℕ)). AreDistinct z) (map_split f rest i word low is) all) twice
+
+-- words are the start of one list of names
+start_one : (words xs ys : List (List ℕ)) → IsStart words xs → IsStart words ys → ys ≡ xs
+start_one words xs ys s t =
+    let first = s.spelled in
+    let second = t.spelled in
+    cc
+
+pub not_both : (words devices : List (List ℕ)) (page : Page) → AskFor words (Show page) → IsStart words devices → ⊥
+not_both words devices page asked start =
+    let one = ap length asked in
+    let more = ap length start.spelled in
+    let some = start.some in
+    omega arith
+
+other_pages : page_word Help ∷ [] ≡ page_word Version ∷ [] → ⊥
+other_pages same = cc same
+
+page_one : (words : List (List ℕ)) (page other : Page) → words ≡ page_word page ∷ [] → words ≡ page_word other ∷ [] → other ≡ page
+page_one words Help Help is other = refl
+page_one words Version Version is other = refl
+page_one words Help Version is other = absurd (other_pages (sym is ∙ other))
+page_one words Version Help is other = absurd (other_pages (sym other ∙ is))
+
+-- words ask for one command
+pub command_one : (words : List (List ℕ)) (command other : Command) → AskFor words command → AskFor words other → other ≡ command
+command_one words (Start xs) (Start ys) asked again = ap (λ devices. Start devices) (start_one words xs ys asked again)
+command_one words (Start xs) (Show page) asked again = absurd (not_both words xs page again asked)
+command_one words (Show page) (Start xs) asked again = absurd (not_both words xs page asked again)
+command_one words (Show page) (Show other) asked again = ap (λ p. Show p) (page_one words page other asked again)
+
+pub none_asked : (words : List (List ℕ)) → (IsPageCommand words → ⊥) → ((devices : List (List ℕ)) → IsStart words devices → ⊥) → IsCommand words → ⊥
+none_asked words no_page no_start (Start devices, asked) = no_start devices asked
+none_asked words no_page no_start (Show page, asked) = no_page (page, asked)
+
+-- the words are this one
+pub one_word : {X : Type 0} (f : X → List ℕ) → (words : List X) (word : X) (text : List ℕ) → 1 ≤ length words → length words < 2 → word ≡ get_or words 0 word → f word ≡ text → map f words ≡ text ∷ []
+one_word f [] word text some one is same = absurd (omega arith)
+one_word f (w ∷ []) word text some one is same = ap (λ y. f y ∷ []) (sym is) ∙ ap (λ t. t ∷ []) same
+one_word f (w ∷ v ∷ ws) word text some one is same = absurd (omega arith)
+
+pub text_of_test : (read text literal : List ℕ) (b : Bool) → b ≡ bytes_eq read literal → b ≡ true → read ≡ text → text ≡ literal
+text_of_test read text literal b is passes same = sym same ∙ (bytes_eq-Decides read literal).0 (sym is ∙ passes)

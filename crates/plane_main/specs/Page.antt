@@ -1,0 +1,25 @@
+-- The pages that the program prints about itself, and how a run ends that prints one.
+use Rattle.std.specs.Prelude.{ℕ, ◌≡◌, List}
+use Rattle.plane_words.specs.Causes.{Rose, DidNotRise}
+use Rattle.plane_words.specs.Growth.{Grows, GrowsByFront}
+use Rattle.plane_main.specs.declared.page.Page.{Page}
+use Rattle.plane_main.specs.declared.page.Page.TheVariants.{Help, Version}
+use Rattle.plane_main.specs.declared.ending.Ending.{Ending}
+use Rattle.plane_main.specs.declared.ending.Ending.TheVariants as ending
+use Rattle.plane_main.specs.declared.texts.TheConstants.{HELP, VERSION}
+use Rattle.plane_main.specs.Outside.{Outside}
+
+-- the text of a page
+abbrev pub page_text : Page → List ℕ
+page_text Help = HELP.now
+page_text Version = VERSION.now
+
+-- The output grew by the page; or by a front of it, and then its count rose. There is no other ending.
+abbrev pub PageEnds : Page → Outside → Outside → Ending → Type 0
+PageEnds page before after ending.Done = Grows before.out after.out (page_text page)
+PageEnds page before after ending.WriteFailed = GrowsByFront before.out after.out (page_text page) × Rose before.out_faults after.out_faults
+PageEnds page before after _ = ⊥
+
+-- where the count of the output did not rise, the page was printed
+abbrev pub PageComes : Outside → Outside → Ending → Type 0
+PageComes before after end = DidNotRise before.out_faults after.out_faults → end ≡ ending.Done

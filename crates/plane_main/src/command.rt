@@ -1,0 +1,66 @@
+ghost use Rattle.std.specs.Prelude.{◌≡◌, ℕ, List, map, string_bytes, IfOk, OnErr, IfSome, IfNone};
+ghost use Rattle.plane_main.specs.Command.{AskFor, IsCommand, IsStart, IsPageCommand};
+
+use crate::page::Page;
+use kern_model::{DevName, read_plain_name};
+use plane_io::{Items, Memory};
+use std::alloc::Global;
+use std::collections::BTreeSet;
+
+/// How many devices `start` takes at most.
+pub const MOST_DEVICES: usize = 4096;
+
+/// What the program is asked for.
+#[derive(Debug, Drop)]
+pub enum Command {
+    /// Brings a network up on these devices.
+    Start { devices: Items<DevName> },
+    /// Prints a page about the program.
+    Show(Page),
+}
+
+/// The command that the words ask for, or `None` where they are not in the table of commands. A page takes no memory.
+pub fn read_command(alloc: Global, words: &[String]) -> Result<Option<Command>, Memory>
+    ensures found { IfOk result (λ found.
+        IfSome found (λ command. AskFor (map string_bytes words.now) command)) }
+    ensures none { IfOk result (λ found.
+        IfNone found (IsCommand (map string_bytes words.now) → ⊥)) }
+    ensures memory { OnErr result (IsPageCommand (map string_bytes words.now) → ⊥) }
+{
+    if let Some(page) = Page::read(words) {
+        return Ok(Some(Command::Show(page)));
+    }
+    let Some(names) = start_devices(alloc, words)? else {
+        return Ok(None);
+    };
+    Ok(Some(Command::Start {
+        devices: Items::from_vec(names),
+    }))
+}
+
+// The devices of a `start`.
+fn start_devices(alloc: Global, words: &[String]) -> Result<Option<Vec<DevName>>, Memory>
+    ensures found { IfOk result (λ found.
+        IfSome found (λ names. IsStart (map string_bytes words.now) names.items)) }
+    ensures none { IfOk result (λ found.
+        IfNone found ((names : List (List ℕ)) → IsStart (map string_bytes words.now) names → ⊥)) }
+{
+    let Some((command, rest)) = words.split_first() else {
+        return Ok(None);
+    };
+    if command.as_bytes() != b"start".as_slice() || rest.is_empty() || rest.len() > MOST_DEVICES {
+        return Ok(None);
+    }
+    let mut names = Vec::new(alloc);
+    let mut seen = BTreeSet::new(alloc);
+    for word in rest {
+        let Some(name) = read_plain_name(word.as_bytes()) else {
+            return Ok(None);
+        };
+        if !seen.insert(name)? {
+            return Ok(None);
+        }
+        names.push(name)?;
+    }
+    Ok(Some(names))
+}

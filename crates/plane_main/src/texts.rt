@@ -1,0 +1,65 @@
+// Every text of the program itself. The definitions cite these constants.
+
+/// The page of `--help`.
+pub const HELP: &[u8] = b"plane: the configuration plane of an OpenWrt router as verified software
+
+plane start DEV..   reads a network configuration from the standard input, and prints the kernel calls that bring
+                    it up on the devices DEV, as lines for `ip -batch`
+plane --help        prints this page
+plane --version     prints the version
+
+start takes 1 to 4096 device names, each once, and none that ends in a VLAN as eth0.2 does. The input is a UCI file of
+at most 1048576 bytes. So far it is to make sections `config interface NAME` alone, with the options device, proto
+'static', ipaddr and netmask and no other. An example: from
+
+config interface 'lan'
+    option device 'eth0'
+    option proto 'static'
+    option ipaddr '192.168.1.1'
+    option netmask '255.255.255.0'
+
+plane start eth0 prints
+
+link set dev eth0 up
+addr add 192.168.1.1/24 dev eth0
+
+Status: 0 done, 2 usage, 3 the input failed, 4 a line was not written, 6 a call of the kernel failed and objects
+are due, 8 out of memory, 9 the input is no UCI file, 10 the input is too long, 11 the input is not built yet.
+The manual is docs/plane.1.
+";
+
+/// The page of `--version`.
+pub const VERSION: &[u8] = b"plane 0.1.0\n";
+
+/// The words are none of the commands.
+pub const USAGE: &[u8] = b"plane: usage\n";
+
+/// The input failed.
+pub const READ_FAILED: &[u8] = b"plane: read failed\n";
+
+/// A line or a page was not wholly written.
+pub const WRITE_FAILED: &[u8] = b"plane: write failed\n";
+
+/// Memory was lacking.
+pub const OUT_OF_MEMORY: &[u8] = b"plane: out of memory\n";
+
+/// The input is a package of another form.
+pub const NOT_BUILT: &[u8] = b"plane: not built\n";
+
+/// Before the number of objects that are due.
+pub const KERNEL: &[u8] = b"plane: kernel: ";
+
+/// After it.
+pub const DUE: &[u8] = b" due\n";
+
+/// Before the limit that the input passes.
+pub const LIMIT: &[u8] = b"plane: limit ";
+
+/// Before the number of the line of a fault.
+pub const NETWORK_LINE: &[u8] = b"plane: network: line ";
+
+/// Between that number and the reason.
+pub const COLON: &[u8] = b": ";
+
+/// The end of a text.
+pub const NEWLINE: &[u8] = b"\n";
