@@ -14,7 +14,7 @@ const TEXT_ERRORS: [(TextError, u8, &str); 6] = [
     (
         TextError::ArgumentCount { line: 2 },
         13,
-        "wrong number of arguments in line 2",
+        "argument count in line 2",
     ),
     (TextError::BadName { line: 3 }, 14, "bad name in line 3"),
     (TextError::Memory, 8, "out of memory"),

@@ -94,10 +94,7 @@ fn rules_of_sections(rt: HostRuntime) -> Result<(), Fail> {
         (b"option a b", b"no section 1"),
         (b"\n\nlist a b\nconfig x\noption a b", b"no section 3"),
         (b"option a b\noption \"a", b"open quote in line 2"),
-        (
-            b"option a b\nconfig x y z",
-            b"wrong number of arguments in line 2",
-        ),
+        (b"option a b\nconfig x y z", b"argument count in line 2"),
     ];
     assert_outcomes(&rt, rt.alloc(), &texts)
 }

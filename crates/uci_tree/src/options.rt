@@ -63,10 +63,9 @@ impl Options {
     pub fn finish(self, alloc: Global) -> Result<Items<Opt>, Memory>
         ensures { IfOk result (λ options. options ≡ options_of self) }
     {
-        let Options { mut slots, .. } = self;
-        slots.reverse();
+        let Options { slots, .. } = self;
         let mut options = Items::new(alloc);
-        while let Some(slot) = slots.pop() {
+        for slot in slots {
             if let Some(option) = slot {
                 options.push(option)?;
             }

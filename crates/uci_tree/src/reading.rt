@@ -47,14 +47,13 @@ pub fn read_package(alloc: Global, name: &[u8], text: &[u8]) -> Result<Package, 
 }
 
 /// What the commands make, one after another.
-fn sections_of(alloc: Global, mut commands: Vec<Cmd>) -> Result<Sections, TreeError>
+fn sections_of(alloc: Global, commands: Vec<Cmd>) -> Result<Sections, TreeError>
     ensures made { IfOk result (λ sections.
         fold.after_all fold.nothing commands.items ≡ Ok (draft_of sections)) }
     ensures refused { IfErr result (IsLack (fold.after_all fold.nothing commands.items)) }
 {
     let mut sections = Sections::new(alloc);
-    commands.reverse();
-    while let Some(command) = commands.pop() {
+    for command in commands {
         sections.take(alloc, command)?;
     }
     Ok(sections)

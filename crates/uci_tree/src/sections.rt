@@ -37,10 +37,9 @@ impl Sections {
     pub fn finish(self, alloc: Global) -> Result<Vec<Section>, Memory>
         ensures { IfOk result (λ finished. finished.items ≡ sections_of self.sections.items) }
     {
-        let Sections { mut sections, .. } = self;
-        sections.reverse();
+        let Sections { sections, .. } = self;
         let mut finished = Vec::new(alloc);
-        while let Some(section) = sections.pop() {
+        for section in sections {
             finished.push(section.finish(alloc)?)?;
         }
         Ok(finished)
