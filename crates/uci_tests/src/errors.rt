@@ -49,3 +49,20 @@ fn errors_of_packages(rt: HostRuntime) -> Result<(), Fail> {
     assert_eq!(rt; TreeError::Text(TextError::Memory).fault(), None);
     Ok(())
 }
+
+/// Reasons of faults, and their words.
+const REASONS: [(Reason, &str); 6] = [
+    (Reason::BadWord, "bad word"),
+    (Reason::OpenQuote, "open quote"),
+    (Reason::UnknownCommand, "unknown command"),
+    (Reason::ArgumentCount, "argument count"),
+    (Reason::BadName, "bad name"),
+    (Reason::NoSection, "no section"),
+];
+
+#[test]
+fn words_of_reasons(rt: HostRuntime) {
+    for (reason, words) in REASONS {
+        assert_eq!(rt; reason.text(), words.as_bytes());
+    }
+}

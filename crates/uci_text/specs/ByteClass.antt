@@ -8,7 +8,9 @@ use Rattle.uci_text.specs.Byte.{nul, tab, newline, vertical_tab, form_feed, carr
 
 -- space, tab, CR, VT or FF
 abbrev pub is_space : ℕ → Bool
-is_space byte = nat_eq byte space || nat_eq byte tab || nat_eq byte carriage_return || nat_eq byte vertical_tab || nat_eq byte form_feed
+is_space byte =
+    nat_eq byte space || nat_eq byte tab || nat_eq byte carriage_return
+    || nat_eq byte vertical_tab || nat_eq byte form_feed
 
 -- a newline or `;`
 abbrev pub is_separator : ℕ → Bool

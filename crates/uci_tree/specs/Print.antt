@@ -11,7 +11,9 @@ use Rattle.uci_tree.specs.declared.package.Package.{Package}
 
 -- ' " # ; or \, which a bare word cannot hold
 abbrev pub is_special : ℕ → Bool
-is_special byte = nat_eq byte single_quote || nat_eq byte double_quote || nat_eq byte number_sign || nat_eq byte semicolon || nat_eq byte backslash
+is_special byte =
+    nat_eq byte single_quote || nat_eq byte double_quote || nat_eq byte number_sign
+    || nat_eq byte semicolon || nat_eq byte backslash
 
 -- a type stands bare, and one that holds such a byte is quoted
 abbrev pub kind_text : List ℕ → List ℕ
