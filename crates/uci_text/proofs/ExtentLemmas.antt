@@ -1,5 +1,5 @@
 -- Extents of commands, the lines of their places, and their faults.
-use Rattle.std.proofs.Common.{ℕ, ◌≡◌, ◌<◌, ◌≤◌, ◌+◌, List, [], ◌∷◌, ◌++◌, length, true, false, not, arith, sym, refl, subst, ap, ◌∙◌, append_assoc, length-append, nat_eq}
+use Rattle.std.proofs.Common.{ℕ, ◌≡◌, ◌<◌, ◌+◌, List, [], ◌∷◌, ◌++◌, length, true, false, not, arith, sym, refl, subst, ap, ◌∙◌, append_assoc, length-append, nat_eq}
 use Rattle.std.proofs.lemmas.List.{append-nil}
 use Rattle.std.proofs.lemmas.Bool.Decides.{nat_tests}
 use Rattle.uci_text.specs.declared.stop.Stop.{Stop}
@@ -76,11 +76,6 @@ pub front_fits : (number : ℕ) (bytes extent behind front : List ℕ) → numbe
 front_fits number bytes extent behind front l w e =
     let a : length bytes ≡ length extent + length behind = ap length w ∙ length-append extent behind in
     let b : length front ≡ length extent = ap length e in
-    omega arith
-
-pub behind_fits : (bytes extent behind : List ℕ) → bytes ≡ extent ++ behind → length behind ≤ length bytes
-behind_fits bytes extent behind w =
-    let a : length bytes ≡ length extent + length behind = ap length w ∙ length-append extent behind in
     omega arith
 
 pub reads : (number next : ℕ) (bytes behind front : List ℕ) (words : List (List ℕ)) (b : Between bytes words behind) → front ≡ b.extent → AllIn NotZero front → next ≡ number + newlines front → ReadsExtent number bytes (record { line = number; words = words }) behind next

@@ -1,8 +1,7 @@
 -- The commands of a text, one after another.
-use Rattle.std.proofs.Common.{ℕ, ◌≡◌, ◌<◌, ◌≤◌, ◌+◌, List, [], ◌∷◌, ◌++◌, length, Bool, true, false, not, arith, sym, refl, subst, ap, ◌∙◌, append_assoc, length-append, nat_eq}
+use Rattle.std.proofs.Common.{ℕ, ◌≡◌, ◌<◌, ◌+◌, List, [], ◌∷◌, ◌++◌, length, Bool, true, false, not, arith, sym, refl, subst, ap, ◌∙◌, append_assoc, length-append, nat_eq}
 use Rattle.std.specs.List.{AllByRecursion, concat, flat_map}
 use Rattle.std.proofs.lemmas.List.{append-nil}
-use Rattle.std.proofs.lemmas.List.Sums.{count_by-le-length}
 use Rattle.uci_text.specs.declared.line.Line.{Line}
 use Rattle.uci_text.specs.declared.text_error.TextError.{TextError}
 use Rattle.uci_text.specs.declared.byte_class.ByteClass.TheVariants.{NotZero}
@@ -130,14 +129,6 @@ read_refused text rest number lines error r f =
 
 pub gap_refused : (text : List ℕ) (error : TextError) → RefusesGap text error → IsFirstFault text error
 gap_refused text error f = record { good = []; bad = f.gap; behind = f.behind; whole = f.whole; extents = (f.is, tt); free = tt; fault = f.fault }
-
--- the line's number and what is left stay within the bounds of the text
-pub read_fits : (text rest : List ℕ) (number : ℕ) (lines : List Line) → ReadSoFar text rest number lines → length text < 4294967295 → number + length rest < 4294967296
-read_fits text rest number lines r l =
-    let n : number ≡ newlines (r.gap ++ concat r.extents) + 1 = r.number_is in
-    let m : newlines (r.gap ++ concat r.extents) ≤ length (r.gap ++ concat r.extents) = count_by-le-length (λ byte. nat_eq byte 10) (r.gap ++ concat r.extents) in
-    let a : length text ≡ length (r.gap ++ concat r.extents) + length rest = ap length r.whole ∙ length-append (r.gap ++ concat r.extents) rest in
-    omega arith
 
 not_false : (t : Bool) → not t ≡ true → t ≡ false
 not_false false h = refl

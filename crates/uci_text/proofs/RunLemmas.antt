@@ -130,18 +130,6 @@ inner_runs top l q ws v (pair b ∷ inner) rest p =
     inner_runs top l q ws (v ++ escaped_value b) inner rest p.1
     ∙ ap (λ (z : List ℕ). run top (in_double l ws z q) rest) (append_assoc v (escaped_value b) (flat_map inner_value inner))
 
-plain_no_end : (b : ℕ) → is_in Plain b ≡ true → ends_command b ≡ false
-plain_no_end b h = grind (arith, nat_tests)
-
-plain_no_separator : (b : ℕ) → is_in Plain b ≡ true → is_separator b ≡ false
-plain_no_separator b h = grind (arith, nat_tests)
-
-plain_no_sign : (b : ℕ) → is_in Plain b ≡ true → nat_eq b 35 ≡ false
-plain_no_sign b h = grind (arith, nat_tests)
-
-plain_no_space : (b : ℕ) → is_in Plain b ≡ true → is_space b ≡ false
-plain_no_space b h = grind (arith, nat_tests)
-
 plain_mode : (l p : ℕ) (ws : List (List ℕ)) (v : List ℕ) (b : ℕ) → is_in Plain b ≡ true → word_mode l ws v p b ≡ in_command l ws (Some (v ++ b ∷ []))
 plain_mode l p ws v b h =
     let x : nat_eq b 39 ≡ false = grind (arith, nat_tests) in

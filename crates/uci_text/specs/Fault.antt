@@ -4,6 +4,7 @@ use Rattle.std.specs.List.{AllByRecursion, concat}
 use Rattle.uci_text.specs.declared.text_error.TextError.{TextError}
 use Rattle.uci_text.specs.declared.text_error.TextError.TheVariants.{BadWord, OpenQuote}
 use Rattle.uci_text.specs.declared.byte_class.ByteClass.TheVariants.{NotZero}
+use Rattle.uci_text.specs.Byte.{nul}
 use Rattle.uci_text.specs.ByteClass.{AllIn, newlines}
 use Rattle.uci_text.specs.Open.{Open, open_single, open_double, open_pair, last_backslash, IsOpenCommand, AreFirst}
 
@@ -17,7 +18,7 @@ open_error last_backslash line = BadWord line
 -- The extent of a command, whose first line has this number, has this fault: its first zero byte, and where it has
 -- none, the piece that lacks its end.
 pub data HasFault (number : ℕ) (extent : List ℕ) (error : TextError) : Type 0 where
-  zero_byte : (before behind : List ℕ) → extent ≡ before ++ 0 ∷ behind → AllIn NotZero before → error ≡ BadWord (number + newlines before) → HasFault number extent error
+  zero_byte : (before behind : List ℕ) → extent ≡ before ++ nul ∷ behind → AllIn NotZero before → error ≡ BadWord (number + newlines before) → HasFault number extent error
   no_end : (before : List ℕ) (open' : Open) → AllIn NotZero extent → IsOpenCommand extent before open' → error ≡ open_error open' (number + newlines before) → HasFault number extent error
 
 -- the extent has no such fault, on whatever line it begins

@@ -1,4 +1,5 @@
 -- UCI text (OpenWrt's UCI file syntax): pieces, words, gaps, commands with their extents, lines, and the first fault.
+pub mod Byte
 pub mod ByteClass
 pub mod Piece
 pub mod Word

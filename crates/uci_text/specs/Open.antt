@@ -2,6 +2,7 @@
 use Rattle.std.specs.Prelude.{ℕ, ◌≡◌, List, [], ◌∷◌, ◌++◌}
 use Rattle.std.specs.List.{AllByRecursion, flat_map, concat}
 use Rattle.uci_text.specs.declared.byte_class.ByteClass.TheVariants.{Space, Quotable}
+use Rattle.uci_text.specs.Byte.{double_quote, single_quote, backslash}
 use Rattle.uci_text.specs.ByteClass.{AllIn}
 use Rattle.uci_text.specs.Piece.{IsPiece, Inner, IsInner, inner_text}
 use Rattle.uci_text.specs.Word.{Spaced, spaced_text}
@@ -17,10 +18,10 @@ pub data Open : Type 0 where
   last_backslash : Open
 
 abbrev pub open_text : Open → List ℕ
-open_text (open_single bytes) = 39 ∷ bytes
-open_text (open_double inner) = 34 ∷ flat_map inner_text inner
-open_text (open_pair inner) = 34 ∷ flat_map inner_text inner ++ 92 ∷ []
-open_text last_backslash = 92 ∷ []
+open_text (open_single bytes) = single_quote ∷ bytes
+open_text (open_double inner) = double_quote ∷ flat_map inner_text inner
+open_text (open_pair inner) = double_quote ∷ flat_map inner_text inner ++ backslash ∷ []
+open_text last_backslash = backslash ∷ []
 
 abbrev pub IsOpen : Open → Type 0
 IsOpen (open_single bytes) = AllIn Quotable bytes

@@ -2,11 +2,12 @@
 use Rattle.std.specs.Prelude.{ℕ, ◌<◌, List, [], ◌∷◌, ◌++◌, length, nat_eq, if◌then◌else◌}
 use Rattle.std.specs.List.{AllByRecursion, flat_map}
 use Rattle.uci_text.specs.declared.byte_class.ByteClass.TheVariants.{Plain, Quotable, DoubleQuotable}
+use Rattle.uci_text.specs.Byte.{newline, double_quote, single_quote, backslash}
 use Rattle.uci_text.specs.ByteClass.{AllIn}
 
 -- what a backslash with this byte gives: the byte, and nothing where it is a newline
 abbrev pub escaped_value : ℕ → List ℕ
-escaped_value byte = if nat_eq byte 10 then [] else byte ∷ []
+escaped_value byte = if nat_eq byte newline then [] else byte ∷ []
 
 -- a part of what stands between double quotes: bytes that stand for themselves, or a backslash with a byte
 pub data Inner : Type 0 where
@@ -15,7 +16,7 @@ pub data Inner : Type 0 where
 
 abbrev pub inner_text : Inner → List ℕ
 inner_text (kept bytes) = bytes
-inner_text (pair byte) = 92 ∷ byte ∷ []
+inner_text (pair byte) = backslash ∷ byte ∷ []
 
 abbrev pub inner_value : Inner → List ℕ
 inner_value (kept bytes) = bytes
@@ -35,9 +36,9 @@ pub data Piece : Type 0 where
 
 abbrev pub piece_text : Piece → List ℕ
 piece_text (plain run) = run
-piece_text (escaped byte) = 92 ∷ byte ∷ []
-piece_text (single bytes) = 39 ∷ bytes ++ 39 ∷ []
-piece_text (double inner) = 34 ∷ flat_map inner_text inner ++ 34 ∷ []
+piece_text (escaped byte) = backslash ∷ byte ∷ []
+piece_text (single bytes) = single_quote ∷ bytes ++ single_quote ∷ []
+piece_text (double inner) = double_quote ∷ flat_map inner_text inner ++ double_quote ∷ []
 
 abbrev pub piece_value : Piece → List ℕ
 piece_value (plain run) = run

@@ -94,7 +94,9 @@ fn is_name_byte(byte: u8) -> bool
 
 /// Whether a command ends here.
 pub fn ends_command(rest: &[u8]) -> bool
-    ensures { MatchBool result (IsAtEndOr class.ends_command rest.now) (BeginsOutside class.ends_command rest.now) }
+    ensures { MatchBool result
+        (IsAtEndOr class.ends_command rest.now)
+        (BeginsOutside class.ends_command rest.now) }
 {
     match rest.first() {
         Some(byte) => is_command_end(*byte),
@@ -104,7 +106,9 @@ pub fn ends_command(rest: &[u8]) -> bool
 
 /// Whether a word ends here.
 pub fn ends_word(rest: &[u8]) -> bool
-    ensures { MatchBool result (IsAtEndOr class.ends_word rest.now) (BeginsOutside class.ends_word rest.now) }
+    ensures { MatchBool result
+        (IsAtEndOr class.ends_word rest.now)
+        (BeginsOutside class.ends_word rest.now) }
 {
     match rest.first() {
         Some(byte) => is_word_end(*byte),

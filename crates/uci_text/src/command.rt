@@ -1,5 +1,5 @@
 ghost use Rattle.std.specs.Prelude.{◌≡◌, ◌≢◌, IfOk, Err};
-ghost use Rattle.uci_text.specs.declared.stop.Stop.{Stop as Stopped};
+ghost use Rattle.uci_text.specs.declared.stop.Stop.{Stop};
 ghost use Rattle.uci_text.specs.ByteClass as class;
 ghost use Rattle.uci_text.specs.Found.{BeginsOutside, TakesCommand, HasNoEnd};
 
@@ -13,7 +13,8 @@ use std::alloc::Global;
 pub fn read_command(alloc: Global, bytes: &[u8]) -> Result<(Items<Text>, &[u8]), Stop>
     requires { BeginsOutside class.ends_word bytes.now }
     ensures found { IfOk result (λ split. TakesCommand bytes.now split.0 split.1.now) }
-    ensures stopped { (stop : Stopped) → result ≡ Err stop → stop ≢ Stop.Memory → HasNoEnd bytes.now stop }
+    ensures stopped { (stop : Stop) → result ≡ Err stop → stop ≢ Stop.Memory →
+        HasNoEnd bytes.now stop }
 {
     let mut words = Items::new(alloc);
     let mut rest = bytes;

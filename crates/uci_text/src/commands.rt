@@ -1,6 +1,6 @@
 ghost use Rattle.std.specs.Prelude.{◌≡◌, ◌≢◌, ◌<◌, ◌-◌, ◌^◌, List, length, IfOk, Err};
 ghost use Rattle.uci_text.specs.declared.cmd.Cmd.{Cmd};
-ghost use Rattle.uci_text.specs.declared.text_error.TextError.{TextError as Fault};
+ghost use Rattle.uci_text.specs.declared.text_error.TextError.{TextError};
 ghost use Rattle.uci_text.specs.Commands.{SpellsCommands, IsFirstCommandFault};
 
 use crate::extent::{read_extent, read_gap};
@@ -27,8 +27,10 @@ use std::alloc::Global;
 pub fn read_commands(alloc: Global, text: &[u8]) -> Result<Items<Cmd>, TextError>
     requires { length text.now < 2 ^ 32 - 1 }
     ensures found { IfOk result (λ commands. SpellsCommands text.now commands) }
-    ensures only { IfOk result (λ commands. (others : List Cmd) → SpellsCommands text.now others → others ≡ commands) }
-    ensures refused { (error : Fault) → result ≡ Err error → error ≢ TextError.Memory → IsFirstCommandFault text.now error }
+    ensures only { IfOk result (λ commands.
+        (others : List Cmd) → SpellsCommands text.now others → others ≡ commands) }
+    ensures refused { (error : TextError) → result ≡ Err error → error ≢ TextError.Memory →
+        IsFirstCommandFault text.now error }
 {
     let mut commands = Items::new(alloc);
     let (mut rest, mut number) = read_gap(text)?;

@@ -1,6 +1,6 @@
 ghost use Rattle.std.specs.Prelude.{◌≡◌, ◌≢◌, ◌<◌, ◌≤◌, ◌+◌, ◌-◌, ◌^◌, ◌++◌, ℕ, List, length, IfOk, Err};
 ghost use Rattle.uci_text.specs.declared.byte_class.ByteClass.TheVariants.{NotZero};
-ghost use Rattle.uci_text.specs.declared.text_error.TextError.{TextError as Fault};
+ghost use Rattle.uci_text.specs.declared.text_error.TextError.{TextError};
 ghost use Rattle.uci_text.specs.ByteClass as class;
 ghost use Rattle.uci_text.specs.ByteClass.{AllIn};
 ghost use Rattle.uci_text.specs.Fault.{HasFault};
@@ -34,7 +34,7 @@ fn line_behind(number: u32, extent: &[u8]) -> Result<u32, TextError>
     requires { number + length extent.now < 2 ^ 32 }
     ensures clean { IfOk result (λ next. AllIn NotZero extent.now) }
     ensures line { IfOk result (λ next. next ≡ number + class.newlines extent.now) }
-    ensures refused { (error : Fault) → result ≡ Err error → HasFault number extent.now error }
+    ensures refused { (error : TextError) → result ≡ Err error → HasFault number extent.now error }
 {
     let (clean, rest) = ByteClass::NotZero.split(extent);
     let line = number + newlines(clean);
@@ -50,8 +50,9 @@ fn line_of_end(number: u32, extent: &[u8], left: usize) -> Result<u32, TextError
     requires room { number + length extent.now < 2 ^ 32 }
     requires within { left ≤ length extent.now }
     ensures clean { IfOk result (λ line. AllIn NotZero extent.now) }
-    ensures line { IfOk result (λ line. (front end : List ℕ) → extent.now ≡ front ++ end → length end ≡ left → line ≡ number + class.newlines front) }
-    ensures refused { (error : Fault) → result ≡ Err error → HasFault number extent.now error }
+    ensures line { IfOk result (λ line. (front end : List ℕ) →
+        extent.now ≡ front ++ end → length end ≡ left → line ≡ number + class.newlines front) }
+    ensures refused { (error : TextError) → result ≡ Err error → HasFault number extent.now error }
 {
     line_behind(number, extent)?;
     let (front, _) = extent.split_at(extent.len() - left);
@@ -87,7 +88,8 @@ pub fn read_extent(
     requires room { number + length bytes.now < 2 ^ 32 }
     requires begins { BeginsOutside class.ends_word bytes.now }
     ensures found { IfOk result (λ read. ReadsExtent number bytes.now read.0 read.1.now read.2) }
-    ensures refused { (error : Fault) → result ≡ Err error → error ≢ TextError.Memory → RefusesExtent number bytes.now error }
+    ensures refused { (error : TextError) → result ≡ Err error → error ≢ TextError.Memory →
+        RefusesExtent number bytes.now error }
 {
     let (words, after) = match read_command(alloc, bytes) {
         Ok(found) => found,
@@ -109,7 +111,7 @@ pub fn read_extent(
 pub fn read_gap(text: &[u8]) -> Result<(&[u8], u32), TextError>
     requires { length text.now < 2 ^ 32 - 1 }
     ensures found { IfOk result (λ read. ReadsGap text.now read.0.now read.1) }
-    ensures refused { (error : Fault) → result ≡ Err error → RefusesGap text.now error }
+    ensures refused { (error : TextError) → result ≡ Err error → RefusesGap text.now error }
 {
     let behind = behind_gap(text);
     let number = line_behind(1, before(text, behind))?;

@@ -1,5 +1,5 @@
 ghost use Rattle.std.specs.Prelude.{◌≡◌, ◌⊎◌, ◌↔◌, List, ℕ, IfSome, IfNone, IsTrue};
-ghost use Rattle.uci_text.specs.declared.keyword.Keyword.{Keyword as Kind};
+ghost use Rattle.uci_text.specs.declared.keyword.Keyword.{Keyword};
 ghost use Rattle.uci_text.specs.Table.{Begins, IsCount, IsNameOf, AreNamed};
 
 use crate::byte_class::ByteClass;
@@ -27,7 +27,7 @@ impl Keyword {
     /// The kind of command that the word begins.
     pub fn of(word: &[u8]) -> Option<Keyword>
         ensures some { IfSome result (λ keyword. Begins keyword word.now) }
-        ensures none { IfNone result ((keyword : Kind) → Begins keyword word.now → ⊥) }
+        ensures none { IfNone result ((keyword : Keyword) → Begins keyword word.now → ⊥) }
     {
         if is_either(word, b"package", b"p") {
             Some(Keyword::Package)

@@ -4,8 +4,6 @@
 mod byte_class;
 mod cmd;
 mod command;
-#[cfg(test)]
-mod command_tests;
 mod commands;
 mod extent;
 mod gap;
@@ -17,8 +15,6 @@ mod quote;
 mod read;
 mod stop;
 mod table;
-#[cfg(test)]
-mod tests;
 mod text_error;
 mod word;
 

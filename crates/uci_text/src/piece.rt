@@ -1,5 +1,6 @@
 ghost use Rattle.std.specs.Prelude.{◌≡◌, ◌≢◌, ◌∷◌, ◌++◌, IfOk, OnOk, Err};
-ghost use Rattle.uci_text.specs.declared.stop.Stop.{Stop as Stopped};
+ghost use Rattle.uci_text.specs.declared.stop.Stop.{Stop};
+ghost use Rattle.uci_text.specs.Byte.{double_quote, single_quote, backslash};
 ghost use Rattle.uci_text.specs.ByteClass.{ends_word};
 ghost use Rattle.uci_text.specs.Piece.{escaped_value};
 ghost use Rattle.uci_text.specs.Found.{BeginsOutside, TakesPiece, IsOpenPiece};
@@ -20,8 +21,10 @@ fn push_escaped(value: &mut Vec<u8>, byte: u8) -> Result<(), Memory>
 
 /// Reads on behind a backslash.
 fn read_escaped<'a>(value: &mut Vec<u8>, inside: &'a [u8]) -> Result<&'a [u8], Stop>
-    ensures found { IfOk result (λ rest. TakesPiece (92 ∷ inside.now) value.old.items value.new.items rest.now) }
-    ensures stopped { (stop : Stopped) → result ≡ Err stop → stop ≢ Stop.Memory → IsOpenPiece (92 ∷ inside.now) stop }
+    ensures found { IfOk result (λ rest.
+        TakesPiece (backslash ∷ inside.now) value.old.items value.new.items rest.now) }
+    ensures stopped { (stop : Stop) → result ≡ Err stop → stop ≢ Stop.Memory →
+        IsOpenPiece (backslash ∷ inside.now) stop }
 {
     let Some((byte, rest)) = inside.split_first() else {
         return Err(Stop::Backslash);
@@ -32,8 +35,10 @@ fn read_escaped<'a>(value: &mut Vec<u8>, inside: &'a [u8]) -> Result<&'a [u8], S
 
 /// Reads on behind a single quote.
 fn read_single<'a>(value: &mut Vec<u8>, inside: &'a [u8]) -> Result<&'a [u8], Stop>
-    ensures found { IfOk result (λ rest. TakesPiece (39 ∷ inside.now) value.old.items value.new.items rest.now) }
-    ensures stopped { (stop : Stopped) → result ≡ Err stop → stop ≢ Stop.Memory → IsOpenPiece (39 ∷ inside.now) stop }
+    ensures found { IfOk result (λ rest.
+        TakesPiece (single_quote ∷ inside.now) value.old.items value.new.items rest.now) }
+    ensures stopped { (stop : Stop) → result ≡ Err stop → stop ≢ Stop.Memory →
+        IsOpenPiece (single_quote ∷ inside.now) stop }
 {
     let (bytes, behind) = ByteClass::Quotable.split(inside);
     let Some((_, rest)) = behind.split_first() else {
@@ -46,8 +51,10 @@ fn read_single<'a>(value: &mut Vec<u8>, inside: &'a [u8]) -> Result<&'a [u8], St
 
 /// Reads on behind a double quote.
 fn read_double<'a>(value: &mut Vec<u8>, inside: &'a [u8]) -> Result<&'a [u8], Stop>
-    ensures found { IfOk result (λ rest. TakesPiece (34 ∷ inside.now) value.old.items value.new.items rest.now) }
-    ensures stopped { (stop : Stopped) → result ≡ Err stop → stop ≢ Stop.Memory → IsOpenPiece (34 ∷ inside.now) stop }
+    ensures found { IfOk result (λ rest.
+        TakesPiece (double_quote ∷ inside.now) value.old.items value.new.items rest.now) }
+    ensures stopped { (stop : Stop) → result ≡ Err stop → stop ≢ Stop.Memory →
+        IsOpenPiece (double_quote ∷ inside.now) stop }
 {
     let left = inside.len() + 1;
     let mut rest = inside;
@@ -71,8 +78,10 @@ fn read_double<'a>(value: &mut Vec<u8>, inside: &'a [u8]) -> Result<&'a [u8], St
 /// Appends the value of the piece in front, and gives what is behind that piece.
 pub fn read_piece<'a>(value: &mut Vec<u8>, bytes: &'a [u8]) -> Result<&'a [u8], Stop>
     requires { BeginsOutside ends_word bytes.now }
-    ensures found { IfOk result (λ rest. TakesPiece bytes.now value.old.items value.new.items rest.now) }
-    ensures stopped { (stop : Stopped) → result ≡ Err stop → stop ≢ Stop.Memory → IsOpenPiece bytes.now stop }
+    ensures found { IfOk result (λ rest.
+        TakesPiece bytes.now value.old.items value.new.items rest.now) }
+    ensures stopped { (stop : Stop) → result ≡ Err stop → stop ≢ Stop.Memory →
+        IsOpenPiece bytes.now stop }
 {
     let Some((mark, inside)) = bytes.split_first() else {
         unreachable!()

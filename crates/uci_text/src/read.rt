@@ -1,6 +1,6 @@
 ghost use Rattle.std.specs.Prelude.{◌≡◌, ◌≢◌, ◌<◌, ◌-◌, ◌^◌, List, length, IfOk, Err};
 ghost use Rattle.uci_text.specs.declared.line.Line.{Line};
-ghost use Rattle.uci_text.specs.declared.text_error.TextError.{TextError as Fault};
+ghost use Rattle.uci_text.specs.declared.text_error.TextError.{TextError};
 ghost use Rattle.uci_text.specs.Text.{Spells};
 ghost use Rattle.uci_text.specs.Fault.{IsFirstFault};
 
@@ -30,8 +30,10 @@ use std::alloc::Global;
 pub fn read_lines(alloc: Global, text: &[u8]) -> Result<Items<Line>, TextError>
     requires { length text.now < 2 ^ 32 - 1 }
     ensures found { IfOk result (λ lines. Spells text.now lines) }
-    ensures only { IfOk result (λ lines. (others : List Line) → Spells text.now others → others ≡ lines) }
-    ensures refused { (error : Fault) → result ≡ Err error → error ≢ TextError.Memory → IsFirstFault text.now error }
+    ensures only { IfOk result (λ lines.
+        (others : List Line) → Spells text.now others → others ≡ lines) }
+    ensures refused { (error : TextError) → result ≡ Err error → error ≢ TextError.Memory →
+        IsFirstFault text.now error }
 {
     let mut lines = Items::new(alloc);
     let (mut rest, mut number) = read_gap(text)?;

@@ -1,5 +1,5 @@
 ghost use Rattle.std.specs.Prelude.{◌≡◌, ◌<◌, ◌≤◌, List, ℕ, [], length, IfOk, Err};
-ghost use Rattle.uci_text.specs.declared.text_error.TextError.{TextError as Fault};
+ghost use Rattle.uci_text.specs.declared.text_error.TextError.{TextError};
 ghost use Rattle.uci_text.specs.Table as table;
 ghost use Rattle.uci_text.specs.Table.{IsCount, IsKind, IsCmd, HasWordsFault};
 
@@ -21,7 +21,8 @@ fn word_at(words: &[Text], place: usize) -> &[u8]
 /// The kind of command that the words on this line are.
 fn kind_of(line: u32, words: &[Text]) -> Result<Keyword, TextError>
     ensures found { IfOk result (λ keyword. IsKind keyword words.now) }
-    ensures refused { (error : Fault) → result ≡ Err error → HasWordsFault line words.now error }
+    ensures refused { (error : TextError) → result ≡ Err error →
+        HasWordsFault line words.now error }
 {
     let Some(keyword) = Keyword::of(word_at(words, 0)) else {
         return Err(TextError::UnknownCommand { line });
@@ -64,7 +65,8 @@ fn section_name(name: Text) -> Option<Text>
 /// The command that the words of the line are.
 pub fn command_of(alloc: Global, line: Line) -> Result<Cmd, TextError>
     ensures found { IfOk result (λ cmd. IsCmd line.line line.words cmd) }
-    ensures refused { (error : Fault) → result ≡ Err error → HasWordsFault line.line line.words error }
+    ensures refused { (error : TextError) → result ≡ Err error →
+        HasWordsFault line.line line.words error }
 {
     let Line { line, words } = line;
     let keyword = kind_of(line, words.as_slice())?;

@@ -19,7 +19,7 @@ pub enum TextError {
     #[error("unknown command in line {line}")]
     UnknownCommand { line: u32 },
     /// The command on this line has too few arguments or too many.
-    #[error("wrong number of arguments in line {line}")]
+    #[error("argument count in line {line}")]
     ArgumentCount { line: u32 },
     /// An argument of the command on this line is not the name or the type that it stands for.
     #[error("bad name in line {line}")]

@@ -16,7 +16,8 @@ use Rattle.uci_tree.specs.declared.package.Value.TheVariants.{One, Many}
 use Rattle.uci_tree.specs.declared.package.Opt.{Opt}
 use Rattle.uci_tree.specs.declared.package.Section.{Section}
 use Rattle.uci_tree.specs.declared.package.Package.{Package}
-use Rattle.uci_tree.specs.Anonymous.{hex, type_hash, anonymous_name}
+use Rattle.plane_words.specs.Numeral.{hex}
+use Rattle.uci_tree.specs.Anonymous.{type_hash, anonymous_name}
 use Rattle.uci_tree.specs.Find.{named_place}
 use Rattle.uci_tree.specs.Fold.{changed_at, put, without, with_option, with_item, appended, Draft, nothing, added, named_config, configured, with_options_at, after, goes_on, after_all}
 use Rattle.uci_tree.specs.Reading.{Reads}

@@ -1,5 +1,5 @@
 -- Where a text is no package, and why, in words.
-use Rattle.std.specs.Prelude.{ℕ, List, Option, Some, None, codes}
+use Rattle.std.specs.Prelude.{ℕ, List, Option, Some, None}
 use Rattle.uci_text.specs.declared.text_error.TextError.{TextError}
 use Rattle.uci_text.specs.declared.text_error.TextError.TheVariants as text_error
 use Rattle.uci_tree.specs.declared.tree_error.TreeError.{TreeError}
@@ -7,6 +7,7 @@ use Rattle.uci_tree.specs.declared.tree_error.TreeError.TheVariants as tree_erro
 use Rattle.uci_tree.specs.declared.fault.Reason.{Reason}
 use Rattle.uci_tree.specs.declared.fault.Reason.TheVariants as reason
 use Rattle.uci_tree.specs.declared.fault.Fault.{Fault}
+use Rattle.uci_tree.specs.declared.fault.TheConstants.{BAD_WORD, OPEN_QUOTE, UNKNOWN_COMMAND, ARGUMENT_COUNT, BAD_NAME, NO_SECTION}
 
 -- the fault of a text that has no commands; want of memory is none
 abbrev pub fault_of_text : TextError → Option Fault
@@ -25,9 +26,9 @@ fault_of tree_error.Memory = None
 
 -- the words for a reason
 abbrev pub reason_text : Reason → List ℕ
-reason_text reason.BadWord = codes "bad word"
-reason_text reason.OpenQuote = codes "open quote"
-reason_text reason.UnknownCommand = codes "unknown command"
-reason_text reason.ArgumentCount = codes "argument count"
-reason_text reason.BadName = codes "bad name"
-reason_text reason.NoSection = codes "no section"
+reason_text reason.BadWord = BAD_WORD.now
+reason_text reason.OpenQuote = OPEN_QUOTE.now
+reason_text reason.UnknownCommand = UNKNOWN_COMMAND.now
+reason_text reason.ArgumentCount = ARGUMENT_COUNT.now
+reason_text reason.BadName = BAD_NAME.now
+reason_text reason.NoSection = NO_SECTION.now

@@ -6,7 +6,7 @@ use Rattle.uci_tree.specs.declared.package.Section.{Section}
 use Rattle.uci_tree.specs.declared.package.Package.{Package}
 use Rattle.uci_tree.specs.declared.path.Path.{Path}
 use Rattle.uci_tree.specs.declared.path.SectionRef.{SectionRef}
-use Rattle.uci_tree.specs.declared.path.SectionRef.TheVariants.{Name, Place as AtPlace}
+use Rattle.uci_tree.specs.declared.path.SectionRef.TheVariants.{Name as ByName, Place as ByPlace}
 use Rattle.uci_tree.specs.declared.lookup.Place.{Place}
 
 -- the places of the sections of a type, of which the first one has this place
@@ -30,8 +30,8 @@ abbrev pub option_place : List Opt → List ℕ → Option ℕ
 option_place options name = position (λ option. bytes_eq option.name name) options
 
 abbrev pub section_place : List Section → SectionRef → Option ℕ
-section_place sections (Name name) = named_place sections name
-section_place sections (AtPlace kind index) = place_of_kind sections kind index
+section_place sections (ByName name) = named_place sections name
+section_place sections (ByPlace kind index) = place_of_kind sections kind index
 
 -- the place of what the path names in a section: of the section itself where it names no option
 abbrev pub place_in : Section → ℕ → Option (List ℕ) → Option Place

@@ -1,6 +1,7 @@
 -- Packages as text (OpenWrt's UCI file syntax).
 use Rattle.std.specs.Prelude.{ℕ, Bool, List, [], ◌∷◌, ◌++◌, codes, not, nat_eq, ◌&&◌, ◌||◌, if◌then◌else◌}
 use Rattle.std.specs.List.{flat_map, list_any}
+use Rattle.uci_text.specs.Byte.{tab, newline, space, double_quote, number_sign, single_quote, semicolon, backslash}
 use Rattle.uci_text.specs.Quote.{quoted}
 use Rattle.uci_tree.specs.declared.package.Value.{Value}
 use Rattle.uci_tree.specs.declared.package.Value.TheVariants.{One, Many}
@@ -10,7 +11,9 @@ use Rattle.uci_tree.specs.declared.package.Package.{Package}
 
 -- ' " # ; or \, which a bare word cannot hold
 abbrev pub is_special : ℕ → Bool
-is_special byte = nat_eq byte 39 || nat_eq byte 34 || nat_eq byte 35 || nat_eq byte 59 || nat_eq byte 92
+is_special byte =
+    nat_eq byte single_quote || nat_eq byte double_quote || nat_eq byte number_sign
+    || nat_eq byte semicolon || nat_eq byte backslash
 
 -- a type stands bare, and one that holds such a byte is quoted
 abbrev pub kind_text : List ℕ → List ℕ
@@ -18,7 +21,7 @@ kind_text kind = if list_any is_special kind then quoted kind else kind
 
 -- a tab, the keyword, the name and the quoted value
 abbrev pub option_line : List ℕ → List ℕ → List ℕ → List ℕ
-option_line keyword name value = 9 ∷ keyword ++ 32 ∷ name ++ 32 ∷ quoted value ++ 10 ∷ []
+option_line keyword name value = tab ∷ keyword ++ space ∷ name ++ space ∷ quoted value ++ newline ∷ []
 
 -- a value is one line, and a list is one line for each item
 abbrev pub value_text : List ℕ → Value → List ℕ
@@ -30,19 +33,19 @@ option_text option = value_text option.name option.value
 
 -- the quoted name behind a type; an anonymous section has none, unless names are asked for
 abbrev pub name_text : Bool → Section → List ℕ
-name_text names section = if section.anonymous && not names then [] else 32 ∷ quoted section.name
+name_text names section = if section.anonymous && not names then [] else space ∷ quoted section.name
 
 abbrev pub head_text : Bool → Section → List ℕ
-head_text names section = codes "config " ++ kind_text section.kind ++ name_text names section ++ 10 ∷ []
+head_text names section = codes "config " ++ kind_text section.kind ++ name_text names section ++ newline ∷ []
 
 -- an empty line, the type and the name, and the options
 abbrev pub section_text : Bool → Section → List ℕ
-section_text names section = 10 ∷ head_text names section ++ flat_map option_text section.options
+section_text names section = newline ∷ head_text names section ++ flat_map option_text section.options
 
 -- the line of the package's name, where a header is asked for
 abbrev pub header_text : Bool → List ℕ → List ℕ
-header_text header name = if header then codes "package " ++ name ++ 10 ∷ [] else []
+header_text header name = if header then codes "package " ++ name ++ newline ∷ [] else []
 
 -- the header, the sections, and an empty line at the end
 abbrev pub printed : Package → Bool → Bool → List ℕ
-printed tree header names = header_text header tree.name ++ flat_map (section_text names) tree.sections ++ 10 ∷ []
+printed tree header names = header_text header tree.name ++ flat_map (section_text names) tree.sections ++ newline ∷ []

@@ -2,6 +2,7 @@
 use Rattle.std.specs.Prelude.{ℕ, ◌≡◌, ◌≢◌, List, ◌∷◌, ◌++◌, Option, Some, None}
 use Rattle.std.specs.List.{AllByRecursion}
 use Rattle.uci_text.specs.declared.byte_class.ByteClass.TheVariants.{Name}
+use Rattle.uci_text.specs.Byte.{dot}
 use Rattle.uci_text.specs.Table.{IsNameOf}
 
 -- none of the bytes is this one
@@ -19,5 +20,5 @@ pub record CutsAtLast (byte : ℕ) (text front back : List ℕ) : Type 0 where
 
 -- the text is a section, and where this is a name, `.` and it as an option
 abbrev pub CutsOption : List ℕ → List ℕ → Option (List ℕ) → Type 0
-CutsOption text section None = (section ≡ text) × ((before name : List ℕ) → text ≡ before ++ 46 ∷ name → IsNameOf Name name → ⊥)
-CutsOption text section (Some name) = (text ≡ section ++ 46 ∷ name) × IsNameOf Name name
+CutsOption text section None = (section ≡ text) × ((before name : List ℕ) → text ≡ before ++ dot ∷ name → IsNameOf Name name → ⊥)
+CutsOption text section (Some name) = (text ≡ section ++ dot ∷ name) × IsNameOf Name name

@@ -4,6 +4,18 @@ ghost use Rattle.uci_tree.specs.Fault as spec;
 use crate::TreeError;
 use uci_text::TextError;
 
+const BAD_WORD: &[u8] = b"bad word";
+
+const OPEN_QUOTE: &[u8] = b"open quote";
+
+const UNKNOWN_COMMAND: &[u8] = b"unknown command";
+
+const ARGUMENT_COUNT: &[u8] = b"argument count";
+
+const BAD_NAME: &[u8] = b"bad name";
+
+const NO_SECTION: &[u8] = b"no section";
+
 /// What is wrong with a text that is no package.
 #[derive(Clone, Copy, Debug, PartialEq, Eq, Hash)]
 pub enum Reason {
@@ -35,12 +47,12 @@ impl Reason {
         ensures { result.now ≡ spec.reason_text self }
     {
         match self {
-            Reason::BadWord => b"bad word",
-            Reason::OpenQuote => b"open quote",
-            Reason::UnknownCommand => b"unknown command",
-            Reason::ArgumentCount => b"argument count",
-            Reason::BadName => b"bad name",
-            Reason::NoSection => b"no section",
+            Reason::BadWord => BAD_WORD,
+            Reason::OpenQuote => OPEN_QUOTE,
+            Reason::UnknownCommand => UNKNOWN_COMMAND,
+            Reason::ArgumentCount => ARGUMENT_COUNT,
+            Reason::BadName => BAD_NAME,
+            Reason::NoSection => NO_SECTION,
         }
     }
 }

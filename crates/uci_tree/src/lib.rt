@@ -13,13 +13,9 @@ mod package;
 mod path;
 mod path_text;
 mod print;
-#[cfg(test)]
-mod print_tests;
 mod reading;
 mod sections;
 mod split;
-#[cfg(test)]
-mod tests;
 mod tree_error;
 
 pub use anonymous::anonymous_name;

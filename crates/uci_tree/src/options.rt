@@ -31,7 +31,8 @@ impl Options {
     pub fn set(&mut self, name: Text, value: Text) -> Result<(), Memory>
         requires { AreIndexed self.old }
         ensures indexed { OnOk result (AreIndexed self.new) }
-        ensures made { OnOk result (options_of self.new ≡ fold.with_option name value (options_of self.old)) }
+        ensures made { OnOk result
+            (options_of self.new ≡ fold.with_option name value (options_of self.old)) }
     {
         if value.as_bytes().is_empty() {
             self.remove(&name);
@@ -44,7 +45,8 @@ impl Options {
     pub fn append(&mut self, alloc: Global, name: Text, item: Text) -> Result<(), Memory>
         requires { AreIndexed self.old }
         ensures indexed { OnOk result (AreIndexed self.new) }
-        ensures made { OnOk result (options_of self.new ≡ fold.with_item name item (options_of self.old)) }
+        ensures made { OnOk result
+            (options_of self.new ≡ fold.with_item name item (options_of self.old)) }
     {
         let Some(place) = self.places.get(&name).copied() else {
             let items = list_of(alloc, item)?;
@@ -61,10 +63,9 @@ impl Options {
     pub fn finish(self, alloc: Global) -> Result<Items<Opt>, Memory>
         ensures { IfOk result (λ options. options ≡ options_of self) }
     {
-        let Options { mut slots, .. } = self;
-        slots.reverse();
+        let Options { slots, .. } = self;
         let mut options = Items::new(alloc);
-        while let Some(slot) = slots.pop() {
+        for slot in slots {
             if let Some(option) = slot {
                 options.push(option)?;
             }
@@ -75,7 +76,8 @@ impl Options {
     fn put(&mut self, name: Text, value: Value) -> Result<(), Memory>
         requires { AreIndexed self.old }
         ensures indexed { OnOk result (AreIndexed self.new) }
-        ensures made { OnOk result (options_of self.new ≡ fold.put name (λ before. value) (options_of self.old)) }
+        ensures made { OnOk result
+            (options_of self.new ≡ fold.put name (λ before. value) (options_of self.old)) }
     {
         if let Some(place) = self.places.get(&name).copied() {
             self.slots[place] = Some(Opt { name, value });

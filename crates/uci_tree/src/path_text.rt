@@ -1,8 +1,9 @@
 ghost use Rattle.std.specs.Prelude.{◌≡◌, ◌∷◌, ℤ, Err, IfOk, IfSome, IfNone};
 ghost use Rattle.std.specs.Option.{option_copied};
+ghost use Rattle.uci_text.specs.Byte.{dot, at_sign};
 ghost use Rattle.uci_tree.specs.Split.{HasNone};
-ghost use Rattle.uci_tree.specs.declared.path.Path.{Path as AnyPath};
-ghost use Rattle.uci_tree.specs.declared.path.SectionRef.{SectionRef as AnyRef};
+ghost use Rattle.uci_tree.specs.declared.path.Path.{Path};
+ghost use Rattle.uci_tree.specs.declared.path.SectionRef.{SectionRef};
 ghost use Rattle.uci_tree.specs.Path.{SpellsIndex, SpellsRef, SpellsPath};
 
 use crate::split::{cut_first, cut_last, cut_option};
@@ -14,19 +15,19 @@ use uci_text::{ByteClass, is_name};
 
 /// Why a text is not read as a path.
 #[derive(Clone, Copy, Debug)]
-enum Stop {
+enum PathError {
     NoPath,
     Memory,
 }
 
-impl From<Memory> for Stop {
+impl From<Memory> for PathError {
     ghost use Rattle.std.specs.Prelude.{◌≡◌};
-    ghost use Rattle.uci_tree.specs.declared.path_text.Stop.TheVariants.{Memory as NoMemory};
+    ghost use Rattle.uci_tree.specs.declared.path_text.PathError.TheVariants.{Memory as NoMemory};
 
-    ghost from_gives = { λ _ stop. stop ≡ NoMemory };
+    ghost from_gives = { λ _ error. error ≡ NoMemory };
 
-    fn from(_error: Memory) -> Stop {
-        Stop::Memory
+    fn from(_error: Memory) -> PathError {
+        PathError::Memory
     }
 }
 
@@ -34,25 +35,27 @@ impl From<Memory> for Stop {
 /// being a decimal of 32 bits with an optional `-`. `None` where the text is no path.
 pub fn read_path(alloc: Global, text: &[u8]) -> Result<Option<Path>, Memory>
     ensures found { IfOk result (λ found. IfSome found (λ path. SpellsPath text.now path)) }
-    ensures only { IfOk result (λ found. IfSome found (λ path. (other : AnyPath) → SpellsPath text.now other → other ≡ path)) }
-    ensures none { IfOk result (λ found. IfNone found ((path : AnyPath) → SpellsPath text.now path → ⊥)) }
+    ensures only { IfOk result (λ found.
+        IfSome found (λ path. (other : Path) → SpellsPath text.now other → other ≡ path)) }
+    ensures none { IfOk result (λ found.
+        IfNone found ((path : Path) → SpellsPath text.now path → ⊥)) }
 {
     match path_of(alloc, text) {
         Ok(path) => Ok(Some(path)),
-        Err(Stop::NoPath) => Ok(None),
-        Err(Stop::Memory) => Err(Memory),
+        Err(PathError::NoPath) => Ok(None),
+        Err(PathError::Memory) => Err(Memory),
     }
 }
 
-fn path_of(alloc: Global, text: &[u8]) -> Result<Path, Stop>
+fn path_of(alloc: Global, text: &[u8]) -> Result<Path, PathError>
     ensures found { IfOk result (λ path. SpellsPath text.now path) }
-    ensures none { result ≡ Err Stop.NoPath → (path : AnyPath) → SpellsPath text.now path → ⊥ }
+    ensures none { result ≡ Err PathError.NoPath → (path : Path) → SpellsPath text.now path → ⊥ }
 {
     let Some((name, place)) = cut_first(text, b'.') else {
         return package_path(alloc, text);
     };
     if !is_name(ByteClass::PackageName, name) {
-        return Err(Stop::NoPath);
+        return Err(PathError::NoPath);
     }
     let (section, option) = cut_option(place);
     Ok(Path {
@@ -62,13 +65,13 @@ fn path_of(alloc: Global, text: &[u8]) -> Result<Path, Stop>
     })
 }
 
-fn package_path(alloc: Global, text: &[u8]) -> Result<Path, Stop>
-    requires { HasNone 46 text.now }
+fn package_path(alloc: Global, text: &[u8]) -> Result<Path, PathError>
+    requires { HasNone dot text.now }
     ensures found { IfOk result (λ path. SpellsPath text.now path) }
-    ensures none { result ≡ Err Stop.NoPath → (path : AnyPath) → SpellsPath text.now path → ⊥ }
+    ensures none { result ≡ Err PathError.NoPath → (path : Path) → SpellsPath text.now path → ⊥ }
 {
     if !is_name(ByteClass::PackageName, text) {
-        return Err(Stop::NoPath);
+        return Err(PathError::NoPath);
     }
     Ok(Path {
         package: Text::from_bytes(alloc, text)?,
@@ -86,38 +89,40 @@ fn copy_option(alloc: Global, name: Option<&[u8]>) -> Result<Option<Text>, Memor
     }
 }
 
-fn read_ref(alloc: Global, text: &[u8]) -> Result<SectionRef, Stop>
+fn read_ref(alloc: Global, text: &[u8]) -> Result<SectionRef, PathError>
     ensures found { IfOk result (λ reference. SpellsRef text.now reference) }
-    ensures none { result ≡ Err Stop.NoPath → (reference : AnyRef) → SpellsRef text.now reference → ⊥ }
+    ensures none { result ≡ Err PathError.NoPath →
+        (reference : SectionRef) → SpellsRef text.now reference → ⊥ }
 {
     if let Some(behind) = text.strip_prefix(b"@") {
         return read_place(alloc, behind);
     }
     if !is_name(ByteClass::Name, text) {
-        return Err(Stop::NoPath);
+        return Err(PathError::NoPath);
     }
     Ok(SectionRef::Name(Text::from_bytes(alloc, text)?))
 }
 
 /// Reads what is behind the `@` of a section by its place.
-fn read_place(alloc: Global, text: &[u8]) -> Result<SectionRef, Stop>
-    ensures found { IfOk result (λ reference. SpellsRef (64 ∷ text.now) reference) }
-    ensures none { result ≡ Err Stop.NoPath → (reference : AnyRef) → SpellsRef (64 ∷ text.now) reference → ⊥ }
+fn read_place(alloc: Global, text: &[u8]) -> Result<SectionRef, PathError>
+    ensures found { IfOk result (λ reference. SpellsRef (at_sign ∷ text.now) reference) }
+    ensures none { result ≡ Err PathError.NoPath →
+        (reference : SectionRef) → SpellsRef (at_sign ∷ text.now) reference → ⊥ }
 {
     let Some((inner, end)) = cut_last(text, b']') else {
-        return Err(Stop::NoPath);
+        return Err(PathError::NoPath);
     };
     let Some((kind, digits)) = cut_last(inner, b'[') else {
-        return Err(Stop::NoPath);
+        return Err(PathError::NoPath);
     };
     if !end.is_empty() {
-        return Err(Stop::NoPath);
+        return Err(PathError::NoPath);
     }
     if !is_name(ByteClass::Printable, kind) {
-        return Err(Stop::NoPath);
+        return Err(PathError::NoPath);
     }
     let Some(index) = read_index(digits) else {
-        return Err(Stop::NoPath);
+        return Err(PathError::NoPath);
     };
     Ok(SectionRef::Place {
         kind: Text::from_bytes(alloc, kind)?,

@@ -107,7 +107,8 @@ fn print_value(out: &mut Vec<u8>, name: &[u8], value: &Value) -> Result<(), Memo
 }
 
 fn print_items(out: &mut Vec<u8>, name: &[u8], items: &[Text]) -> Result<(), Memory>
-    ensures { OnOk result (out.new.items ≡ out.old.items ++ flat_map (print.option_line (codes "list") name.now) items.now) }
+    ensures { OnOk result (out.new.items ≡
+        out.old.items ++ flat_map (print.option_line (codes "list") name.now) items.now) }
 {
     for item in items {
         print_line(out, b"list", name, item.as_bytes())?;
@@ -116,7 +117,8 @@ fn print_items(out: &mut Vec<u8>, name: &[u8], items: &[Text]) -> Result<(), Mem
 }
 
 fn print_line(out: &mut Vec<u8>, keyword: &[u8], name: &[u8], value: &[u8]) -> Result<(), Memory>
-    ensures { OnOk result (out.new.items ≡ out.old.items ++ print.option_line keyword.now name.now value.now) }
+    ensures { OnOk result
+        (out.new.items ≡ out.old.items ++ print.option_line keyword.now name.now value.now) }
 {
     out.push(b'\t')?;
     out.extend_from_slice(keyword)?;

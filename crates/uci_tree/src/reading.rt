@@ -1,6 +1,6 @@
 ghost use Rattle.std.specs.Prelude.{◌≡◌, ◌≢◌, ◌<◌, ◌-◌, ◌^◌, length, Ok, Err, IfOk, IfErr};
-ghost use Rattle.uci_tree.specs.declared.package.Package.{Package as AnyPackage};
-ghost use Rattle.uci_tree.specs.declared.tree_error.TreeError.{TreeError as Fault};
+ghost use Rattle.uci_tree.specs.declared.package.Package.{Package};
+ghost use Rattle.uci_tree.specs.declared.tree_error.TreeError.{TreeError};
 ghost use Rattle.uci_tree.specs.Fold as fold;
 ghost use Rattle.uci_tree.specs.Index.{IsLack, draft_of};
 ghost use Rattle.uci_tree.specs.Reading.{Reads, HasTreeFault};
@@ -29,8 +29,10 @@ use uci_text::{Cmd, read_commands};
 pub fn read_package(alloc: Global, name: &[u8], text: &[u8]) -> Result<Package, TreeError>
     requires { length text.now < 2 ^ 32 - 1 }
     ensures found { IfOk result (λ tree. Reads name.now text.now tree) }
-    ensures only { IfOk result (λ tree. (other : AnyPackage) → Reads name.now text.now other → other ≡ tree) }
-    ensures refused { (error : Fault) → result ≡ Err error → error ≢ TreeError.Memory → HasTreeFault text.now error }
+    ensures only { IfOk result (λ tree.
+        (other : Package) → Reads name.now text.now other → other ≡ tree) }
+    ensures refused { (error : TreeError) → result ≡ Err error → error ≢ TreeError.Memory →
+        HasTreeFault text.now error }
     ensures valid { IsNameOf ByteClass.PackageName name.now → IfOk result IsValid }
 {
     let commands = read_commands(alloc, text)?;
@@ -45,13 +47,13 @@ pub fn read_package(alloc: Global, name: &[u8], text: &[u8]) -> Result<Package, 
 }
 
 /// What the commands make, one after another.
-fn sections_of(alloc: Global, mut commands: Vec<Cmd>) -> Result<Sections, TreeError>
-    ensures made { IfOk result (λ sections. fold.after_all fold.nothing commands.items ≡ Ok (draft_of sections)) }
+fn sections_of(alloc: Global, commands: Vec<Cmd>) -> Result<Sections, TreeError>
+    ensures made { IfOk result (λ sections.
+        fold.after_all fold.nothing commands.items ≡ Ok (draft_of sections)) }
     ensures refused { IfErr result (IsLack (fold.after_all fold.nothing commands.items)) }
 {
     let mut sections = Sections::new(alloc);
-    commands.reverse();
-    while let Some(command) = commands.pop() {
+    for command in commands {
         sections.take(alloc, command)?;
     }
     Ok(sections)

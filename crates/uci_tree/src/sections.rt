@@ -37,10 +37,9 @@ impl Sections {
     pub fn finish(self, alloc: Global) -> Result<Vec<Section>, Memory>
         ensures { IfOk result (λ finished. finished.items ≡ sections_of self.sections.items) }
     {
-        let Sections { mut sections, .. } = self;
-        sections.reverse();
+        let Sections { sections, .. } = self;
         let mut finished = Vec::new(alloc);
-        while let Some(section) = sections.pop() {
+        for section in sections {
             finished.push(section.finish(alloc)?)?;
         }
         Ok(finished)
@@ -50,7 +49,8 @@ impl Sections {
     pub fn take(&mut self, alloc: Global, command: Cmd) -> Result<(), TreeError>
         requires { IsIndexed self.old }
         ensures indexed { OnOk result (IsIndexed self.new) }
-        ensures made { OnOk result (fold.after (draft_of self.old) command ≡ Ok (draft_of self.new)) }
+        ensures made { OnOk result
+            (fold.after (draft_of self.old) command ≡ Ok (draft_of self.new)) }
         ensures refused { IfErr result (IsLack (fold.after (draft_of self.old) command)) }
     {
         match command {
@@ -64,7 +64,8 @@ impl Sections {
     fn config(&mut self, alloc: Global, kind: Text, name: Option<Text>) -> Result<(), Memory>
         requires { IsIndexed self.old }
         ensures indexed { OnOk result (IsIndexed self.new) }
-        ensures made { OnOk result (draft_of self.new ≡ fold.configured (draft_of self.old) kind name) }
+        ensures made { OnOk result
+            (draft_of self.new ≡ fold.configured (draft_of self.old) kind name) }
     {
         let Some(name) = name else {
             let name = anonymous_name(alloc, self.sections.len() as u64 + 1, kind.as_bytes())?;
@@ -80,7 +81,8 @@ impl Sections {
     fn add(&mut self, alloc: Global, name: Text, anonymous: bool, kind: Text) -> Result<(), Memory>
         requires { IsIndexed self.old }
         ensures indexed { OnOk result (IsIndexed self.new) }
-        ensures made { OnOk result (draft_of self.new ≡ fold.added (draft_of self.old) name anonymous kind) }
+        ensures made { OnOk result
+            (draft_of self.new ≡ fold.added (draft_of self.old) name anonymous kind) }
     {
         let place = self.sections.len();
         note(&mut self.places, &name, place)?;
@@ -108,8 +110,11 @@ impl Sections {
     fn option(&mut self, line: u32, name: Text, value: Text) -> Result<(), TreeError>
         requires { IsIndexed self.old }
         ensures indexed { OnOk result (IsIndexed self.new) }
-        ensures made { OnOk result (fold.with_options (draft_of self.old) line (fold.with_option name value) ≡ Ok (draft_of self.new)) }
-        ensures refused { IfErr result (IsLack (fold.with_options (draft_of self.old) line (fold.with_option name value))) }
+        ensures made { OnOk result
+            (fold.with_options (draft_of self.old) line (fold.with_option name value)
+            ≡ Ok (draft_of self.new)) }
+        ensures refused { IfErr result
+            (IsLack (fold.with_options (draft_of self.old) line (fold.with_option name value))) }
     {
         let Some(place) = self.current else {
             return Err(TreeError::NoSection { line });
@@ -121,8 +126,11 @@ impl Sections {
     fn item(&mut self, alloc: Global, line: u32, name: Text, item: Text) -> Result<(), TreeError>
         requires { IsIndexed self.old }
         ensures indexed { OnOk result (IsIndexed self.new) }
-        ensures made { OnOk result (fold.with_options (draft_of self.old) line (fold.with_item name item) ≡ Ok (draft_of self.new)) }
-        ensures refused { IfErr result (IsLack (fold.with_options (draft_of self.old) line (fold.with_item name item))) }
+        ensures made { OnOk result
+            (fold.with_options (draft_of self.old) line (fold.with_item name item)
+            ≡ Ok (draft_of self.new)) }
+        ensures refused { IfErr result
+            (IsLack (fold.with_options (draft_of self.old) line (fold.with_item name item))) }
     {
         let Some(place) = self.current else {
             return Err(TreeError::NoSection { line });

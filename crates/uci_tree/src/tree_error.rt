@@ -36,7 +36,8 @@ impl TreeError {
 }
 
 impl From<TextError> for TreeError {
-    ghost from_gives = { λ e t. (e ≡ text_error.Memory → t ≡ NoMemory) × (e ≢ text_error.Memory → t ≡ OfText e) };
+    ghost from_gives = { λ e t.
+        (e ≡ text_error.Memory → t ≡ NoMemory) × (e ≢ text_error.Memory → t ≡ OfText e) };
 
     fn from(error: TextError) -> TreeError {
         match error {

@@ -1,6 +1,6 @@
 use Rattle.std.proofs.Common.{◌≡◌, Err, true, false}
 use Rattle.std.proofs.lemmas.Result.{err_from_is_err_and}
-use Rattle.uci_tree.specs.declared.path_text.Stop.TheVariants.{NoPath}
+use Rattle.uci_tree.specs.declared.path_text.PathError.TheVariants.{NoPath}
 use Rattle.uci_tree.proofs.PathLemmas.{not_named, not_a_ref, path_found}
 use Rattle.uci_tree.proofs.path_text.path_of.Goals as goal
 

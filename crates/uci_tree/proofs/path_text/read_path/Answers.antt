@@ -1,5 +1,5 @@
 use Rattle.std.proofs.Common.{◌≡◌, Err}
-use Rattle.uci_tree.specs.declared.path_text.Stop.TheVariants.{NoPath}
+use Rattle.uci_tree.specs.declared.path_text.PathError.TheVariants.{NoPath}
 use Rattle.uci_tree.proofs.PathLemmas.{one_path}
 use Rattle.uci_tree.proofs.path_text.read_path.Goals as goal
 

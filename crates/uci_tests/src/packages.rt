@@ -1,43 +1,8 @@
-use super::*;
-use plane_io::Text;
+use crate::router::ROUTER;
 use std::alloc::Global;
 use std::process::Abort;
 use std::test::Fail;
-use uci_text::TextError;
-
-/// The network file of a router with one bridge.
-pub const ROUTER: &[u8] = b"config interface 'loopback'
-\toption device 'lo'
-\toption proto 'static'
-\toption ipaddr '127.0.0.1'
-\toption netmask '255.0.0.0'
-
-config globals 'globals'
-\toption ula_prefix 'fd12:3456:789a::/48'
-
-config device
-\toption name 'br-lan'
-\toption type 'bridge'
-\tlist ports 'lan1'
-\tlist ports 'lan2'
-\tlist ports 'lan3'
-\tlist ports 'lan4'
-
-config interface 'lan'
-\toption device 'br-lan'
-\toption proto 'static'
-\toption ipaddr '192.168.1.1'
-\toption netmask '255.255.255.0'
-\toption ip6assign '60'
-
-config interface 'wan'
-\toption device 'wan'
-\toption proto 'dhcp'
-
-config interface 'wan6'
-\toption device 'wan'
-\toption proto 'dhcpv6'
-";
+use uci_tree::{Package, TreeError, Value, anonymous_name, copy_package, read_package};
 
 /// The package as text: a line for each section, with its name, its type and whether it is anonymous, and behind it each
 /// option with its value, or its items between brackets.
@@ -129,10 +94,7 @@ fn rules_of_sections(rt: HostRuntime) -> Result<(), Fail> {
         (b"option a b", b"no section 1"),
         (b"\n\nlist a b\nconfig x\noption a b", b"no section 3"),
         (b"option a b\noption \"a", b"open quote in line 2"),
-        (
-            b"option a b\nconfig x y z",
-            b"wrong number of arguments in line 2",
-        ),
+        (b"option a b\nconfig x y z", b"argument count in line 2"),
     ];
     assert_outcomes(&rt, rt.alloc(), &texts)
 }
@@ -200,70 +162,8 @@ fn rules_of_lists(rt: HostRuntime) -> Result<(), Fail> {
     assert_outcomes(&rt, rt.alloc(), &texts)
 }
 
-/// Where the path leads in the file of a router: the section's place, and the option's where there is one.
-fn place(rt: &impl Abort, alloc: Global, path: &[u8]) -> Result<Vec<u8>, Fail> {
-    assert!(rt; ROUTER.len() < 4096);
-    let tree = read_package(alloc, b"network", ROUTER)?;
-    let Some(path) = read_path(alloc, path)? else {
-        return Ok(Vec::from_slice(alloc, b"no path")?);
-    };
-    match find(&tree, &path) {
-        None => Ok(Vec::from_slice(alloc, b"none")?),
-        Some(
-            Place {
-                section,
-                option: None,
-            },
-        ) => Ok(format!(in alloc; "{section}")?.into_bytes()),
-        Some(
-            Place {
-                section,
-                option: Some(option),
-            },
-        ) => { Ok(format!(in alloc; "{section} {option}")?.into_bytes()) }
-    }
-}
-
 #[test]
-fn places_in_the_file_of_a_router(rt: HostRuntime) -> Result<(), Fail> {
-    let paths: [(&[u8], &[u8]); 27] = [
-        (b"network.lan", b"3"),
-        (b"network.lan.ipaddr", b"3 2"),
-        (b"other.lan.ipaddr", b"3 2"),
-        (b"network.cfg030f15.ports", b"2 2"),
-        (b"network.@device[0]", b"2"),
-        (b"network.@device[-1].name", b"2 0"),
-        (b"network.@device[-2]", b"none"),
-        (b"network.@device[5]", b"none"),
-        (b"network.@interface[0]", b"0"),
-        (b"network.@interface[3]", b"5"),
-        (b"network.@interface[4]", b"none"),
-        (b"network.@interface[-1]", b"5"),
-        (b"network.@interface[-2]", b"4"),
-        (b"network.@interface[-4]", b"0"),
-        (b"network.@interface[-5]", b"none"),
-        (b"network.@interface[-2147483648]", b"none"),
-        (b"network.@interface[2147483648]", b"no path"),
-        (b"network.@interface[001].proto", b"3 1"),
-        (b"network.@interface[-0]", b"0"),
-        (b"network.@interface[+1]", b"no path"),
-        (b"network.@[0]", b"no path"),
-        (b"network.@a.b[1][0].c", b"none"),
-        (b"network.lan.", b"no path"),
-        (b"network.lan.a.b", b"no path"),
-        (b"network", b"none"),
-        (b"", b"no path"),
-        (b"network.absent.a", b"none"),
-    ];
-    for (path, expected) in paths {
-        let found = place(&rt, rt.alloc(), path)?;
-        assert_eq!(rt; found.as_slice(), expected, "{path:?}");
-    }
-    Ok(())
-}
-
-#[test]
-fn copies_and_numbers(rt: HostRuntime) -> Result<(), Fail> {
+fn a_package_is_copied(rt: HostRuntime) -> Result<(), Fail> {
     assert!(rt; ROUTER.len() < 4096);
     let tree = read_package(rt.alloc(), b"network", ROUTER)?;
     let copy = copy_package(rt.alloc(), &tree)?;
@@ -273,13 +173,19 @@ fn copies_and_numbers(rt: HostRuntime) -> Result<(), Fail> {
         shown(rt.alloc(), &copy)?.as_slice(),
         shown(rt.alloc(), &tree)?.as_slice()
     );
-    let name: Text = anonymous_name(rt.alloc(), 300, b"system")?;
-    assert_eq!(rt; name.as_bytes(), b"cfg12ce48a".as_slice());
-    assert_eq!(rt; TreeError::NoSection { line: 1 }.number(), 15);
-    assert_eq!(rt;
-        TreeError::Text(TextError::BadName { line: 1 }).number(),
-        14
-    );
-    assert_eq!(rt; TreeError::Memory.number(), 8);
+    Ok(())
+}
+
+#[test]
+fn names_of_anonymous_sections(rt: HostRuntime) -> Result<(), Fail> {
+    let names: [(u64, &[u8], &[u8]); 3] = [
+        (1, b"system", b"cfg01e48a"),
+        (3, b"device", b"cfg030f15"),
+        (300, b"system", b"cfg12ce48a"),
+    ];
+    for (ordinal, kind, expected) in names {
+        let name = anonymous_name(rt.alloc(), ordinal, kind)?;
+        assert_eq!(rt; name.as_bytes(), expected);
+    }
     Ok(())
 }

@@ -1,10 +1,10 @@
-use super::*;
 use std::alloc::Global;
 use std::process::Abort;
 use std::test::Fail;
+use uci_text::{TextError, read_lines};
 
 /// The lines as text: on a line each, the number, and each word behind a bar.
-fn shown(rt: &impl Abort, alloc: Global, text: &[u8]) -> Result<Vec<u8>, Fail> {
+pub fn lines_shown(rt: &impl Abort, alloc: Global, text: &[u8]) -> Result<Vec<u8>, Fail> {
     assert!(rt; text.len() < 4096);
     let lines = read_lines(alloc, text)?;
     let mut out = Vec::new(alloc);
@@ -82,7 +82,7 @@ const RULES: [(&[u8], &[u8]); 37] = [
 #[test]
 fn rules_of_words(rt: HostRuntime) -> Result<(), Fail> {
     for (text, lines) in RULES {
-        let read = shown(&rt, rt.alloc(), text)?;
+        let read = lines_shown(&rt, rt.alloc(), text)?;
         assert_eq!(rt; read.as_slice(), lines, "{text:?}");
     }
     Ok(())
@@ -122,7 +122,7 @@ const ODD_TEXTS: [(&[u8], &[u8]); 27] = [
 #[test]
 fn odd_texts_are_read(rt: HostRuntime) -> Result<(), Fail> {
     for (text, lines) in ODD_TEXTS {
-        let read = shown(&rt, rt.alloc(), text)?;
+        let read = lines_shown(&rt, rt.alloc(), text)?;
         assert_eq!(rt; read.as_slice(), lines, "{text:?}");
     }
     Ok(())
@@ -189,7 +189,7 @@ const REFUSED: [(&[u8], u8, u32); 56] = [
 ];
 
 #[test]
-fn texts_are_refused(rt: HostRuntime) {
+fn first_faults_of_bytes(rt: HostRuntime) {
     for (text, number, line) in REFUSED {
         assert!(rt; text.len() < 4096);
         let error = read_lines(rt.alloc(), text).err();
@@ -200,49 +200,4 @@ fn texts_are_refused(rt: HostRuntime) {
         };
         assert_eq!(rt; error, Some(wanted), "{text:?}");
     }
-}
-
-/// Values, and how they are quoted.
-const QUOTED: [(&[u8], &[u8]); 6] = [
-    (b"", b"''"),
-    (b"a", b"'a'"),
-    (b"'", b"''\\'''"),
-    (b"a'b", b"'a'\\''b'"),
-    (b"''", b"''\\'''\\'''"),
-    (b"\n\\\"#; \xff", b"'\n\\\"#; \xff'"),
-];
-
-#[test]
-fn quoted_values_are_read(rt: HostRuntime) -> Result<(), Fail> {
-    for (value, text) in QUOTED {
-        let mut quoted = Vec::new(rt.alloc());
-        quote_into(&mut quoted, value)?;
-        assert_eq!(rt; quoted.as_slice(), text);
-        let mut wanted = Vec::from_slice(rt.alloc(), b"1|")?;
-        wanted.extend_from_slice(value)?;
-        wanted.push(b'\n')?;
-        let read = shown(&rt, rt.alloc(), quoted.as_slice())?;
-        assert_eq!(rt; read.as_slice(), wanted.as_slice());
-    }
-    Ok(())
-}
-
-#[test]
-fn errors_and_laws(rt: HostRuntime) -> Result<(), Fail> {
-    let bad = TextError::BadWord { line: 7 };
-    let open = TextError::OpenQuote { line: 8 };
-    assert_eq!(rt; bad.number(), 10);
-    assert_eq!(rt; open.number(), 11);
-    assert_eq!(rt; TextError::Memory.number(), 8);
-    let texts = format!(in rt.alloc(); "{bad}, {open}, {}", TextError::Memory)?;
-    assert_eq!(rt;
-        texts.as_str(),
-        "bad word in line 7, open quote in line 8, out of memory"
-    );
-    one_reading();
-    one_fault();
-    no_reading_with_fault();
-    reading_or_fault();
-    lines_have_words();
-    Ok(())
 }

@@ -1,8 +1,8 @@
-use super::*;
-use crate::tests::ROUTER;
+use crate::router::ROUTER;
 use std::alloc::Global;
 use std::process::Abort;
 use std::test::Fail;
+use uci_tree::{print_package, read_package};
 
 /// What is printed of the package that a short text is read as.
 fn reprinted(

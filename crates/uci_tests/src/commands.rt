@@ -1,7 +1,7 @@
-use super::*;
 use std::alloc::{AllocError, Global};
 use std::process::Abort;
 use std::test::Fail;
+use uci_text::{Cmd, TextError, read_commands};
 
 fn push_words(out: &mut Vec<u8>, words: &[&[u8]]) -> Result<(), AllocError> {
     for word in words {
@@ -186,7 +186,7 @@ const REFUSED: [(&[u8], u8, u32); 62] = [
 ];
 
 #[test]
-fn first_faults_of_all(rt: HostRuntime) {
+fn first_faults_of_commands(rt: HostRuntime) {
     for (text, number, line) in REFUSED {
         assert!(rt; text.len() < 4096);
         let error = read_commands(rt.alloc(), text).err();
@@ -200,24 +200,4 @@ fn first_faults_of_all(rt: HostRuntime) {
         assert_eq!(rt; error, Some(wanted), "{text:?}");
         assert_eq!(rt; wanted.number(), number);
     }
-}
-
-#[test]
-fn texts_of_errors(rt: HostRuntime) -> Result<(), Fail> {
-    let errors: [(TextError, &str); 3] = [
-        (
-            TextError::UnknownCommand { line: 1 },
-            "unknown command in line 1",
-        ),
-        (
-            TextError::ArgumentCount { line: 2 },
-            "wrong number of arguments in line 2",
-        ),
-        (TextError::BadName { line: 3 }, "bad name in line 3"),
-    ];
-    for (error, text) in errors {
-        let told = format!(in rt.alloc(); "{error}")?;
-        assert_eq!(rt; told.as_str(), text);
-    }
-    Ok(())
 }
