@@ -1,5 +1,5 @@
 -- Texts whose readings and faults the checker computes.
-use Rattle.std.proofs.Common.{ℕ, ◌≡◌, ◌<◌, List, [], ◌∷◌, ◌++◌, length, Bool, true, false, Some, inl, inr, refl, codes, arith}
+use Rattle.std.proofs.Common.{ℕ, ◌≡◌, ◌<◌, List, [], ◌∷◌, ◌++◌, length, Bool, true, false, Some, None, inl, inr, refl, codes, arith}
 use Rattle.std.specs.Prelude.{◌&&◌}
 use Rattle.std.specs.List.{list_all}
 use Rattle.uci_text.specs.declared.text_error.TextError.TheVariants.{BadWord, OpenQuote, ArgumentCount}
@@ -12,38 +12,38 @@ use Rattle.uci_text.specs.Piece.{Piece, plain, escaped, single, double, kept}
 use Rattle.uci_text.specs.Word.{Spaced, IsWord, IsSpaced}
 use Rattle.uci_text.specs.Gap.{blank, comment, IsGap}
 use Rattle.uci_text.specs.Command.{SpellsCommand}
-use Rattle.uci_text.specs.Open.{open_single, open_pair, IsOpenCommand, ended, unended}
+use Rattle.uci_text.specs.Open.{open_single, open_double, open_pair, IsOpenCommand, ended, unended}
 use Rattle.uci_text.specs.Text.{Spells}
 use Rattle.uci_text.specs.Fault.{zero_byte, no_end, IsFirstFault}
-use Rattle.uci_text.specs.Table.{of_count}
-use Rattle.uci_text.specs.Commands.{SpellsCommands, of_words, IsFirstCommandFault}
+use Rattle.uci_text.specs.Table.{of_count, IsCmd}
+use Rattle.uci_text.specs.Commands.{SpellsCommands, of_bytes, of_words, IsFirstCommandFault}
 use Rattle.uci_text.proofs.FaultLemmas.{gap_faultless}
-use Rattle.uci_text.proofs.CommandsLemmas.{gap_free}
+use Rattle.uci_text.proofs.CommandsLemmas.{gap_free, command_free}
 
 both : (t u : Bool) → (t && u) ≡ true → (t ≡ true) × (u ≡ true)
 both true u h = (refl, h)
 both false u h = absurd (let n : false ≡ true = h in cc)
 
-tested : (class : ByteClass) (bytes : List ℕ) → list_all (λ byte. is_in class byte) bytes ≡ true → AllIn class bytes
+pub tested : (class : ByteClass) (bytes : List ℕ) → list_all (λ byte. is_in class byte) bytes ≡ true → AllIn class bytes
 tested class [] h = tt
 tested class (b ∷ bytes) h =
     let p : (is_in class b ≡ true) × (list_all (λ byte. is_in class byte) bytes ≡ true) = both (is_in class b) (list_all (λ byte. is_in class byte) bytes) h in
     (p.0, tested class bytes p.1)
 
-abbrev word : List ℕ → List Piece
+abbrev pub word : List ℕ → List Piece
 word text = plain text ∷ []
 
-abbrev spaced : List ℕ → Spaced
+abbrev pub spaced : List ℕ → Spaced
 spaced text = record { spaces = 32 ∷ []; pieces = word text }
 
-is_word : (text : List ℕ) → 0 < length text → list_all (λ byte. is_in Plain byte) text ≡ true → IsWord (word text)
+pub is_word : (text : List ℕ) → 0 < length text → list_all (λ byte. is_in Plain byte) text ≡ true → IsWord (word text)
 is_word text l h = record { some = omega arith; each = ((l, tested Plain text h), tt) }
 
-is_spaced : (text : List ℕ) → 0 < length text → list_all (λ byte. is_in Plain byte) text ≡ true → IsSpaced (spaced text)
+pub is_spaced : (text : List ℕ) → 0 < length text → list_all (λ byte. is_in Plain byte) text ≡ true → IsSpaced (spaced text)
 is_spaced text l h = record { apart = omega arith; spaces = (refl, tt); is = is_word text l h }
 
 -- no gap before a command
-no_gap : (b : ℕ) (bytes : List ℕ) → ends_word b ≡ false → IsGap [] (b ∷ bytes)
+pub no_gap : (b : ℕ) (bytes : List ℕ) → ends_word b ≡ false → IsGap [] (b ∷ bytes)
 no_gap b bytes h = record { fillers = []; whole = refl; each = tt; next = rw h refl }
 
 abbrev two_commands : List ℕ
@@ -172,3 +172,68 @@ three_arguments = record {
       gap_is = record { fillers = []; whole = refl; each = tt; next = tt };
       words_are = refl;
     }
+
+-- one command
+pub option_alone : SpellsCommands (codes "option a b") (ItemCmd 1 (codes "a") (codes "b") ∷ [])
+option_alone = record {
+  lines = record { line = 1; words = codes "option" ∷ codes "a" ∷ codes "b" ∷ [] } ∷ [];
+  spelled = record {
+    gap = [];
+    behind = codes "option a b";
+    whole = refl;
+    clean = tested NotZero (codes "option a b") refl;
+    front = no_gap 111 (codes "ption a b") refl;
+    commands = record {
+      extent = codes "option a b";
+      behind = [];
+      whole = refl;
+      place = refl;
+      spelled = record {
+        command = record { first = word (codes "option"); others = spaced (codes "a") ∷ spaced (codes "b") ∷ []; last = [] };
+        gap = [];
+        whole = refl;
+        is = record { first = is_word (codes "option") (omega arith) refl; others = (is_spaced (codes "a") (omega arith) refl, (is_spaced (codes "b") (omega arith) refl, tt)); last = tt };
+        end = tt;
+        gap_is = record { fillers = []; whole = refl; each = tt; next = tt };
+        words_are = refl;
+      };
+      rest = refl;
+    };
+  };
+  each = (record { keyword = Item; is = record { begins = inl refl; count = inr refl; named = (omega arith, tested Name (codes "a") refl) }; cmd_is = refl }, tt);
+}
+
+-- a quote that is open on the second line, after a command that has no fault
+pub open_on_second_line : IsFirstCommandFault (codes "config x\n\"a") (OpenQuote 2)
+open_on_second_line = record {
+  good = [] ∷ codes "config x\n" ∷ [];
+  bad = codes "\"a";
+  behind = [];
+  whole = refl;
+  extents = (no_gap 99 (codes "onfig x\n\"a") refl, (ended words spelled, (unended [] (open_double (kept (codes "a") ∷ [])) is_open refl, tt)));
+  free = (
+    gap_free [] (codes "config x\n") (no_gap 99 (codes "onfig x\n") refl) tt,
+    (command_free (codes "config x\n") (codes "\"a") 1 words (ConfigCmd 1 (codes "x") None) spelled (tested NotZero (codes "config x\n") refl) is_config, tt),
+  );
+  fault = of_bytes (no_end [] (open_double (kept (codes "a") ∷ [])) (tested NotZero (codes "\"a") refl) is_open refl);
+}
+  where
+    words : List (List ℕ)
+    words = codes "config" ∷ codes "x" ∷ []
+
+    spelled : SpellsCommand (codes "config x\n") (codes "\"a") words
+    spelled = record {
+      command = record { first = word (codes "config"); others = spaced (codes "x") ∷ []; last = [] };
+      gap = codes "\n";
+      whole = refl;
+      is = record { first = is_word (codes "config") (omega arith) refl; others = (is_spaced (codes "x") (omega arith) refl, tt); last = tt };
+      end = refl;
+      gap_is = record { fillers = blank (codes "\n") ∷ []; whole = refl; each = (tested Blank (codes "\n") refl, tt); next = refl };
+      words_are = refl;
+    }
+
+    is_open : IsOpenCommand (codes "\"a") [] (open_double (kept (codes "a") ∷ []))
+    is_open = record { front = []; whole = refl; before_is = refl; loose = tt; open_is = (tested DoubleQuotable (codes "a") refl, tt) }
+
+    is_config : IsCmd 1 words (ConfigCmd 1 (codes "x") None)
+    is_config = record { keyword = Config; is = record { begins = inl refl; count = inl refl; named = ((omega arith, tested Printable (codes "x") refl), tt) }; cmd_is = refl }

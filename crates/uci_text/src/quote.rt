@@ -1,14 +1,10 @@
 ghost use Rattle.std.specs.Prelude.{◌≡◌, ◌++◌, ℕ, List, OnOk, OnErr};
-ghost use Rattle.uci_text.specs.declared.byte_class.ByteClass.TheVariants.{NotZero};
-ghost use Rattle.uci_text.specs.ByteClass.{AllIn};
-ghost use Rattle.uci_text.specs.Quote as quote;
-ghost use Rattle.uci_text.specs.Quote.{quoted, AddsTo};
-ghost use Rattle.uci_text.specs.Word.{SpellsWord};
+ghost use Rattle.uci_text.specs.Quote.{quoted, quoted_byte, IsWordFor, AddsTo};
 
 use plane_io::Memory;
 
 fn push_quoted(out: &mut Vec<u8>, byte: u8) -> Result<(), Memory>
-    ensures ok { OnOk result (out.new.items ≡ out.old.items ++ quote.quoted_byte byte) }
+    ensures ok { OnOk result (out.new.items ≡ out.old.items ++ quoted_byte byte) }
     ensures err { OnErr result (out.new.items ≡ out.old.items) }
 {
     if byte == b'\'' {
@@ -31,15 +27,15 @@ fn append_quoted(out: &mut Vec<u8>, value: &[u8]) -> Result<(), Memory>
     Ok(())
 }
 
-/// Appends the value in single quotes, and each single quote in it as `'\''`: a word that spells the value.
+/// Appends the value in single quotes, and each single quote in it as `'\''`: a word that spells the value, where this has
+/// no zero byte.
 ///
 /// # Errors
 ///
 /// `Memory` where there was not enough memory; nothing is appended then.
 pub fn quote_into(out: &mut Vec<u8>, value: &[u8]) -> Result<(), Memory>
     ensures appended { OnOk result (out.new.items ≡ out.old.items ++ quoted value.now) }
-    ensures word { SpellsWord (quoted value.now) value.now }
-    ensures clean { AllIn NotZero value.now → AllIn NotZero (quoted value.now) }
+    ensures word { IsWordFor (quoted value.now) value.now }
     ensures err { OnErr result (out.new.items ≡ out.old.items) }
 {
     let length = out.len();

@@ -1,13 +1,18 @@
 -- A text is a package exactly where it has no fault.
 use Rattle.std.proofs.Common.{ℕ, ◌≡◌, ◌⊎◌, inl, inr, List, Result, Ok, Err, refl, sym, ap, ◌∙◌}
+use Rattle.std.specs.Prelude.{IsSome}
 use Rattle.uci_text.specs.declared.cmd.Cmd.{Cmd}
-use Rattle.uci_text.specs.Commands.{SpellsCommands}
+use Rattle.uci_text.specs.declared.text_error.TextError.{TextError}
+use Rattle.uci_text.specs.declared.text_error.TextError.TheVariants as text_error
+use Rattle.uci_text.specs.Commands.{SpellsCommands, IsFirstCommandFault}
+use Rattle.uci_text.proofs.MemoryLemmas.{command_fault_is_no_memory}
 use Rattle.uci_text.proofs.CommandsLemmas.{commands_are_one}
 use Rattle.uci_text.proofs.FirstLemmas.{command_fault_is_one, no_commands, commands_or_fault}
 use Rattle.uci_tree.specs.declared.package.Package.{Package}
 use Rattle.uci_tree.specs.declared.tree_error.TreeError.{TreeError}
 use Rattle.uci_tree.specs.declared.tree_error.TreeError.TheVariants.{Text, NoSection, Memory}
 use Rattle.uci_tree.specs.Fold.{Draft, nothing, after_all}
+use Rattle.uci_tree.specs.Fault.{fault_of}
 use Rattle.uci_tree.specs.Reading.{Reads, HasTreeFault}
 
 one_outcome : (text : List ℕ) (commands others : List Cmd) (a b : Result Draft ℕ) → SpellsCommands text commands → SpellsCommands text others → after_all nothing commands ≡ a → after_all nothing others ≡ b → b ≡ a
@@ -37,3 +42,16 @@ folded name text commands (Err line) s e = inr (NoSection line, record { command
 
 pub package_or_fault : (name text : List ℕ) → ((tree : Package) × Reads name text tree) ⊎ ((error : TreeError) × HasTreeFault text error)
 package_or_fault name text = elim (commands_or_fault text) [ inl c ↦ folded name text c.0 (after_all nothing c.0) c.1 refl | inr f ↦ inr (Text f.0, f.1) ]
+
+text_fault_has_reason : (text : List ℕ) (error : TextError) → IsFirstCommandFault text error → IsSome (fault_of (Text error))
+text_fault_has_reason text (text_error.BadWord line) first = refl
+text_fault_has_reason text (text_error.OpenQuote line) first = refl
+text_fault_has_reason text (text_error.UnknownCommand line) first = refl
+text_fault_has_reason text (text_error.ArgumentCount line) first = refl
+text_fault_has_reason text (text_error.BadName line) first = refl
+text_fault_has_reason text text_error.Memory first = absurd (command_fault_is_no_memory _ first.bad first.fault)
+
+pub fault_has_reason : (text : List ℕ) (error : TreeError) → HasTreeFault text error → IsSome (fault_of error)
+fault_has_reason text (Text error) h = text_fault_has_reason text error h
+fault_has_reason text (NoSection line) h = refl
+fault_has_reason text Memory h = absurd h

@@ -22,7 +22,7 @@ pub use anonymous::anonymous_name;
 pub use copy::copy_package;
 pub use fault::{Fault, Reason};
 pub use laws::{
-    no_package_with_fault, one_package, one_path, one_tree_fault, package_or_fault, printed_again,
+    no_package_with_fault, no_tree_fault_is_memory, one_package, one_path, one_tree_fault, package_or_fault, printed_again,
     printed_reads_back,
 };
 pub use lookup::{Place, find};
