@@ -15,3 +15,4 @@ pub mod CommandsLemmas
 pub mod SplitLemmas
 pub mod FirstLemmas
 pub mod Examples
+pub mod ScanLemmas
