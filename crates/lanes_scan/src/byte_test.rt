@@ -19,12 +19,14 @@ impl<'a> ByteTest for Stop<'a> {
         stops.contains(&byte)
     }
 
+    #[inline(always)]
     fn marks(&self, lanes: u8x16) -> u64 {
         let stops = self.stops;
         stop_marks(stops, lanes)
     }
 }
 
+#[inline(always)]
 fn stop_marks(stops: &[u8; 16], lanes: u8x16) -> u64
     ensures { result ≡ mask_l (map (is_stop stops.now) lanes) }
 {
@@ -46,6 +48,7 @@ impl ByteTest for Nul {
         byte == 0
     }
 
+    #[inline(always)]
     fn marks(&self, lanes: u8x16) -> u64 {
         lanes.simd_eq(u8x16::splat(0)).to_bitmask()
     }
@@ -62,6 +65,7 @@ impl ByteTest for NotName {
         !byte.is_ascii_alphanumeric() && byte != b'_'
     }
 
+    #[inline(always)]
     fn marks(&self, lanes: u8x16) -> u64 {
         let letter = (lanes | u8x16::splat(0x20)) - u8x16::splat(b'a');
         let digit = lanes - u8x16::splat(b'0');
@@ -81,6 +85,7 @@ impl ByteTest for NotPrintable {
         !byte.is_ascii_graphic()
     }
 
+    #[inline(always)]
     fn marks(&self, lanes: u8x16) -> u64 {
         let behind = lanes - u8x16::splat(33);
         behind.simd_ge(u8x16::splat(94)).to_bitmask()

@@ -17,6 +17,8 @@ use search::first_place;
 
 /// The length of the longest prefix that has none of the stops: the place of the first stop, or the length where there is
 /// none. Who has fewer than sixteen stops repeats one.
+// Inlined, so that stops which are constants make a test of their own.
+#[inline(always)]
 pub fn plain_run(bytes: &[u8], stops: &[u8; 16]) -> usize
     ensures { result ≡ prefix_len (is_plain stops.now) bytes.now }
 {

@@ -21,6 +21,7 @@ pub trait ByteTest {
 }
 
 /// The first place of a byte that is looked for, or the length where there is none.
+#[inline(always)]
 pub fn first_place<T: ByteTest>(test: &T, bytes: &[u8]) -> usize
     ensures { result ≡ position_or_len (T.finds test.now) bytes.now }
 {
