@@ -1,10 +1,10 @@
 -- Fronts of bytes of a class.
-use Rattle.std.proofs.Common.{ℕ, ◌≡◌, ◌<◌, ◌≤◌, ◌+◌, List, [], ◌∷◌, ◌++◌, length, take, drop, get_or, true, false, not, arith, sym, refl, subst, nat_eq}
+use Rattle.std.proofs.Common.{ℕ, ◌≡◌, ◌<◌, List, [], ◌∷◌, ◌++◌, length, true, false, arith, nat_eq}
 use Rattle.std.specs.List.{AllByRecursion}
-use Rattle.std.proofs.lemmas.List.{take-append-drop, drop_more, take_more, take_all, append-nil, nil_from_length}
+use Rattle.std.proofs.lemmas.List.{nil_from_length}
 use Rattle.std.proofs.lemmas.Bool.Decides.{nat_tests}
 use Rattle.uci_text.specs.declared.byte_class.ByteClass.{ByteClass}
-use Rattle.uci_text.specs.ByteClass.{is_in, AllIn, IsAtEndOr, SplitsBehind}
+use Rattle.uci_text.specs.ByteClass.{AllIn}
 
 -- the two answers of `is_empty`
 pub has_none : (bytes : List ℕ) → nat_eq (length bytes) 0 ≡ true → bytes ≡ []
@@ -31,20 +31,3 @@ all_in-left class (x ∷ a) b p = (p.0, all_in-left class a b p.1)
 pub all_in-right : (class : ByteClass) (a b : List ℕ) → AllIn class (a ++ b) → AllIn class b
 all_in-right class [] b p = p
 all_in-right class (x ∷ a) b p = all_in-right class a b p.1
-
--- a byte outside the class ends the front
-pub stops : (class : ByteClass) (bytes : List ℕ) (at : ℕ) → at < length bytes → AllIn class (take at bytes) → is_in class (get_or bytes at 0) ≡ false → SplitsBehind class bytes (take at bytes) (drop at bytes)
-stops class bytes at l h o =
-    let P : List ℕ → Type 0 = λ z. IsAtEndOr (λ byte. not (is_in class byte)) z in
-    let t : not (is_in class (get_or bytes at 0)) ≡ true = rw o refl in
-    record { whole = sym (take-append-drop at bytes); within = h; outside = subst P (sym (drop_more bytes at 0 l)) t }
-
-pub goes_on : (class : ByteClass) (bytes : List ℕ) (at : ℕ) → at < length bytes → AllIn class (take at bytes) → is_in class (get_or bytes at 0) ≡ true → AllIn class (take (at + 1) bytes)
-goes_on class bytes at l h i =
-    let P : List ℕ → Type 0 = λ z. AllIn class z in
-    subst P (sym (take_more bytes at 0 l)) (all_in-append class (take at bytes) (get_or bytes at 0 ∷ []) h (i, tt))
-
-pub passes : (class : ByteClass) (bytes : List ℕ) (at : ℕ) → length bytes ≤ at → AllIn class (take at bytes) → SplitsBehind class bytes bytes []
-passes class bytes at l h =
-    let P : List ℕ → Type 0 = λ z. AllIn class z in
-    record { whole = sym (append-nil bytes); within = subst P (take_all at bytes l) h; outside = tt }

@@ -16,3 +16,4 @@ pub mod SplitLemmas
 pub mod FirstLemmas
 pub mod Examples
 pub mod MemoryLemmas
+pub mod ScanLemmas

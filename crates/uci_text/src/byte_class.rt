@@ -1,7 +1,16 @@
 ghost use Rattle.std.specs.Prelude.{◌≡◌, ◌<◌, ◌^◌, ◌↔◌, length, IsTrue, MatchBool};
+ghost use Rattle.std.specs.List.{prefix_len};
 ghost use Rattle.uci_text.specs.ByteClass as class;
 ghost use Rattle.uci_text.specs.ByteClass.{is_in, AllIn, SplitsBehind, IsAtEndOr};
 ghost use Rattle.uci_text.specs.Found.{BeginsOutside};
+
+use lanes_scan::{all_name, all_printable, first_nul, plain_run};
+
+/// What ends a plain run. The last places repeat the first.
+const STOPS: [u8; 16] = *b" \t\r\x0b\x0c\n;#'\"\\     ";
+
+/// What ends a run within double quotes.
+const DOUBLE_QUOTE_STOPS: [u8; 16] = *b"\"\\\"\"\"\"\"\"\"\"\"\"\"\"\"\"";
 
 /// A class of bytes.
 #[derive(Clone, Copy, Debug)]
@@ -51,20 +60,50 @@ impl ByteClass {
     pub fn split(self, bytes: &[u8]) -> (&[u8], &[u8])
         ensures { SplitsBehind self bytes.now result.0.now result.1.now }
     {
+        bytes.split_at(self.run(bytes))
+    }
+
+    /// How many bytes the longest front of the class has.
+    fn run(self, bytes: &[u8]) -> usize
+        ensures { result ≡ prefix_len (is_in self) bytes.now }
+    {
+        match self {
+            ByteClass::Plain => plain_run(bytes, &STOPS),
+            ByteClass::InLine => plain_run(bytes, &[b'\n'; 16]),
+            ByteClass::Quotable => plain_run(bytes, &[b'\''; 16]),
+            ByteClass::DoubleQuotable => plain_run(bytes, &DOUBLE_QUOTE_STOPS),
+            ByteClass::NotZero => first_nul(bytes).unwrap_or(bytes.len()),
+            ByteClass::Space
+            | ByteClass::Blank
+            | ByteClass::Name
+            | ByteClass::PackageName
+            | ByteClass::Printable => self.run_by_bytes(bytes),
+        }
+    }
+
+    fn run_by_bytes(self, bytes: &[u8]) -> usize
+        ensures { result ≡ prefix_len (is_in self) bytes.now }
+    {
         for (at, byte) in bytes.iter().enumerate() {
             if !self.contains(*byte) {
-                return bytes.split_at(at);
+                return at;
             }
         }
-        (bytes, &[])
+        bytes.len()
     }
 
     /// Whether all of the bytes are of the class.
     pub fn contains_all(self, bytes: &[u8]) -> bool
         ensures { IsTrue result ↔ AllIn self bytes.now }
     {
-        let (_, rest) = self.split(bytes);
-        rest.is_empty()
+        match self {
+            ByteClass::Name => all_name(bytes),
+            ByteClass::Printable => all_printable(bytes),
+            _ => {
+                let (_, rest) = self.split(bytes);
+                rest.is_empty()
+            }
+        }
     }
 }
 

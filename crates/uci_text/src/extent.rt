@@ -26,7 +26,11 @@ fn newlines(bytes: &[u8]) -> u32
     requires { length bytes.now < 2 ^ 32 }
     ensures { result ≡ class.newlines bytes.now }
 {
-    bytes.iter().filter(|byte| **byte == b'\n').count() as u32
+    let mut count = 0;
+    for byte in bytes {
+        count += u32::from(*byte == b'\n');
+    }
+    count
 }
 
 /// The number of the line behind the extent, which begins on the line of this number.

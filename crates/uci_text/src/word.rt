@@ -21,8 +21,7 @@ pub fn read_word(alloc: Global, bytes: &[u8]) -> Result<(Text, &[u8]), Stop>
     loop {
         rest = read_piece(&mut value, rest)?;
         if ends_word(rest) {
-            let text = Text::from_bytes(alloc, value.as_slice())?;
-            return Ok((text, rest));
+            return Ok((Text::from_vec(value), rest));
         }
     }
 }

@@ -1,12 +1,11 @@
-use Rattle.std.proofs.Common.{sym, ◌∙◌}
-use Rattle.uci_text.proofs.ClassLemmas.{stops, goes_on, passes}
+use Rattle.std.proofs.Common.{arith}
+use Rattle.std.proofs.lemmas.List.Sums.{prefix_len-le-length}
+use Rattle.uci_text.specs.ByteClass.{is_in}
+use Rattle.uci_text.proofs.ScanLemmas.{splits_behind_run}
 use Rattle.uci_text.proofs.byte_class.ByteClass.split.Goals as goal
 
-pub returns-then-not-contains : goal.returns-then-not-contains
-returns-then-not-contains c = rw (c.split_at.ensures.front, c.split_at.ensures.back) (stops _ _ _ c.loop-at-test.true c.loop-at.invariant (sym c.contains.ensures ∙ c.if-not-contains.true))
-
-pub loop-at-preserved : goal.loop-at-preserved
-loop-at-preserved c = goes_on _ _ _ c.loop-at-test.true c.loop-at.invariant (sym c.contains.ensures ∙ c.if-not-contains.false)
+pub split_at-requires : goal.split_at-requires
+split_at-requires c = omega (arith, c.run.ensures, prefix_len-le-length (is_in c.args.self) c.args.bytes.now)
 
 pub returns : goal.returns
-returns c = passes _ _ _ c.loop-at-test.false c.loop-at.invariant
+returns c = rw (c.split_at.ensures.front, c.split_at.ensures.back) (splits_behind_run _ _ _ c.run.ensures)

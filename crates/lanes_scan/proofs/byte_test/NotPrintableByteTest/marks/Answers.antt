@@ -1,0 +1,12 @@
+use Rattle.std.proofs.Common.{leb, cond, not, refl, arith}
+use Rattle.std.proofs.lemmas.Simd.{zip2_splat, zip2_of_maps, splat_is_map}
+use Rattle.lanes_scan.specs.ByteTest.{is_printable_byte}
+use Rattle.lanes_scan.proofs.LaneLemmas.{mask_of_test}
+use Rattle.lanes_scan.proofs.byte_test.NotPrintableByteTest.marks.Goals as goal
+
+pub returns : goal.returns
+returns c =
+    let v = c.args.lanes in
+    let long = c.fits-lanes.0 in
+    mask_of_test (λ byte. not (is_printable_byte byte)) _ v _ (omega arith) c.fits-lanes.1
+    (zip2_of_maps (λ a b. cond (leb a b) 255 0) _ _ v (splat_is_map v 16 94 long) (zip2_splat _ v 16 33 long)) refl
