@@ -37,6 +37,13 @@ pub record AtFile (file : ℕ) (step : List ℕ → List ℕ → Type 0) (old ne
   pub here : step (bytes_of old file) (bytes_of new file)
   pub others : (other : ℕ) → other ≢ file → bytes_of new other ≡ bytes_of old other
 
+-- a write or a cut of a file that may have been done in part
+abbrev pub TornAt : ℕ → ℕ → ℕ → Files → Files → Type 0
+TornAt file at n = AtFile file (IsTorn at n)
+
+abbrev pub CutAt : ℕ → ℕ → Files → Files → Type 0
+CutAt file size = AtFile file (IsCut size)
+
 -- what a read of a file from a place on leaves in a buffer: as many bytes as the file has there, up to the buffer's
 -- length, at its front
 pub record Reads (bytes : List ℕ) (at count : ℕ) (old new : List ℕ) : Type 0 where

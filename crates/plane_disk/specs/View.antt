@@ -1,6 +1,6 @@
 -- What a disk tells, and what its calls make of that.
-use Rattle.std.specs.Prelude.{ℕ, ◌≡◌, ◌⊎◌, ◌↔◌, ◌≤◌, ◌<◌, List, length, Option, Some, None, IfSome}
-use Rattle.plane_disk.specs.Files.{Files}
+use Rattle.std.specs.Prelude.{ℕ, ◌≡◌, ◌⊎◌, ◌↔◌, ◌≤◌, ◌<◌, List, length, take, Option, Some, None, IfSome}
+use Rattle.plane_disk.specs.Files.{Files, bytes_of, with_bytes, put_at}
 
 -- the names of the files by their numbers; what a read gives, where the disk tells it; which lists of files a crash
 -- now may leave, the images; this moment, as a number that does not fall; which were images at some moment from a
@@ -17,14 +17,37 @@ pub record View : Type 1 where
 abbrev pub Only : Files → (Files → Type 0) → Type 0
 Only files is_image = (image : Files) → is_image image → image ≡ files
 
--- each image after a call was one before it, or comes from one by a step
-abbrev pub MayStep : (Files → Files → Type 0) → (Files → Type 0) → (Files → Type 0) → Type 0
-MayStep step old new = (image : Files) → new image → old image ⊎ ((from : Files) × old from × step from image)
+-- what a read gives after a call that a disk may have done in part
+abbrev pub SeenSteps : (Files → Files → Type 0) → Option Files → Option Files → Type 0
+SeenSteps step None new = new ≡ None
+SeenSteps step (Some old) new = (now : Files) × (new ≡ Some now) × step old now
 
--- what a read gives after a step, where the disk tells it
-abbrev pub Steps : (Files → Files → Type 0) → Option Files → Option Files → Type 0
-Steps step None new = new ≡ None
-Steps step (Some old) new = (now : Files) × (new ≡ Some now) × step old now
+abbrev pub Steps : (Files → Files → Type 0) → View → View → Type 0
+Steps step old new = SeenSteps step old.seen new.seen
+
+-- each image after such a call was one before it, or comes from one by that step
+abbrev pub MayStep : (Files → Files → Type 0) → View → View → Type 0
+MayStep step old new = (image : Files) → new.is_image image → old.is_image image ⊎ ((from : Files) × old.is_image from × step from image)
+
+-- no image comes with a call
+abbrev pub AddsNone : View → View → Type 0
+AddsNone old new = (image : Files) → new.is_image image → old.is_image image
+
+-- where the disk tells what a read gives, that has P
+abbrev pub Tells : View → (Files → Type 0) → Type 0
+Tells view P = IfSome view.seen P
+
+-- a read gives bytes that were written from a place on
+abbrev pub HasWritten : View → View → ℕ → ℕ → List ℕ → Type 0
+HasWritten old new file at bytes = Tells old (λ files. new.seen ≡ Some (with_bytes files file (put_at (bytes_of files file) at bytes)))
+
+-- a read gives the front of a file that was cut
+abbrev pub HasCut : View → View → ℕ → ℕ → Type 0
+HasCut old new file size = Tells old (λ files. new.seen ≡ Some (with_bytes files file (take size (bytes_of files file))))
+
+-- the number is one of a file
+abbrev pub IsFile : View → ℕ → Type 0
+IsFile view file = file < length view.names
 
 -- what always holds of a disk
 pub record IsSound (view : View) : Type 0 where

@@ -1,8 +1,8 @@
 ghost use Rattle.std.specs.Prelude.{◌≡◌, ◌≤◌, ◌<◌, length, take, Some, OnOk, OnErr, IfOk, IfSome, slice_index_or, []};
 ghost use Rattle.plane_words.specs.Causes.{HasCause};
-ghost use Rattle.plane_disk.specs.Files.{Files, bytes_of, with_bytes, put_at, IsTorn, IsCut, AtFile, Reads};
+ghost use Rattle.plane_disk.specs.Files.{bytes_of, TornAt, CutAt, Reads};
 ghost use Rattle.plane_disk.specs.Names.{AreDiskNames};
-ghost use Rattle.plane_disk.specs.View.{View, Only, MayStep, Steps, IsSound, Elapses, Stays};
+ghost use Rattle.plane_disk.specs.View.{View, Only, MayStep, Steps, AddsNone, Tells, HasWritten, HasCut, IsFile, IsSound, Elapses, Stays};
 
 use plane_io::Failed;
 
@@ -19,48 +19,49 @@ pub trait Disk {
 
     /// The name of a file.
     fn name(&self, file: u32) -> &[u8]
-        requires { file < length (view self.now).names }
+        requires { IsFile (view self.now) file }
         ensures { result.now ≡ slice_index_or (view self.now).names file [] };
 
     /// The number of bytes of a file.
     fn size(&self, file: u32) -> u64
-        requires { file < length (view self.now).names }
-        ensures { IfSome (view self.now).seen (λ files. result ≡ length (bytes_of files file)) };
+        requires { IsFile (view self.now) file }
+        ensures { Tells (view self.now) (λ files. result ≡ length (bytes_of files file)) };
 
     /// Reads as many bytes as a file has from the place `at` on, up to the length of `into`, and answers how many.
     fn read(&mut self, file: u32, at: u64, into: &mut [u8]) -> Result<usize, Failed>
-        requires { file < length (view self.old).names }
+        requires { IsFile (view self.old) file }
         ensures fits { IfOk result (λ count. count ≤ length into.new) }
-        ensures gives { IfOk result (λ count. IfSome (view self.old).seen (λ files. Reads (bytes_of files file) at count into.old into.new)) }
+        ensures gives { IfOk result (λ count. Tells (view self.old)
+            (λ files. Reads (bytes_of files file) at count into.old into.new)) }
         ensures stays { Stays (view self.old) (view self.new) }
         ensures time { Elapses (view self.old) (view self.new) }
         ensures cause { HasCause (view self.old).faults (view self.new).faults result };
 
     /// Writes bytes over a file from a place up to its end on. Where that fails it may have been done in part.
     fn write_at(&mut self, file: u32, at: u64, bytes: &[u8]) -> Result<(), Failed>
-        requires number { file < length (view self.old).names }
-        requires inside { IfSome (view self.old).seen (λ files. at ≤ length (bytes_of files file)) }
-        ensures written { OnOk result (IfSome (view self.old).seen (λ files. (view self.new).seen ≡ Some (with_bytes files file (put_at (bytes_of files file) at bytes.now)))) }
-        ensures torn { Steps (AtFile file (IsTorn at (length bytes.now))) (view self.old).seen (view self.new).seen }
-        ensures crash { MayStep (AtFile file (IsTorn at (length bytes.now))) (view self.old).is_image (view self.new).is_image }
+        requires number { IsFile (view self.old) file }
+        requires inside { Tells (view self.old) (λ files. at ≤ length (bytes_of files file)) }
+        ensures written { OnOk result (HasWritten (view self.old) (view self.new) file at bytes.now) }
+        ensures torn { Steps (TornAt file at (length bytes.now)) (view self.old) (view self.new) }
+        ensures crash { MayStep (TornAt file at (length bytes.now)) (view self.old) (view self.new) }
         ensures time { Elapses (view self.old) (view self.new) }
         ensures cause { HasCause (view self.old).faults (view self.new).faults result };
 
     /// Cuts a file to a size; one that is no longer stays. Where that fails it may have been done in part.
     fn cut(&mut self, file: u32, size: u64) -> Result<(), Failed>
-        requires { file < length (view self.old).names }
-        ensures cut { OnOk result (IfSome (view self.old).seen (λ files. (view self.new).seen ≡ Some (with_bytes files file (take size (bytes_of files file))))) }
-        ensures torn { Steps (AtFile file (IsCut size)) (view self.old).seen (view self.new).seen }
-        ensures crash { MayStep (AtFile file (IsCut size)) (view self.old).is_image (view self.new).is_image }
+        requires { IsFile (view self.old) file }
+        ensures cut { OnOk result (HasCut (view self.old) (view self.new) file size) }
+        ensures torn { Steps (CutAt file size) (view self.old) (view self.new) }
+        ensures crash { MayStep (CutAt file size) (view self.old) (view self.new) }
         ensures time { Elapses (view self.old) (view self.new) }
         ensures cause { HasCause (view self.old).faults (view self.new).faults result };
 
     /// Makes all files whole: a crash then leaves what a read gives. Where that fails, nothing changes.
     fn sync(&mut self) -> Result<(), Failed>
-        ensures whole { OnOk result (IfSome (view self.old).seen (λ files. Only files (view self.new).is_image)) }
+        ensures whole { OnOk result (Tells (view self.old) (λ files. Only files (view self.new).is_image)) }
         ensures seen { OnOk result ((view self.new).seen ≡ (view self.old).seen) }
         ensures stays { OnErr result (Stays (view self.old) (view self.new)) }
-        ensures crash { (image : Files) → (view self.new).is_image image → (view self.old).is_image image }
+        ensures crash { AddsNone (view self.old) (view self.new) }
         ensures time { Elapses (view self.old) (view self.new) }
         ensures cause { HasCause (view self.old).faults (view self.new).faults result };
 

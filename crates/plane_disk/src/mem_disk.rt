@@ -1,9 +1,9 @@
 ghost use Rattle.std.specs.Prelude.{◌≡◌, ◌≤◌, ◌<◌, ◌+◌, ◌^◌, [], ◌∷◌, ◌++◌, length, take, Some, None, OnOk, OnErr, IfOk, IfSome, slice_index_or, true};
 ghost use Rattle.plane_words.specs.Causes.{HasCause};
 ghost use Rattle.plane_disk.specs.declared.call.DiskCall.TheVariants.{Write, Cut, Sync};
-ghost use Rattle.plane_disk.specs.Files.{Files, bytes_of, with_bytes, put_at, IsTorn, IsCut, AtFile, Reads};
+ghost use Rattle.plane_disk.specs.Files.{bytes_of, TornAt, CutAt, Reads};
 ghost use Rattle.plane_disk.specs.Names.{AreDiskNames};
-ghost use Rattle.plane_disk.specs.View.{Only, MayStep, Steps, Elapses, Stays};
+ghost use Rattle.plane_disk.specs.View.{Only, MayStep, Steps, AddsNone, Tells, HasWritten, HasCut, IsFile, Elapses, Stays};
 ghost use Rattle.plane_disk.specs.MemDisk.{names_of, contents_of, state_of, view_of, Ends, Records};
 
 use crate::call::DiskCall;
@@ -109,9 +109,10 @@ impl Disk for MemDisk {
     }
 
     fn read(&mut self, file: u32, at: u64, into: &mut [u8]) -> Result<usize, Failed>
-        requires { file < length (view_of self.old).names }
+        requires { IsFile (view_of self.old) file }
         ensures fits { IfOk result (λ count. count ≤ length into.new) }
-        ensures gives { IfOk result (λ count. IfSome (view_of self.old).seen (λ files. Reads (bytes_of files file) at count into.old into.new)) }
+        ensures gives { IfOk result (λ count. Tells (view_of self.old)
+            (λ files. Reads (bytes_of files file) at count into.old into.new)) }
         ensures stays { Stays (view_of self.old) (view_of self.new) }
         ensures time { Elapses (view_of self.old) (view_of self.new) }
         ensures cause { HasCause (view_of self.old).faults (view_of self.new).faults result }
@@ -130,11 +131,11 @@ impl Disk for MemDisk {
     }
 
     fn write_at(&mut self, file: u32, at: u64, bytes: &[u8]) -> Result<(), Failed>
-        requires number { file < length (view_of self.old).names }
-        requires inside { IfSome (view_of self.old).seen (λ files. at ≤ length (bytes_of files file)) }
-        ensures written { OnOk result (IfSome (view_of self.old).seen (λ files. (view_of self.new).seen ≡ Some (with_bytes files file (put_at (bytes_of files file) at bytes.now)))) }
-        ensures torn { Steps (AtFile file (IsTorn at (length bytes.now))) (view_of self.old).seen (view_of self.new).seen }
-        ensures crash { MayStep (AtFile file (IsTorn at (length bytes.now))) (view_of self.old).is_image (view_of self.new).is_image }
+        requires number { IsFile (view_of self.old) file }
+        requires inside { Tells (view_of self.old) (λ files. at ≤ length (bytes_of files file)) }
+        ensures written { OnOk result (HasWritten (view_of self.old) (view_of self.new) file at bytes.now) }
+        ensures torn { Steps (TornAt file at (length bytes.now)) (view_of self.old) (view_of self.new) }
+        ensures crash { MayStep (TornAt file at (length bytes.now)) (view_of self.old) (view_of self.new) }
         ensures time { Elapses (view_of self.old) (view_of self.new) }
         ensures cause { HasCause (view_of self.old).faults (view_of self.new).faults result }
 
@@ -157,10 +158,10 @@ impl Disk for MemDisk {
     }
 
     fn cut(&mut self, file: u32, size: u64) -> Result<(), Failed>
-        requires { file < length (view_of self.old).names }
-        ensures cut { OnOk result (IfSome (view_of self.old).seen (λ files. (view_of self.new).seen ≡ Some (with_bytes files file (take size (bytes_of files file))))) }
-        ensures torn { Steps (AtFile file (IsCut size)) (view_of self.old).seen (view_of self.new).seen }
-        ensures crash { MayStep (AtFile file (IsCut size)) (view_of self.old).is_image (view_of self.new).is_image }
+        requires { IsFile (view_of self.old) file }
+        ensures cut { OnOk result (HasCut (view_of self.old) (view_of self.new) file size) }
+        ensures torn { Steps (CutAt file size) (view_of self.old) (view_of self.new) }
+        ensures crash { MayStep (CutAt file size) (view_of self.old) (view_of self.new) }
         ensures time { Elapses (view_of self.old) (view_of self.new) }
         ensures cause { HasCause (view_of self.old).faults (view_of self.new).faults result }
 
@@ -183,10 +184,10 @@ impl Disk for MemDisk {
     }
 
     fn sync(&mut self) -> Result<(), Failed>
-        ensures whole { OnOk result (IfSome (view_of self.old).seen (λ files. Only files (view_of self.new).is_image)) }
+        ensures whole { OnOk result (Tells (view_of self.old) (λ files. Only files (view_of self.new).is_image)) }
         ensures seen { OnOk result ((view_of self.new).seen ≡ (view_of self.old).seen) }
         ensures stays { OnErr result (Stays (view_of self.old) (view_of self.new)) }
-        ensures crash { (image : Files) → (view_of self.new).is_image image → (view_of self.old).is_image image }
+        ensures crash { AddsNone (view_of self.old) (view_of self.new) }
         ensures time { Elapses (view_of self.old) (view_of self.new) }
         ensures cause { HasCause (view_of self.old).faults (view_of self.new).faults result }
 
