@@ -1,7 +1,7 @@
 -- Bytes that are put over others.
-use Rattle.std.proofs.Common.{ℕ, ◌≡◌, ◌⊎◌, ◌+◌, ◌-◌, ◌≤◌, ◌<◌, min, List, [], ◌∷◌, ◌++◌, length, take, drop, get_or, sym, ap, ◌∙◌, refl, arith, ⊎_elim, append_assoc, length-append, length-take, length-drop}
+use Rattle.std.proofs.Common.{ℕ, ◌≡◌, ◌+◌, ◌-◌, ◌≤◌, ◌<◌, List, ◌++◌, length, take, drop, get_or, sym, ap, ◌∙◌, arith, append_assoc}
 use Rattle.std.proofs.lemmas.Grind.{common_steps}
-use Rattle.std.proofs.lemmas.List.{take_at, drop_at, take-append-le, drop-append-le, drop-drop, take-append-drop, length-take-le, get_or_append_left, get_or-append_right, get_or-take, get_or-drop, drop_all}
+use Rattle.std.proofs.lemmas.List.{take_at, drop_at, drop-drop, get_or_append_left, get_or-append_right}
 use Rattle.plane_disk.specs.Files.{put_at}
 
 pub put_nothing : (old : List ℕ) (at : ℕ) (bytes : List ℕ) → length bytes ≡ 0 → put_at old at bytes ≡ old

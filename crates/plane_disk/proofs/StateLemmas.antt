@@ -1,16 +1,15 @@
 -- The files that a crash may leave, with one more call.
-use Rattle.std.proofs.Common.{ℕ, ◌≡◌, ◌≢◌, ◌⊎◌, inl, inr, ◌+◌, ◌≤◌, ◌<◌, ◌||◌, min, max, Bool, true, false, List, [], ◌∷◌, ◌++◌, length, take, drop, get_or, sym, ap, ap₂, subst, ◌∙◌, refl, arith, ⊎_elim, length-take}
-use Rattle.std.specs.List.{fold, list_any}
-use Rattle.std.proofs.lemmas.Bool.{cases_eq, cases_lt}
+use Rattle.std.proofs.Common.{ℕ, ◌≡◌, ◌≢◌, ◌⊎◌, inl, inr, ◌≤◌, ◌<◌, ◌||◌, Bool, true, false, List, [], ◌∷◌, ◌++◌, length, take, sym, ap, ap₂, subst, ◌∙◌, refl, arith, ⊎_elim, length-take}
+use Rattle.std.proofs.lemmas.Bool.{cases_eq}
 use Rattle.std.proofs.lemmas.Bool.Decides.{nat_tests}
 use Rattle.std.proofs.lemmas.Grind.{common_steps}
 use Rattle.std.proofs.lemmas.List.{length-set, get_or-set_same, get_or-set_other, take-take, ext_get_or}
 use Rattle.plane_disk.specs.Files.{Files, bytes_of, with_bytes, put_at, IsTorn, IsCut, AtFile}
-use Rattle.plane_disk.specs.Calls.{DiskState, at_first, after_call, after_calls, seen_after}
-use Rattle.plane_disk.specs.Images.{is_written_by, least_with, greatest_with, least_size, greatest_size, IsImageOf, IsImage}
+use Rattle.plane_disk.specs.Calls.{DiskState, after_call, seen_after}
+use Rattle.plane_disk.specs.Images.{is_written_by, least_size, greatest_size, IsImageOf, IsImage}
 use Rattle.plane_disk.specs.declared.call.DiskCall.{DiskCall}
-use Rattle.plane_disk.specs.declared.call.DiskCall.TheVariants.{Write, Cut, Sync}
-use Rattle.plane_disk.proofs.PutLemmas.{take-put, drop-put}
+use Rattle.plane_disk.specs.declared.call.DiskCall.TheVariants.{Write, Cut}
+use Rattle.plane_disk.proofs.PutLemmas.{take-put}
 use Rattle.plane_disk.specs.SoundBytes.{length-put, least_push, greatest_push, any_push}
 use Rattle.plane_disk.specs.Sound.{with_each}
 use Rattle.plane_disk.proofs.ImageLemmas.{before_write, before_cut}
@@ -63,12 +62,15 @@ pub crash_of_write : (state : DiskState) (file at : ℕ) (bytes : List ℕ) (don
 crash_of_write state file at bytes done seen within fits image is =
     let now = seen.each file within in
     let inside : file < length image = omega (arith, is.count, seen.count, within) in
-    let torn = before_write file (bytes_of state.synced file) state.since at bytes done (bytes_of image file) (omega (arith, fits, now.no_longer)) (omega (arith, now.no_shorter, now.no_longer)) (is.each file inside) in
-    (with_bytes image file torn.0, record {
-      count = length-set image file torn.0 ∙ is.count;
-      each = λ other here. with_each image file torn.0 (λ n b. IsImageOf n (bytes_of state.synced n) state.since b) (λ h. torn.1)
-          (λ n apart h. other_write file n at bytes done (bytes_of state.synced n) state.since (bytes_of image n) apart (is.each n h)) other (subst (λ n. other < n) (length-set image file torn.0) here);
-    }, at_file image file torn.0 (IsTorn at (length bytes)) inside torn.2)
+    let torn = before_write file (bytes_of state.synced file) state.since at bytes done (bytes_of image file) (omega (arith, fits, now.no_longer)) (omega (arith, now.no_shorter, now.no_longer)) (is.each file inside) in (
+      with_bytes image file torn.0,
+      record {
+        count = length-set image file torn.0 ∙ is.count;
+        each = λ other here. with_each image file torn.0 (λ n b. IsImageOf n (bytes_of state.synced n) state.since b) (λ h. torn.1)
+            (λ n apart h. other_write file n at bytes done (bytes_of state.synced n) state.since (bytes_of image n) apart (is.each n h)) other (subst (λ n. other < n) (length-set image file torn.0) here);
+      },
+      at_file image file torn.0 (IsTorn at (length bytes)) inside torn.2,
+    )
 
 -- the images behind a cut
 pub crash_of_cut : (state : DiskState) (file size : ℕ) (done : Bool) → IsImage state state.seen → file < length state.seen → (image : Files)
@@ -78,12 +80,16 @@ crash_of_cut state file size done seen within image is =
     let inside : file < length image = omega (arith, is.count, seen.count, within) in
     let other : (n : ℕ) → n ≢ file → n < length image → IsImageOf n (bytes_of state.synced n) state.since (bytes_of image n) = λ n apart h. other_cut file n size done (bytes_of state.synced n) state.since (bytes_of image n) apart (is.each n h) in
     ⊎_elim
-      (λ same. inl (record { count = is.count; each = λ n h. ⊎_elim (λ e. subst (λ m. IsImageOf m (bytes_of state.synced m) state.since (bytes_of image m)) (sym e) same) (λ apart. other n apart h) (cases_eq n file) }))
-      (λ part. inr (with_bytes image file part.0, record {
+    (λ same. inl (record { count = is.count; each = λ n h. ⊎_elim (λ e. subst (λ m. IsImageOf m (bytes_of state.synced m) state.since (bytes_of image m)) (sym e) same) (λ apart. other n apart h) (cases_eq n file) }))
+    (λ part. inr (
+      with_bytes image file part.0,
+      record {
         count = length-set image file part.0 ∙ is.count;
         each = λ n here. with_each image file part.0 (λ m b. IsImageOf m (bytes_of state.synced m) state.since b) (λ h. part.1) other n (subst (λ m. n < m) (length-set image file part.0) here);
-      }, at_file image file part.0 (IsCut size) inside part.2))
-      (before_cut file (bytes_of state.synced file) state.since size done (bytes_of image file) (omega (arith, now.no_shorter, now.no_longer)) (is.each file inside))
+      },
+      at_file image file part.0 (IsCut size) inside part.2,
+    ))
+    (before_cut file (bytes_of state.synced file) state.since size done (bytes_of image file) (omega (arith, now.no_shorter, now.no_longer)) (is.each file inside))
 
 -- what a call that is done or not done does to what a read gives
 pub torn_seen : (files : Files) (file at : ℕ) (bytes : List ℕ) (done : Bool) → file < length files → at ≤ length (bytes_of files file) → AtFile file (IsTorn at (length bytes)) files (seen_after files (Write file at bytes done))
@@ -110,4 +116,4 @@ pub image_alone : (files image : Files) → IsImage (record { seen = files; sync
 image_alone files image is = ext_get_or [] image files is.count (λ file within.
     let here = is.each file within in
     ext_get_or 0 (bytes_of image file) (bytes_of files file) (omega (arith, here.no_shorter, here.no_longer))
-      (λ place below. here.stays place (omega (arith, below, here.no_longer)) refl))
+    (λ place below. here.stays place (omega (arith, below, here.no_longer)) refl))

@@ -1,13 +1,13 @@
 -- What a disk in memory tells, with one more call and without one.
-use Rattle.std.proofs.Common.{ℕ, ◌≡◌, ◌⊎◌, ◌↔◌, inl, inr, ◌+◌, ◌≤◌, ◌<◌, List, [], ◌∷◌, ◌++◌, length, take, map, Some, None, IfSome, sym, ap, ap₂, subst, ◌∙◌, refl, arith, ⊎_elim, length-append}
+use Rattle.std.proofs.Common.{ℕ, ◌≡◌, ◌⊎◌, inl, inr, List, [], ◌∷◌, ◌++◌, length, None, sym, ap, ap₂, subst, ◌∙◌, arith, ⊎_elim, length-append}
 use Rattle.std.proofs.lemmas.Bool.{cases_lt}
-use Rattle.std.proofs.lemmas.List.{take_all, take-append-le, length-map}
+use Rattle.std.proofs.lemmas.List.{take_all, take-append-le}
 use Rattle.std.proofs.lemmas.List.Sums.{fold_push}
 use Rattle.plane_disk.specs.Files.{Files}
-use Rattle.plane_disk.specs.View.{View, IsSound, Elapses, Stays, Only}
-use Rattle.plane_disk.specs.Calls.{DiskState, at_first, after_call, after_calls}
+use Rattle.plane_disk.specs.View.{View, Elapses}
+use Rattle.plane_disk.specs.Calls.{at_first, after_call, after_calls}
 use Rattle.plane_disk.specs.Images.{IsImage, WasImage}
-use Rattle.plane_disk.specs.MemDisk.{DiskInMemory, contents_of, names_of, state_of, view_of}
+use Rattle.plane_disk.specs.MemDisk.{contents_of, names_of, view_of}
 use Rattle.plane_disk.specs.declared.call.DiskCall.{DiskCall}
 use Rattle.plane_disk.specs.declared.mem_file.MemFile.{MemFile}
 

@@ -1,5 +1,5 @@
 -- The calls that a disk in memory has had, and what they leave.
-use Rattle.std.specs.Prelude.{ℕ, List, [], ◌∷◌, ◌++◌, take, if◌then◌else◌}
+use Rattle.std.specs.Prelude.{List, [], ◌∷◌, ◌++◌, take, if◌then◌else◌}
 use Rattle.std.specs.List.{fold}
 use Rattle.plane_disk.specs.Files.{Files, bytes_of, with_bytes, put_at}
 use Rattle.plane_disk.specs.declared.call.DiskCall.{DiskCall}

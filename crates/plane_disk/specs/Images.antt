@@ -6,7 +6,7 @@ use Rattle.std.specs.List.{fold, list_any}
 use Rattle.plane_disk.specs.Files.{Files, bytes_of}
 use Rattle.plane_disk.specs.Calls.{DiskState, at_first, after_calls}
 use Rattle.plane_disk.specs.declared.call.DiskCall.{DiskCall}
-use Rattle.plane_disk.specs.declared.call.DiskCall.TheVariants.{Write, Cut, Sync}
+use Rattle.plane_disk.specs.declared.call.DiskCall.TheVariants.{Write, Cut}
 
 -- whether a call writes that place of that file
 abbrev pub is_written_by : ℕ → ℕ → DiskCall → Bool

@@ -1,5 +1,5 @@
 -- Why what a read gives is one of the images, and a disk in memory keeps to what always holds of a disk.
-use Rattle.std.specs.Prelude.{ℕ, ◌≡◌, ◌≢◌, ◌≤◌, ◌<◌, true, false, List, [], ◌∷◌, ◌++◌, length, take, refl}
+use Rattle.std.specs.Prelude.{ℕ, ◌≡◌, ◌≢◌, ◌<◌, true, false, List, [], ◌∷◌, ◌++◌, length, take, refl}
 use Rattle.std.proofs.Common.{sym, subst, ◌∙◌, arith, ⊎_elim}
 use Rattle.std.proofs.lemmas.Bool.{cases_eq}
 use Rattle.std.proofs.lemmas.List.{length-set, length-map, get_or-set_same, get_or-set_other, take_all}
@@ -18,7 +18,7 @@ pub with_each : (files : Files) (file : ℕ) (bytes : List ℕ) (P : ℕ → Lis
     → (other : ℕ) → other < length files → P other (bytes_of (with_bytes files file bytes) other)
 with_each files file bytes P here others other within = ⊎_elim
     (λ same. let inside : file < length files = omega (arith, same, within) in
-      subst (λ n. P n (bytes_of (with_bytes files file bytes) n)) (sym same) (subst (P file) (sym (get_or-set_same files file bytes [] inside)) (here inside)))
+    subst (λ n. P n (bytes_of (with_bytes files file bytes) n)) (sym same) (subst (P file) (sym (get_or-set_same files file bytes [] inside)) (here inside)))
     (λ apart. subst (P other) (sym (get_or-set_other files file other bytes [] apart)) (others other apart within))
     (cases_eq other file)
 
@@ -46,18 +46,18 @@ seen_goes_on state (Write file at bytes true) is = record {
   count = length-set state.seen file (put_at (bytes_of state.seen file) at bytes) ∙ is.count;
   each = λ other within.
       with_each state.seen file (put_at (bytes_of state.seen file) at bytes) (λ n b. IsImageOf n (bytes_of state.synced n) (state.since ++ Write file at bytes true ∷ []) b)
-        (λ here. image_written file (bytes_of state.synced file) state.since at bytes true (bytes_of state.seen file) (is.each file here))
-        (λ n apart inside. others_stay state (Write file at bytes true) state.seen is n inside)
-        other (subst (λ n. other < n) (length-set state.seen file (put_at (bytes_of state.seen file) at bytes)) within);
+      (λ here. image_written file (bytes_of state.synced file) state.since at bytes true (bytes_of state.seen file) (is.each file here))
+      (λ n apart inside. others_stay state (Write file at bytes true) state.seen is n inside)
+      other (subst (λ n. other < n) (length-set state.seen file (put_at (bytes_of state.seen file) at bytes)) within);
 }
 seen_goes_on state (Write file at bytes false) is = record { count = is.count; each = others_stay state (Write file at bytes false) state.seen is }
 seen_goes_on state (Cut file size true) is = record {
   count = length-set state.seen file (take size (bytes_of state.seen file)) ∙ is.count;
   each = λ other within.
       with_each state.seen file (take size (bytes_of state.seen file)) (λ n b. IsImageOf n (bytes_of state.synced n) (state.since ++ Cut file size true ∷ []) b)
-        (λ here. image_cut file (bytes_of state.synced file) state.since size true (bytes_of state.seen file) (is.each file here))
-        (λ n apart inside. others_stay state (Cut file size true) state.seen is n inside)
-        other (subst (λ n. other < n) (length-set state.seen file (take size (bytes_of state.seen file))) within);
+      (λ here. image_cut file (bytes_of state.synced file) state.since size true (bytes_of state.seen file) (is.each file here))
+      (λ n apart inside. others_stay state (Cut file size true) state.seen is n inside)
+      other (subst (λ n. other < n) (length-set state.seen file (take size (bytes_of state.seen file))) within);
 }
 seen_goes_on state (Cut file size false) is = record { count = is.count; each = others_stay state (Cut file size false) state.seen is }
 seen_goes_on state Sync is = record { count = refl; each = λ file within. record { no_shorter = omega arith; no_longer = omega arith; stays = λ place below none. refl } }

@@ -1,7 +1,7 @@
 -- Why what a read gives is one of the images: the bytes of one file, with one more call.
-use Rattle.std.specs.Prelude.{ℕ, ◌≡◌, ◌⊎◌, ◌+◌, ◌-◌, ◌≤◌, ◌<◌, ◌||◌, min, max, Bool, true, false, List, [], ◌∷◌, ◌++◌, length, take, drop, get_or, refl}
-use Rattle.std.specs.List.{fold, list_any}
-use Rattle.std.proofs.Common.{sym, ap, ◌∙◌, arith, ⊎_elim, length-append, length-take, length-drop}
+use Rattle.std.specs.Prelude.{ℕ, ◌≡◌, ◌⊎◌, ◌+◌, ◌-◌, ◌≤◌, ◌<◌, ◌||◌, min, max, Bool, true, false, List, [], ◌∷◌, ◌++◌, length, take, get_or, refl}
+use Rattle.std.specs.List.{list_any}
+use Rattle.std.proofs.Common.{sym, ◌∙◌, arith, ⊎_elim, length-append, length-take, length-drop}
 use Rattle.std.proofs.lemmas.Bool.Decides.{nat_tests}
 use Rattle.std.proofs.lemmas.Grind.{common_steps}
 use Rattle.std.proofs.lemmas.List.{get_or_append_left, get_or-append_right, get_or-take, get_or-drop}
@@ -89,9 +89,9 @@ image_written file synced since at bytes done old image =
           let inside : place < length old = omega (arith, image.no_shorter, within) in
           let was = image.stays place within (or_false_left _ _ apart) in
           ⊎_elim
-            (λ before. put_below old at bytes place before inside ∙ was)
-            (λ behind. put_behind old at bytes place behind inside ∙ was)
-            (outside file place at bytes done (or_false_left _ _ (or_false_right (list_any (is_written_by file place) since) _ apart)));
+          (λ before. put_below old at bytes place before inside ∙ was)
+          (λ behind. put_behind old at bytes place behind inside ∙ was)
+          (outside file place at bytes done (or_false_left _ _ (or_false_right (list_any (is_written_by file place) since) _ apart)));
     }
 
 -- bytes with a cut

@@ -12,7 +12,11 @@ pub enum DiskCall {
         done: bool,
     },
     /// Cut a file to a size in bytes.
-    Cut { file: u32, size: u64, done: bool },
+    Cut {
+        file: u32,
+        size: u64,
+        done: bool,
+    },
     /// Made all files whole.
     Sync,
 }

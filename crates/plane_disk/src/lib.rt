@@ -8,6 +8,7 @@
 mod call;
 mod change;
 mod disk;
+mod image;
 mod mem_disk;
 mod mem_file;
 

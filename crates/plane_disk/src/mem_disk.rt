@@ -1,14 +1,16 @@
-ghost use Rattle.std.specs.Prelude.{◌≡◌, ◌≤◌, ◌<◌, ◌+◌, ◌^◌, [], ◌∷◌, ◌++◌, length, take, Some, None, OnOk, OnErr, IfOk, IfSome, slice_index_or, true};
+ghost use Rattle.std.specs.Prelude.{◌≡◌, ◌≤◌, ◌<◌, ◌+◌, ◌^◌, [], ◌∷◌, ◌++◌, length, take, Some, None, OnOk, OnErr, IfOk, IfSome, slice_index_or, true, IsTrue, ◌↔◌};
 ghost use Rattle.plane_words.specs.Causes.{HasCause};
 ghost use Rattle.plane_disk.specs.declared.call.DiskCall.TheVariants.{Write, Cut, Sync};
 ghost use Rattle.plane_disk.specs.Files.{bytes_of, TornAt, CutAt, Reads};
 ghost use Rattle.plane_disk.specs.Names.{AreDiskNames};
 ghost use Rattle.plane_disk.specs.View.{Only, MayStep, Steps, AddsNone, Tells, HasWritten, HasCut, IsFile, Elapses, Stays};
+ghost use Rattle.plane_disk.specs.Images.{IsImage};
 ghost use Rattle.plane_disk.specs.MemDisk.{names_of, contents_of, state_of, view_of, Ends, Records};
 
 use crate::call::DiskCall;
 use crate::change::{contents, copy_from, cut, is_to_fail, record_sync, write};
 use crate::disk::Disk;
+use crate::image::{is_image, refilled};
 use crate::mem_file::MemFile;
 use plane_io::{Failed, Memory, Text};
 use std::alloc::Global;
@@ -78,6 +80,26 @@ impl MemDisk {
             faults: 0,
             refused: 0,
         })
+    }
+
+    /// Whether a crash at this moment may leave these files.
+    pub fn is_image(&self, files: &[Text]) -> bool
+        ensures { IsTrue result ↔ IsImage (state_of self.now) files.now }
+    {
+        is_image(&self.synced, &self.calls[self.recorded..], files)
+    }
+
+    /// The disk that a crash leaves where it leaves these files. None of its calls fails.
+    pub fn after_crash(&self, files: &[Text]) -> Result<MemDisk, Memory>
+        requires { IsImage (state_of self.now) files.now }
+        ensures names { IfOk result (λ disk. names_of disk.start ≡ names_of self.now.start) }
+        ensures files { IfOk result (λ disk. contents_of disk.start ≡ files.now) }
+        ensures calls { IfOk result (λ disk. (disk.calls ≡ []) × (disk.made ≡ 0)) }
+        ensures lists { IfOk result (λ disk. (disk.failing ≡ []) × (disk.fuse ≡ None)) }
+        ensures counts { IfOk result (λ disk. (disk.faults ≡ 0) × (disk.refused ≡ 0)) }
+    {
+        let start = refilled(self.alloc, &self.start, files)?;
+        MemDisk::new(self.alloc, start, Vec::new(self.alloc), None)
     }
 
     /// How many growths were refused for want of memory.

@@ -1,8 +1,8 @@
-use Rattle.std.proofs.Common.{arith, ap, ap₂, sym, subst, ◌∙◌, ◌≡◌, ◌<◌, ◌≤◌, ◌++◌, ◌∷◌, [], length, not, true, false, refl, inl, inr, Some}
+use Rattle.std.proofs.Common.{arith, ap, subst, ◌∙◌, ◌<◌, ◌++◌, ◌∷◌, [], length, not, refl, inl, inr, Some}
 use Rattle.plane_words.specs.Causes.{next_count}
-use Rattle.plane_disk.specs.Calls.{DiskState, seen_after}
+use Rattle.plane_disk.specs.Calls.{seen_after}
 use Rattle.plane_disk.specs.Images.{IsImage}
-use Rattle.plane_disk.specs.MemDisk.{state_of, view_of, names_of, contents_of, IsToFail}
+use Rattle.plane_disk.specs.MemDisk.{state_of, names_of, contents_of, IsToFail}
 use Rattle.plane_disk.specs.Sound.{seen_is_image}
 use Rattle.plane_disk.specs.declared.call.DiskCall.TheVariants.{Write}
 use Rattle.plane_disk.proofs.KeptLemmas.{kept_seen, kept_count, kept_call}
