@@ -7,8 +7,10 @@ use Rattle.plane_disk.specs.declared.call.DiskCall.TheVariants.{Write, Cut, Sync
 
 -- what a read gives after a call; one that failed leaves it
 abbrev pub seen_after : Files → DiskCall → Files
-seen_after files (Write file at bytes done) = if done then with_bytes files file (put_at (bytes_of files file) at bytes) else files
-seen_after files (Cut file size done) = if done then with_bytes files file (take size (bytes_of files file)) else files
+seen_after files (Write file at bytes done) =
+    if done then with_bytes files file (put_at (bytes_of files file) at bytes) else files
+seen_after files (Cut file size done) =
+    if done then with_bytes files file (take size (bytes_of files file)) else files
 seen_after files Sync = files
 
 -- what a read gives, what it gave at the last sync that succeeded, and the calls since then
@@ -23,7 +25,11 @@ at_first files = record { seen = files; synced = files; since = [] }
 
 abbrev pub after_call : DiskState → DiskCall → DiskState
 after_call state Sync = record { seen = state.seen; synced = state.seen; since = [] }
-after_call state call = record { seen = seen_after state.seen call; synced = state.synced; since = state.since ++ call ∷ [] }
+after_call state call = record {
+  seen = seen_after state.seen call;
+  synced = state.synced;
+  since = state.since ++ call ∷ [];
+}
 
 -- the state after these calls, one after the other
 abbrev pub after_calls : DiskState → List DiskCall → DiskState

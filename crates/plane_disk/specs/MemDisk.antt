@@ -54,19 +54,25 @@ pub record Ends {T E : Type 0} (old new : DiskInMemory) (result : Result T E) : 
   pub failing : new.failing ≡ old.failing
   pub fuse : new.fuse ≡ old.fuse
   pub made : new.made ≡ next_count old.made
-  pub fails : OnErr result (IsToFail old.failing old.fuse new.made ⊎ (new.refused ≡ next_count old.refused))
-  pub passes : OnOk result ((¬ (IsToFail old.failing old.fuse new.made)) × (new.refused ≡ old.refused) × (new.faults ≡ old.faults))
+  pub fails : OnErr result
+      (IsToFail old.failing old.fuse new.made ⊎ (new.refused ≡ next_count old.refused))
+  pub passes : OnOk result (¬ (IsToFail old.failing old.fuse new.made))
+  pub faultless : OnOk result ((new.refused ≡ old.refused) × (new.faults ≡ old.faults))
   pub later : old.refused ≤ new.refused
 
 -- What a call leaves in the record: that it was done, that it failed, or nothing where a growth was refused.
-pub record Records {T E : Type 0} (old new : DiskInMemory) (result : Result T E) (call : Bool → DiskCall) : Type 0 where
+pub record Records {T E : Type 0} (old new : DiskInMemory) (result : Result T E)
+    (call : Bool → DiskCall) : Type 0 where
   pub ok : OnOk result (new.calls ≡ old.calls ++ call true ∷ [])
-  pub err : OnErr result ((new.calls ≡ old.calls ++ call false ∷ []) ⊎ ((new.calls ≡ old.calls) × (new.refused ≡ next_count old.refused)))
+  pub err : OnErr result ((new.calls ≡ old.calls ++ call false ∷ [])
+      ⊎ ((new.calls ≡ old.calls) × (new.refused ≡ next_count old.refused)))
 
 -- what the fields of a disk in memory keep: what a read gives, and what it gave at the last sync, after which so many
 -- calls had been recorded
-pub record IsKept (start : List MemFile) (calls : List DiskCall) (seen synced : Files) (recorded : ℕ) : Type 0 where
+pub record IsKept (start : List MemFile) (calls : List DiskCall) (seen synced : Files)
+    (recorded : ℕ) : Type 0 where
   pub named : AreDiskNames (names_of start)
   pub few : length start < 2 ^ 32
   pub within : recorded ≤ length calls
-  pub state : after_calls (at_first (contents_of start)) calls ≡ record { seen = seen; synced = synced; since = drop recorded calls }
+  pub state : after_calls (at_first (contents_of start)) calls
+      ≡ record { seen = seen; synced = synced; since = drop recorded calls }

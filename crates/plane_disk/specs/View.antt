@@ -27,7 +27,8 @@ Steps step old new = SeenSteps step old.seen new.seen
 
 -- each image after such a call was one before it, or comes from one by that step
 abbrev pub MayStep : (Files → Files → Type 0) → View → View → Type 0
-MayStep step old new = (image : Files) → new.is_image image → old.is_image image ⊎ ((from : Files) × old.is_image from × step from image)
+MayStep step old new = (image : Files) → new.is_image image
+    → old.is_image image ⊎ ((from : Files) × old.is_image from × step from image)
 
 -- no image comes with a call
 abbrev pub AddsNone : View → View → Type 0
@@ -39,11 +40,13 @@ Tells view P = IfSome view.seen P
 
 -- a read gives bytes that were written from a place on
 abbrev pub HasWritten : View → View → ℕ → ℕ → List ℕ → Type 0
-HasWritten old new file at bytes = Tells old (λ files. new.seen ≡ Some (with_bytes files file (put_at (bytes_of files file) at bytes)))
+HasWritten old new file at bytes =
+    Tells old (λ files. new.seen ≡ Some (with_bytes files file (put_at (bytes_of files file) at bytes)))
 
 -- a read gives the front of a file that was cut
 abbrev pub HasCut : View → View → ℕ → ℕ → Type 0
-HasCut old new file size = Tells old (λ files. new.seen ≡ Some (with_bytes files file (take size (bytes_of files file))))
+HasCut old new file size =
+    Tells old (λ files. new.seen ≡ Some (with_bytes files file (take size (bytes_of files file))))
 
 -- the number is one of a file
 abbrev pub IsFile : View → ℕ → Type 0
@@ -59,7 +62,8 @@ pub record IsSound (view : View) : Type 0 where
   pub now_counts : (image : Files) → view.is_image image → view.was_image view.moment image
   pub now_alone : (image : Files) → view.was_image view.moment image → view.is_image image
   -- what was an image from a moment on was one from an earlier moment on
-  pub wider : (earlier later : ℕ) (image : Files) → earlier ≤ later → view.was_image later image → view.was_image earlier image
+  pub wider : (earlier later : ℕ) (image : Files) → earlier ≤ later
+      → view.was_image later image → view.was_image earlier image
 
 -- The same disk, later. Its names stay, and the images from an earlier moment on are those that there were before, and
 -- those that there are now.
@@ -67,8 +71,10 @@ pub record Elapses (old new : View) : Type 0 where
   pub names : new.names ≡ old.names
   pub later : old.moment ≤ new.moment
   pub silent : old.seen ≡ None → new.seen ≡ None
-  pub keeps : (from : ℕ) (image : Files) → from ≤ old.moment → old.was_image from image → new.was_image from image
-  pub adds : (from : ℕ) (image : Files) → from ≤ old.moment → new.was_image from image → old.was_image from image ⊎ new.is_image image
+  pub keeps : (from : ℕ) (image : Files) → from ≤ old.moment
+      → old.was_image from image → new.was_image from image
+  pub adds : (from : ℕ) (image : Files) → from ≤ old.moment
+      → new.was_image from image → old.was_image from image ⊎ new.is_image image
 
 -- Nothing changed but the count of faults and the moment: a read gives the same, and a crash leaves the same.
 pub record Stays (old new : View) : Type 0 where

@@ -79,9 +79,12 @@ pub(crate) fn write(
 ) -> Result<(), Memory>
     requires number { file < length files.old.items }
     requires inside { at ≤ length (bytes_of files.old.items file) }
-    ensures seen { OnOk result (files.new.items ≡ seen_after files.old.items (Write file at bytes.now done)) }
-    ensures recorded { OnOk result (calls.new.items ≡ calls.old.items ++ Write file at bytes.now done ∷ []) }
-    ensures err { OnErr result ((files.new.items ≡ files.old.items) × (calls.new.items ≡ calls.old.items)) }
+    ensures seen { OnOk result
+        (files.new.items ≡ seen_after files.old.items (Write file at bytes.now done)) }
+    ensures recorded { OnOk result
+        (calls.new.items ≡ calls.old.items ++ Write file at bytes.now done ∷ []) }
+    ensures kept { OnErr result (files.new.items ≡ files.old.items) }
+    ensures not_recorded { OnErr result (calls.new.items ≡ calls.old.items) }
 {
     let alloc = *calls.allocator();
     let kept = Text::from_bytes(alloc, bytes)?;
@@ -109,7 +112,8 @@ pub(crate) fn cut(
     requires { file < length files.old.items }
     ensures seen { OnOk result (files.new.items ≡ seen_after files.old.items (Cut file size done)) }
     ensures recorded { OnOk result (calls.new.items ≡ calls.old.items ++ Cut file size done ∷ []) }
-    ensures err { OnErr result ((files.new.items ≡ files.old.items) × (calls.new.items ≡ calls.old.items)) }
+    ensures kept { OnErr result (files.new.items ≡ files.old.items) }
+    ensures not_recorded { OnErr result (calls.new.items ≡ calls.old.items) }
 {
     let alloc = *calls.allocator();
     let old = files[file as usize].as_bytes();
@@ -130,7 +134,8 @@ pub(crate) fn record_sync(
 ) -> Result<(), Memory>
     ensures kept { OnOk result (synced.new.items ≡ seen.now) }
     ensures recorded { OnOk result (calls.new.items ≡ calls.old.items ++ Sync ∷ []) }
-    ensures err { OnErr result ((synced.new.items ≡ synced.old.items) × (calls.new.items ≡ calls.old.items)) }
+    ensures stays { OnErr result (synced.new.items ≡ synced.old.items) }
+    ensures not_recorded { OnErr result (calls.new.items ≡ calls.old.items) }
 {
     let kept = copies(*calls.allocator(), seen)?;
     calls.push(DiskCall::Sync)?;

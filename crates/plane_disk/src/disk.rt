@@ -41,9 +41,12 @@ pub trait Disk {
     fn write_at(&mut self, file: u32, at: u64, bytes: &[u8]) -> Result<(), Failed>
         requires number { IsFile (view self.old) file }
         requires inside { Tells (view self.old) (λ files. at ≤ length (bytes_of files file)) }
-        ensures written { OnOk result (HasWritten (view self.old) (view self.new) file at bytes.now) }
-        ensures torn { Steps (TornAt file at (length bytes.now)) (view self.old) (view self.new) }
-        ensures crash { MayStep (TornAt file at (length bytes.now)) (view self.old) (view self.new) }
+        ensures written { OnOk result
+            (HasWritten (view self.old) (view self.new) file at bytes.now) }
+        ensures torn { Steps (TornAt file at (length bytes.now))
+            (view self.old) (view self.new) }
+        ensures crash { MayStep (TornAt file at (length bytes.now))
+            (view self.old) (view self.new) }
         ensures time { Elapses (view self.old) (view self.new) }
         ensures cause { HasCause (view self.old).faults (view self.new).faults result };
 
@@ -58,7 +61,8 @@ pub trait Disk {
 
     /// Makes all files whole: a crash then leaves what a read gives. Where that fails, nothing changes.
     fn sync(&mut self) -> Result<(), Failed>
-        ensures whole { OnOk result (Tells (view self.old) (λ files. Only files (view self.new).is_image)) }
+        ensures whole { OnOk result
+            (Tells (view self.old) (λ files. Only files (view self.new).is_image)) }
         ensures seen { OnOk result ((view self.new).seen ≡ (view self.old).seen) }
         ensures stays { OnErr result (Stays (view self.old) (view self.new)) }
         ensures crash { AddsNone (view self.old) (view self.new) }

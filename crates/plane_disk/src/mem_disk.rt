@@ -49,7 +49,8 @@ impl Model for MemDisk {
       refused = disk.refused;
     } };
 
-    ghost invariant = { λ disk. IsKept disk.start.items disk.calls.items disk.seen.items disk.synced.items disk.recorded };
+    ghost invariant = { λ disk. IsKept disk.start.items disk.calls.items
+        disk.seen.items disk.synced.items disk.recorded };
 }
 
 impl MemDisk {
@@ -63,7 +64,10 @@ impl MemDisk {
     ) -> Result<MemDisk, Memory>
         requires named { AreDiskNames (names_of files.items) }
         requires few { length files.items < 2 ^ 32 }
-        ensures { IfOk result (λ disk. disk ≡ record { start = files.items; calls = []; failing = failing.items; fuse = fuse; made = 0; faults = 0; refused = 0 }) }
+        ensures files { IfOk result (λ disk. disk.start ≡ files.items) }
+        ensures lists { IfOk result (λ disk. (disk.failing ≡ failing.items) × (disk.fuse ≡ fuse)) }
+        ensures calls { IfOk result (λ disk. (disk.calls ≡ []) × (disk.made ≡ 0)) }
+        ensures counts { IfOk result (λ disk. (disk.faults ≡ 0) × (disk.refused ≡ 0)) }
     {
         let seen = contents(alloc, &files)?;
         let synced = contents(alloc, &files)?;
@@ -155,9 +159,12 @@ impl Disk for MemDisk {
     fn write_at(&mut self, file: u32, at: u64, bytes: &[u8]) -> Result<(), Failed>
         requires number { IsFile (view_of self.old) file }
         requires inside { Tells (view_of self.old) (λ files. at ≤ length (bytes_of files file)) }
-        ensures written { OnOk result (HasWritten (view_of self.old) (view_of self.new) file at bytes.now) }
-        ensures torn { Steps (TornAt file at (length bytes.now)) (view_of self.old) (view_of self.new) }
-        ensures crash { MayStep (TornAt file at (length bytes.now)) (view_of self.old) (view_of self.new) }
+        ensures written { OnOk result
+            (HasWritten (view_of self.old) (view_of self.new) file at bytes.now) }
+        ensures torn { Steps (TornAt file at (length bytes.now))
+            (view_of self.old) (view_of self.new) }
+        ensures crash { MayStep (TornAt file at (length bytes.now))
+            (view_of self.old) (view_of self.new) }
         ensures time { Elapses (view_of self.old) (view_of self.new) }
         ensures cause { HasCause (view_of self.old).faults (view_of self.new).faults result }
 
@@ -206,7 +213,8 @@ impl Disk for MemDisk {
     }
 
     fn sync(&mut self) -> Result<(), Failed>
-        ensures whole { OnOk result (Tells (view_of self.old) (λ files. Only files (view_of self.new).is_image)) }
+        ensures whole { OnOk result
+            (Tells (view_of self.old) (λ files. Only files (view_of self.new).is_image)) }
         ensures seen { OnOk result ((view_of self.new).seen ≡ (view_of self.old).seen) }
         ensures stays { OnErr result (Stays (view_of self.old) (view_of self.new)) }
         ensures crash { AddsNone (view_of self.old) (view_of self.new) }
@@ -219,7 +227,8 @@ impl Disk for MemDisk {
         ensures err { OnErr result (self.new.calls ≡ self.old.calls) }
     {
         self.made = self.made.saturating_add(1);
-        if is_to_fail(&self.failing, self.fuse, self.made) {
+        let is_failing = is_to_fail(&self.failing, self.fuse, self.made);
+        if is_failing {
             self.faults = self.faults.saturating_add(1);
             return Err(Failed);
         }
