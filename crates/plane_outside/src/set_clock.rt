@@ -1,0 +1,54 @@
+ghost use Rattle.std.specs.Prelude.{◌≡◌, ◌≤◌, ◌+◌, ℕ, Some, true};
+ghost use Rattle.plane_outside.specs.Given.{Advances, nth_or_last, never_falls};
+
+use crate::clock::Clock;
+use crate::given::Given;
+use std::marker::Model;
+
+/// A clock that gives set moments in order, then the last one again, and 0 where there is none.
+#[derive(Debug, Drop)]
+pub struct SetClock {
+    given: Given,
+    last: u64,
+}
+
+impl Model for SetClock {
+    ghost use Rattle.std.specs.Prelude.{ℕ, ◌≤◌, ◌+◌};
+    ghost use Rattle.plane_outside.specs.Given.{nth_or_last};
+    ghost use Rattle.plane_outside.specs.SetClock.{ClockInMemory};
+
+    ghost Value = { ClockInMemory };
+
+    ghost view = { λ clock. record { moments = clock.given; last = clock.last } };
+
+    ghost invariant = { λ clock. (clock.last ≤ nth_or_last clock.given 0)
+        × ((k : ℕ) → nth_or_last clock.given k ≤ nth_or_last clock.given (k + 1)) };
+}
+
+impl SetClock {
+    /// A clock that gives these moments, which never fall.
+    pub fn new(moments: Vec<u64>) -> SetClock
+        requires { never_falls moments.items ≡ true }
+        ensures moments { result.moments ≡ moments.items }
+        ensures last { result.last ≡ 0 }
+    {
+        SetClock {
+            given: Given::new(moments),
+            last: 0,
+        }
+    }
+}
+
+impl Clock for SetClock {
+    ghost moments = { λ clock. Some (nth_or_last clock.moments) };
+
+    ghost last = { λ clock. clock.last };
+
+    ghost faults = { λ clock. 0 };
+
+    fn now(&mut self) -> u64 {
+        let moment = self.given.next();
+        self.last = moment;
+        moment
+    }
+}
