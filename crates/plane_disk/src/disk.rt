@@ -1,7 +1,7 @@
-ghost use Rattle.std.specs.Prelude.{◌≡◌, ◌≤◌, ◌<◌, length, take, Some, OnOk, OnErr, IfOk, IfSome, slice_index_or, []};
+ghost use Rattle.std.specs.Prelude.{◌≡◌, ◌≤◌, ◌<◌, length, take, Some, OnOk, OnErr, IfOk, IfSome};
 ghost use Rattle.plane_words.specs.Causes.{HasCause};
 ghost use Rattle.plane_disk.specs.Files.{bytes_of, TornAt, CutAt, Reads};
-ghost use Rattle.plane_disk.specs.Names.{AreDiskNames};
+ghost use Rattle.plane_disk.specs.Names.{AreDiskNames, name_at};
 ghost use Rattle.plane_disk.specs.View.{View, Only, MayStep, Steps, AddsNone, Tells, HasWritten, HasCut, IsFile, IsSound, Elapses, Stays};
 
 use plane_io::Failed;
@@ -20,7 +20,7 @@ pub trait Disk {
     /// The name of a file.
     fn name(&self, file: u32) -> &[u8]
         requires { IsFile (view self.now) file }
-        ensures { result.now ≡ slice_index_or (view self.now).names file [] };
+        ensures { result.now ≡ name_at (view self.now).names file };
 
     /// The number of bytes of a file.
     fn size(&self, file: u32) -> u64

@@ -11,8 +11,10 @@ mod disk;
 mod image;
 mod mem_disk;
 mod mem_file;
+mod names;
 
 pub use call::DiskCall;
 pub use disk::Disk;
 pub use mem_disk::MemDisk;
 pub use mem_file::MemFile;
+pub use names::{are_disk_names, is_package_name};

@@ -1,5 +1,5 @@
 -- Numbers that a device gives, one a call.
-use Rattle.std.specs.Prelude.{ℕ, ◌≡◌, ◌+◌, ◌-◌, min, ◌&&◌, true, Bool, List, [], ◌∷◌, length, slice_index, nat_le, Option, Some, None}
+use Rattle.std.specs.Prelude.{ℕ, ◌≡◌, ◌≤◌, ◌<◌, ◌+◌, ◌-◌, min, List, length, slice_index, Option, Some, None}
 
 -- A device that told what the k-th call from now gives, for each k from 0, gave the first of these, and the others
 -- follow.
@@ -13,7 +13,5 @@ abbrev pub nth_or_last : List ℕ → ℕ → ℕ
 nth_or_last numbers k = slice_index numbers (min k (length numbers - 1))
 
 -- no number is less than the one before it
-abbrev pub never_falls : List ℕ → Bool
-never_falls [] = true
-never_falls (x ∷ []) = true
-never_falls (x ∷ y ∷ rest) = nat_le x y && never_falls (y ∷ rest)
+abbrev pub NeverFalls : List ℕ → Type 0
+NeverFalls numbers = (i : ℕ) → i + 1 < length numbers → slice_index numbers i ≤ slice_index numbers (i + 1)

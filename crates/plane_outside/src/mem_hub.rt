@@ -1,4 +1,4 @@
-ghost use Rattle.std.specs.Prelude.{◌≡◌, ◌≤◌, ◌⊎◌, ◌↔◌, ◌++◌, [], ◌∷◌, Some, Ok, OnOk, OnErr, IfOk, IsErr, Contains};
+ghost use Rattle.std.specs.Prelude.{◌≡◌, ◌≤◌, ◌⊎◌, ◌↔◌, IsTrue, ◌++◌, [], ◌∷◌, Some, Ok, OnOk, OnErr, IfOk, IsErr, Contains};
 ghost use Rattle.std.specs.List.{All};
 ghost use Rattle.plane_words.specs.Causes.{HasCause, next_count};
 ghost use Rattle.plane_outside.specs.declared.event.HubEvent.TheVariants.{Idle};
@@ -42,6 +42,31 @@ impl Model for MemHub {
     } };
 
     ghost invariant = { λ hub. All IsWhole hub.events.items };
+}
+
+/// Whether the event has 1 to 65,536 bytes, if it has any.
+fn is_whole(event: &HubEvent) -> bool
+    ensures { IsTrue result ↔ IsWhole event.now }
+{
+    match event {
+        HubEvent::Bytes { bytes, .. } => {
+            let count = bytes.as_bytes().len();
+            1 <= count && count <= 65_536
+        }
+        _ => true,
+    }
+}
+
+/// Whether each event that has bytes has 1 to 65,536 of them.
+pub fn are_whole(events: &[HubEvent]) -> bool
+    ensures { IsTrue result ↔ All IsWhole events.now }
+{
+    for event in events {
+        if !is_whole(event) {
+            return false;
+        }
+    }
+    true
 }
 
 impl MemHub {

@@ -1,5 +1,5 @@
-ghost use Rattle.std.specs.Prelude.{◌≡◌, ◌≤◌, ◌+◌, ℕ, Some, true};
-ghost use Rattle.plane_outside.specs.Given.{Advances, nth_or_last, never_falls};
+ghost use Rattle.std.specs.Prelude.{◌≡◌, ◌≤◌, ◌+◌, ◌↔◌, ℕ, IsTrue, Some};
+ghost use Rattle.plane_outside.specs.Given.{Advances, nth_or_last, NeverFalls};
 
 use crate::clock::Clock;
 use crate::given::Given;
@@ -25,10 +25,22 @@ impl Model for SetClock {
         × ((k : ℕ) → nth_or_last clock.given k ≤ nth_or_last clock.given (k + 1)) };
 }
 
+/// Whether no moment is less than the one before it.
+pub fn never_falls(moments: &[u64]) -> bool
+    ensures { IsTrue result ↔ NeverFalls moments.now }
+{
+    for i in 1..moments.len() {
+        if moments[i] < moments[i - 1] {
+            return false;
+        }
+    }
+    true
+}
+
 impl SetClock {
     /// A clock that gives these moments, which never fall.
     pub fn new(moments: Vec<u64>) -> SetClock
-        requires { never_falls moments.items ≡ true }
+        requires { NeverFalls moments.items }
         ensures moments { result.moments ≡ moments.items }
         ensures last { result.last ≡ 0 }
     {
