@@ -3,6 +3,7 @@ use Rattle.std.proofs.Common.{◌≡◌, inl, inr, List, ◌++◌, map, true, Co
 use Rattle.std.specs.FinSet as set
 use Rattle.std.proofs.lemmas.List.Elements.{Contains-append_left, Contains-append_right}
 use Rattle.plane_words.proofs.OrderLemmas.{one_list}
+use Rattle.plane_words.proofs.OrderedLemmas.{ordered_lists}
 use Rattle.kern_model.specs.declared.object.Object.{Object}
 use Rattle.kern_model.specs.declared.object.Call.{Call}
 use Rattle.kern_model.specs.declared.object.Call.TheVariants.{Put, Take}
@@ -16,7 +17,7 @@ use Rattle.kern_model.proofs.SetLemmas.{item_of_set}
 use Rattle.kern_model.proofs.TouchLemmas.{taken_held, put_wanted}
 use Rattle.kern_model.proofs.LeadLemmas.{taken_call, carries, is_own}
 use Rattle.kern_calls.specs.Calls.{own_take, candidates, calls}
-use Rattle.kern_calls.proofs.OrderedLemmas.{ordered_lists, from_filter, in_filter}
+use Rattle.kern_calls.proofs.FilterLemmas.{from_filter, in_filter}
 
 module _ (devices : Devices) (held wanted : Objects) where
   -- each call is a candidate

@@ -1,4 +1,4 @@
-pub mod OrderedLemmas
+pub mod FilterLemmas
 pub mod CallsLemmas
 pub mod KeptLemmas
 pub mod AlikeLemmas

@@ -24,7 +24,7 @@ use Rattle.kern_model.proofs.GoneLemmas.{is_over_of_test, test_of_is_over, over_
 use Rattle.kern_model.proofs.TouchLemmas.{falls_with, falls_of, on_taken_at, touched_held, touched_wanted, touched_on, touched_cases, replaced_by, taken_held, taken_touched, taken_not_replaced, taken_of, put_wanted, put_of, put_touched}
 use Rattle.kern_model.proofs.LeadLemmas.{own_take, taken_call, carries, is_own, call_of_taken}
 use Rattle.kern_calls.specs.Lower.{is_lower, lower_part, is_lower_call}
-use Rattle.kern_calls.proofs.OrderedLemmas.{from_filter, in_filter}
+use Rattle.kern_calls.proofs.FilterLemmas.{from_filter, in_filter}
 use Rattle.kern_calls.proofs.AlikeLemmas.{left_alike, less_alike, resorted}
 use Rattle.kern_calls.proofs.GoOnLemmas.{still_over, as_high, low_enough, is_replaced_of_all}
 

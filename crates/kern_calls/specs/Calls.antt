@@ -8,7 +8,7 @@ use Rattle.kern_model.specs.ObjectOrder.{Objects}
 use Rattle.kern_model.specs.Kernel.{Devices, own_mtu, own_mac, name_of}
 use Rattle.kern_model.specs.Touched.{is_call}
 use Rattle.kern_model.specs.CallOrder.{call_cmp}
-use Rattle.kern_calls.specs.Ordered.{ordered}
+use Rattle.plane_words.specs.InOrder.{ordered}
 
 -- the take of an object, with the own values of its name
 abbrev pub own_take : Devices → Object → Call

@@ -1,7 +1,12 @@
 -- The calls between two sets of objects, as a list, and what holds of them.
-pub mod Ordered
+
+-- the calls as a list that computes
 pub mod Calls
+-- what the calls leave alone, and what falls with a link that is taken
 pub mod Kept
+-- the calls of one object
 pub mod Counted
+-- the objects below addresses and routes
 pub mod Lower
+-- how much is left to do
 pub mod Due

@@ -20,7 +20,7 @@ use Rattle.kern_model.proofs.SetLemmas.{set_of_member, member_of_set, same_membe
 use Rattle.kern_model.proofs.TouchLemmas.{touched_wanted, put_wanted, put_of}
 use Rattle.kern_model.proofs.LeadLemmas.{IsPut, taken_call}
 use Rattle.kern_model.proofs.RestLemmas.{none_taken, unheld_of_put}
-use Rattle.plane_main.specs.Bring.{due_count}
+use Rattle.kern_calls.specs.Due.{due_count}
 
 -- what is in one set and not in the other
 has_beyond : (s t : Objects) (o : Object) → Has s o → (Has t o → ⊥) → Has (set.difference s t) o

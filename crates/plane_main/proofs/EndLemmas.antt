@@ -7,13 +7,14 @@ use Rattle.kern_model.specs.Allowed.{AreAllowed}
 use Rattle.kern_model.proofs.AllowedLemmas.{nothing_allowed}
 use Rattle.kern_model.proofs.LeadLemmas.{reached}
 use Rattle.kern_model.proofs.RestLemmas.{made_within, rest_leads_on}
+use Rattle.kern_calls.specs.Due.{due_count}
 use Rattle.plane_main.specs.declared.interface.Interface.{Interface}
 use Rattle.plane_main.specs.declared.ending.Ending.{Ending}
 use Rattle.plane_main.specs.declared.ending.Ending.TheVariants as ending
 use Rattle.plane_main.specs.Outside.{Outside}
 use Rattle.plane_main.specs.Wanted.{wanted}
 use Rattle.plane_main.specs.Settle.{Settled, StopsAtCall, StopsAtLine, SettleEnds}
-use Rattle.plane_main.specs.Bring.{Came, Finished, StoppedAtCall, StoppedAtLine, BringUpEnds, due_count}
+use Rattle.plane_main.specs.Bring.{Came, Finished, StoppedAtCall, StoppedAtLine, BringUpEnds}
 use Rattle.plane_main.proofs.BringLemmas.{wanted_allowed}
 use Rattle.plane_main.proofs.CountLemmas.{count_due}
 use Rattle.plane_main.proofs.SettleLemmas.{settled_from, settled_in_part_from}

@@ -7,9 +7,9 @@ use Rattle.plane_words.specs.Causes.{Rose, RoseBy}
 use Rattle.net_addr.specs.Width.{IsCidr}
 use Rattle.kern_model.specs.declared.object.Call.{Call}
 use Rattle.kern_model.specs.Name.{is_name}
-use Rattle.kern_model.specs.ObjectOrder.{Objects}
 use Rattle.kern_model.specs.Kernel.{Devices, is_present}
 use Rattle.kern_model.specs.CallOrder.{AreCalls}
+use Rattle.kern_calls.specs.Due.{due_count}
 use Rattle.plane_main.specs.declared.interface.Interface.{Interface}
 use Rattle.plane_main.specs.declared.ending.Ending.{Ending}
 use Rattle.plane_main.specs.declared.ending.Ending.TheVariants as ending
@@ -47,10 +47,6 @@ pub record Finished (names : List (List ℕ)) (interfaces : List Interface) (bef
   pub order : AreCalls after.devices set.empty (wanted interfaces after.devices) calls
   pub settled : Settled calls [] before after
   pub held : after.objects ≡ wanted interfaces after.devices
-
--- how many objects are in one of what is held and what is wanted, and not in the other
-abbrev pub due_count : Objects → Objects → ℕ
-due_count held wanted = set.len (set.difference held wanted) + set.len (set.difference wanted held)
 
 -- A call failed: the calls before it were made and their lines written. The number that is told is that of the calls
 -- that are left, which put what is wanted and not held, and that of the objects that are due.

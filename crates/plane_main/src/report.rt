@@ -25,7 +25,8 @@ pub fn report<E: Sink>(ending: &Ending, err: &mut E)
 // Writes the text of an ending, in one piece.
 fn write_text<E: Sink>(ending: &Ending, err: &mut E) -> Result<(), Failed>
     ensures ok { OnOk result (Grows (E.held err.old) (E.held err.new) (text_of ending.now)) }
-    ensures err { OnErr result (GrowsByFront (E.held err.old) (E.held err.new) (text_of ending.now)) }
+    ensures err { OnErr result
+        (GrowsByFront (E.held err.old) (E.held err.new) (text_of ending.now)) }
     ensures cause { HasCause (E.faults err.old) (E.faults err.new) result }
     ensures silent { ending.now ≡ Ending.Done → err.new ≡ err.old }
 {
@@ -50,8 +51,11 @@ fn write_number<E: Sink>(
 ) -> Result<(), Failed>
     requires short { length before.now ≤ 16 }
     requires end { length after.now ≤ 16 }
-    ensures ok { OnOk result (Grows (E.held err.old) (E.held err.new) (before.now ++ decimal number ++ after.now)) }
-    ensures err { OnErr result (GrowsByFront (E.held err.old) (E.held err.new) (before.now ++ decimal number ++ after.now)) }
+    ensures ok { OnOk result
+        (Grows (E.held err.old) (E.held err.new) (before.now ++ decimal number ++ after.now)) }
+    ensures err { OnErr result
+        (GrowsByFront (E.held err.old) (E.held err.new)
+            (before.now ++ decimal number ++ after.now)) }
     ensures cause { HasCause (E.faults err.old) (E.faults err.new) result }
 {
     let mut digits = Buffer::new();
@@ -63,8 +67,10 @@ fn write_number<E: Sink>(
 }
 
 fn write_fault<E: Sink>(fault: &Fault, err: &mut E) -> Result<(), Failed>
-    ensures ok { OnOk result (Grows (E.held err.old) (E.held err.new) (text_of (ending.Unreadable fault.now))) }
-    ensures err { OnErr result (GrowsByFront (E.held err.old) (E.held err.new) (text_of (ending.Unreadable fault.now))) }
+    ensures ok { OnOk result
+        (Grows (E.held err.old) (E.held err.new) (text_of (ending.Unreadable fault.now))) }
+    ensures err { OnErr result
+        (GrowsByFront (E.held err.old) (E.held err.new) (text_of (ending.Unreadable fault.now))) }
     ensures cause { HasCause (E.faults err.old) (E.faults err.new) result }
 {
     let mut digits = Buffer::new();

@@ -34,7 +34,8 @@ pub fn settle<K: Kernel, O: Sink>(calls: &[Call], kernel: &mut K, out: &mut O) -
 
 fn write_line<O: Sink>(call: &Call, out: &mut O) -> Result<(), Failed>
     ensures written { OnOk result (Grows (O.held out.old) (O.held out.new) (whole_line call.now)) }
-    ensures in_part { OnErr result (GrowsByFront (O.held out.old) (O.held out.new) (whole_line call.now)) }
+    ensures in_part { OnErr result
+        (GrowsByFront (O.held out.old) (O.held out.new) (whole_line call.now)) }
     ensures cause { HasCause (O.faults out.old) (O.faults out.new) result }
 {
     let mut buffer = [0u8; 256];

@@ -24,8 +24,8 @@ pub use commands::read_commands;
 pub use keyword::is_name;
 pub use laws::{
     commands_or_fault, lines_have_words, no_commands_with_fault, no_fault_is_memory,
-    no_reading_with_fault,
-    one_command_fault, one_fault, one_list_of_commands, one_reading, reading_or_fault,
+    no_reading_with_fault, one_command_fault, one_fault, one_list_of_commands, one_reading,
+    reading_or_fault,
 };
 pub use line::Line;
 pub use quote::quote_into;

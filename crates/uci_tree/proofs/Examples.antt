@@ -9,7 +9,7 @@ use Rattle.uci_text.specs.declared.cmd.Cmd.TheVariants.{Item as ItemCmd}
 use Rattle.uci_text.proofs.Examples.{tested, option_alone, open_on_second_line}
 use Rattle.uci_tree.specs.declared.tree_error.TreeError.TheVariants.{Text, NoSection}
 use Rattle.uci_tree.specs.declared.path.Path.{Path}
-use Rattle.uci_tree.specs.declared.path.SectionRef.TheVariants.{Place}
+use Rattle.uci_tree.specs.declared.path.SectionRef.TheVariants.{Place as ByPlace}
 use Rattle.uci_tree.specs.Anonymous.{anonymous_name}
 use Rattle.uci_tree.specs.Path.{SpellsPath, backwards}
 use Rattle.uci_tree.specs.Find.{place_of}
@@ -84,7 +84,7 @@ two_devices = record {
 }
 
 abbrev device_at : ℤ → Path
-device_at index = record { package = codes "network"; section = Some (Place (codes "device") index); option = None }
+device_at index = record { «package» = codes "network"; section = Some (ByPlace (codes "device") index); option = None }
 
 -- `@device[-1]` is the last of them, `@device[-2]` the one before, and there is no third
 last_device : place_of two_devices (device_at (negsuc 0)) ≡ Some (record { section = 2; option = None })

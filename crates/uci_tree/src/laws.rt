@@ -1,4 +1,4 @@
-ghost use Rattle.std.specs.Prelude.{◌≡◌, ◌⊎◌, Bool, false, List, length, ℕ, IsSome};
+ghost use Rattle.std.specs.Prelude.{◌≡◌, ◌⊎◌, Bool, false, List, ℕ, IsSome};
 ghost use Rattle.uci_tree.specs.declared.package.Package.{Package};
 ghost use Rattle.uci_tree.specs.declared.path.Path.{Path};
 ghost use Rattle.uci_tree.specs.declared.tree_error.TreeError.{TreeError};
@@ -8,7 +8,7 @@ ghost use Rattle.uci_tree.specs.Path.{SpellsPath};
 ghost use Rattle.uci_tree.specs.Reading.{Reads, HasTreeFault};
 ghost use Rattle.uci_tree.specs.Valid.{IsValid};
 ghost use Rattle.uci_tree.specs.Print.{printed};
-ghost use Rattle.uci_tree.specs.Placed.{placed_from, IsClean};
+ghost use Rattle.uci_tree.specs.Placed.{placed, IsClean};
 
 /// A text is at most one package of a name.
 pub fn one_package()
@@ -45,7 +45,7 @@ pub fn one_path()
 /// name of its place; and as many were made as there are. The name in the header is passed over.
 pub fn printed_reads_back()
     ensures { (name : List ℕ) (tree : Package) (header : Bool) → IsValid tree → IsClean tree →
-        Reads name (printed tree header false) (record { name = name; sections = placed_from 1 tree.sections; made = length tree.sections }) }
+        Reads name (printed tree header false) (placed name tree) }
 {}
 
 /// What a printed text reads as is printed as the same text, so that writing a file that was read anew changes no byte.

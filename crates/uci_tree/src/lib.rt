@@ -22,8 +22,8 @@ pub use anonymous::anonymous_name;
 pub use copy::copy_package;
 pub use fault::{Fault, Reason};
 pub use laws::{
-    no_package_with_fault, no_tree_fault_is_memory, one_package, one_path, one_tree_fault, package_or_fault, printed_again,
-    printed_reads_back,
+    no_package_with_fault, no_tree_fault_is_memory, one_package, one_path, one_tree_fault,
+    package_or_fault, printed_again, printed_reads_back,
 };
 pub use lookup::{Place, find};
 pub use package::{Opt, Package, Section, Value};
