@@ -2,6 +2,10 @@
 #![tactic(auto)]
 
 #[cfg(test)]
+mod devices;
+#[cfg(test)]
+mod disk;
+#[cfg(test)]
 mod streams;
 #[cfg(test)]
 mod texts;

@@ -2,7 +2,7 @@
 use Rattle.std.specs.Prelude.{ℕ, ◌≡◌, ◌≤◌, ◌⊎◌, List, [], ◌∷◌, ◌++◌, length, Option, Some, None, Result, Err}
 use Rattle.plane_words.specs.Causes.{Rose}
 use Rattle.plane_outside.specs.declared.event.HubEvent.{HubEvent}
-use Rattle.plane_outside.specs.declared.event.HubEvent.TheVariants.{Accepted, Bytes, Closed, Idle}
+use Rattle.plane_outside.specs.declared.event.HubEvent.TheVariants.{Bytes, Idle}
 use Rattle.plane_outside.specs.declared.event.HubError.{HubError}
 use Rattle.plane_outside.specs.declared.event.HubError.TheVariants.{Failed}
 use Rattle.plane_outside.specs.declared.event.Sent.{Sent}

@@ -1,4 +1,4 @@
-use Rattle.std.proofs.Common.{arith, subst, sym, ◌≤◌, ◌+◌, ℕ, List}
+use Rattle.std.proofs.Common.{arith, subst, sym, ◌≤◌, ◌+◌}
 use Rattle.plane_outside.specs.Given.{nth_or_last}
 use Rattle.plane_outside.proofs.GivenLemmas.{rises}
 use Rattle.plane_outside.proofs.set_clock.SetClock.new.Goals as goal
