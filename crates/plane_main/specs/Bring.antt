@@ -40,7 +40,8 @@ pub record CameInFront (names : List (List ℕ)) (devices : Devices) (before now
   pub parts : names ≡ front ++ back
   pub came : Came front devices before now
 
--- all calls that lead from nothing to what the interfaces want were made, and their lines written
+-- All calls that lead from nothing to what the interfaces want were made, and their lines written. The kernel was bare
+-- before: the contracts that cite this require it.
 pub record Finished (names : List (List ℕ)) (interfaces : List Interface) (before after : Outside) : Type 0 where
   pub calls : List Call
   pub came : Came names after.devices before.kernel_faults after.kernel_faults

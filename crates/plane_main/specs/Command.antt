@@ -1,5 +1,5 @@
 -- The command line. Words are texts, without the name of the program itself.
-use Rattle.std.specs.Prelude.{ℕ, ◌≡◌, ◌≤◌, List, [], ◌∷◌, length, codes}
+use Rattle.std.specs.Prelude.{ℕ, ◌≡◌, ◌≤◌, List, [], ◌∷◌, length, codes, ⊤}
 use Rattle.std.specs.List.{AllByRecursion}
 use Rattle.plane_words.specs.Distinct.{AreDistinct}
 use Rattle.kern_model.specs.VlanName.{IsPlainName}
@@ -31,10 +31,20 @@ AskFor words (Show page) = words ≡ page_word page ∷ []
 abbrev pub IsCommand : List (List ℕ) → Type 0
 IsCommand words = (command : Command) × AskFor words command
 
--- the words are a `start` of some devices
-abbrev pub IsStartCommand : List (List ℕ) → Type 0
-IsStartCommand words = (devices : List (List ℕ)) × IsStart words devices
-
 -- the words ask for some page
 abbrev pub IsPageCommand : List (List ℕ) → Type 0
 IsPageCommand words = (page : Page) × AskFor words (Show page)
+
+-- the command reads the input
+abbrev pub ReadsInput : Command → Type 0
+ReadsInput (Start devices) = ⊤
+ReadsInput (Show page) = ⊥
+
+-- the command calls the kernel
+abbrev pub CallsKernel : Command → Type 0
+CallsKernel (Start devices) = ⊤
+CallsKernel (Show page) = ⊥
+
+-- the words ask for no command of this kind
+abbrev pub AskForNone : (Command → Type 0) → List (List ℕ) → Type 0
+AskForNone kind words = (command : Command) → AskFor words command → kind command → ⊥

@@ -1,11 +1,12 @@
--- How a run of the program ends, and when: by cases on its command. A command adds a case to each of the two relations.
+-- How a run of the program ends, and when: by cases on its command. A command adds a case to `CommandEnds` and to
+-- `CommandComes`, and in `Command` a case to the words that ask for it and to what it reads and calls.
 use Rattle.std.specs.Prelude.{ℕ, ◌≡◌, List}
 use Rattle.plane_main.specs.declared.command.Command.{Command}
 use Rattle.plane_main.specs.declared.command.Command.TheVariants.{Start, Show}
 use Rattle.plane_main.specs.declared.ending.Ending.{Ending}
 use Rattle.plane_main.specs.declared.ending.Ending.TheVariants as ending
 use Rattle.plane_main.specs.Outside.{Input, Outside, ErrorOutput}
-use Rattle.plane_main.specs.Command.{AskFor, IsCommand, IsStartCommand, IsPageCommand}
+use Rattle.plane_main.specs.Command.{AskFor, IsCommand, IsPageCommand, AskForNone, ReadsInput, CallsKernel}
 use Rattle.plane_main.specs.Ending.{status_of, text_of, IsTold, IsEarly, OrLacksMemory}
 use Rattle.plane_main.specs.Start.{StartEnds, StartComes}
 use Rattle.plane_main.specs.Page.{PageEnds, PageComes}
@@ -46,12 +47,12 @@ pub record Ended (words : List (List ℕ)) (input : Input) (before after : Outsi
 -- Which devices a run leaves wholly alone, as the values that they are. They are the input, the output and the kernel,
 -- each before and after.
 pub record LeavesAlone {S O K : Type 0} (words : List (List ℕ)) (end : Ending) (before after : S × O × K) : Type 0 where
-  pub input : (IsStartCommand words → ⊥) → after.0 ≡ before.0
+  pub input : AskForNone ReadsInput words → after.0 ≡ before.0
   pub out : IsEarly end → after.1 ≡ before.1
   pub out_unfilled : end ≡ ending.OutOfMemory → after.1 ≡ before.1
   pub out_unasked : (IsCommand words → ⊥) → after.1 ≡ before.1
   pub kernel : IsEarly end → after.2 ≡ before.2
-  pub kernel_unasked : (IsStartCommand words → ⊥) → after.2 ≡ before.2
+  pub kernel_unasked : AskForNone CallsKernel words → after.2 ≡ before.2
 
 -- a run with this answer leaves those devices alone
 pub record LeftAlone {S O K : Type 0} (words : List (List ℕ)) (answer : ℕ) (before after : S × O × K) : Type 0 where

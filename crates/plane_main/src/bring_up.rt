@@ -1,4 +1,4 @@
-ghost use Rattle.std.specs.Prelude.{◌≡◌, ℕ, List, IfOk, OnOk, OnErr};
+ghost use Rattle.std.specs.Prelude.{◌≡◌, ◌≤◌, ℕ, List, IfOk, OnOk, OnErr};
 ghost use Rattle.std.specs.FinSet as set;
 ghost use Rattle.std.specs.Ordering.{nat_cmp};
 ghost use Rattle.std.specs.Cmp.Lexicographic.{slice_cmp};
@@ -36,6 +36,7 @@ pub fn add_devices<K: Kernel>(
         (K.devices kernel.new) (K.faults kernel.old) (K.faults kernel.new)) }
     ensures objects { K.objects kernel.new ≡ set.empty }
     ensures calls { K.calls kernel.new ≡ K.calls kernel.old }
+    ensures later { K.faults kernel.old ≤ K.faults kernel.new }
 {
     let mut present = BTreeSet::new(alloc);
     for name in names {

@@ -2,6 +2,10 @@
 ghost use Rattle.std.specs.Prelude.{◌≡◌, ℕ, List};
 ghost use Rattle.plane_main.specs.declared.interface.Interface.{Interface};
 ghost use Rattle.plane_main.specs.declared.command.Command.{Command};
+ghost use Rattle.plane_io.specs.declared.input.TheConstants.{INPUT_LIMIT};
+ghost use Rattle.kern_model.specs.declared.vlan_name.TheConstants.{LEAST_VLAN_ID, MOST_VLAN_ID};
+ghost use Rattle.plane_main.specs.declared.command.TheConstants.{MOST_DEVICES};
+ghost use Rattle.plane_main.specs.declared.bring_up.TheConstants.{ETHERNET_MTU};
 ghost use Rattle.plane_main.specs.Form.{IsNetwork};
 ghost use Rattle.plane_main.specs.Command.{AskFor};
 
@@ -15,4 +19,12 @@ pub fn one_list_of_interfaces()
 pub fn one_command()
     ensures { (words : List (List ℕ)) (command other : Command) →
         AskFor words command → AskFor words other → other ≡ command }
+{}
+
+/// The numbers that the definitions cite by name.
+pub fn named_numbers()
+    ensures devices { MOST_DEVICES ≡ 4096 }
+    ensures input { INPUT_LIMIT ≡ 1048576 }
+    ensures mtu { ETHERNET_MTU ≡ 1500 }
+    ensures vlans { (LEAST_VLAN_ID ≡ 1) × (MOST_VLAN_ID ≡ 4094) }
 {}

@@ -18,7 +18,7 @@ mod texts;
 
 pub use command::{Command, read_command};
 pub use interface::Interface;
-pub use laws::{one_command, one_list_of_interfaces};
+pub use laws::{named_numbers, one_command, one_list_of_interfaces};
 pub use locations::{Locations, places};
 pub use page::Page;
 pub use program::{lack_memory, plane};

@@ -18,6 +18,7 @@ use uci_tree::Fault;
 pub fn report<E: Sink>(ending: &Ending, err: &mut E)
     ensures told { IsTold (text_of ending.now) (errors_of E.Sink err.old err.new) }
     ensures silent { ending.now ≡ Ending.Done → err.new ≡ err.old }
+    ensures later { E.faults err.old ≤ E.faults err.new }
 {
     let _ = write_text(ending, err);
 }
@@ -55,7 +56,7 @@ fn write_number<E: Sink>(
         (Grows (E.held err.old) (E.held err.new) (before.now ++ decimal number ++ after.now)) }
     ensures err { OnErr result
         (GrowsByFront (E.held err.old) (E.held err.new)
-            (before.now ++ decimal number ++ after.now)) }
+        (before.now ++ decimal number ++ after.now)) }
     ensures cause { HasCause (E.faults err.old) (E.faults err.new) result }
 {
     let mut digits = Buffer::new();

@@ -17,7 +17,8 @@ pub fn settle<K: Kernel, O: Sink>(calls: &[Call], kernel: &mut K, out: &mut O) -
         (outside_of O.Sink K.Kernel out.old kernel.old)
         (outside_of O.Sink K.Kernel out.new kernel.new) result }
     ensures devices { K.devices kernel.new ≡ K.devices kernel.old }
-    ensures later { K.faults kernel.old ≤ K.faults kernel.new }
+    ensures later { (K.faults kernel.old ≤ K.faults kernel.new)
+        × (O.faults out.old ≤ O.faults out.new) }
 {
     let mut rest = calls;
     while let Some((call, others)) = rest.split_first() {

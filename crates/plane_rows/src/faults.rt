@@ -1,4 +1,6 @@
 use crate::session::{Failing, LAN, Session, run};
+use plane_io::MemSink;
+use plane_main::lack_memory;
 use std::alloc::Global;
 use std::test::Fail;
 
@@ -204,5 +206,14 @@ fn the_input_has_a_limit(rt: HostRuntime) -> Result<(), Fail> {
         assert_eq!(rt; ran.status, status, "{size}");
         assert_eq!(rt; ran.err.bytes(), told.as_bytes(), "{size}");
     }
+    Ok(())
+}
+
+#[test]
+fn want_of_memory_before_a_run_is_told(rt: HostRuntime) -> Result<(), Fail> {
+    let alloc = rt.alloc();
+    let mut err = MemSink::new(alloc, Vec::new(alloc));
+    assert_eq!(rt; lack_memory(&mut err), 8);
+    assert_eq!(rt; err.bytes(), b"plane: out of memory\n".as_slice());
     Ok(())
 }

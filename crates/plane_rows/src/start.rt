@@ -127,3 +127,18 @@ fn texts_that_are_no_package_are_told(rt: HostRuntime) -> Result<(), Fail> {
     }
     Ok(())
 }
+
+#[test]
+fn devices_have_a_limit(rt: HostRuntime) -> Result<(), Fail> {
+    let alloc = rt.alloc();
+    for (count, status, told) in [(4096, 0, ""), (4097, 2, USAGE)] {
+        let mut words = String::from_str(alloc, "start")?;
+        for i in 0..count {
+            words.push_str(format!(in alloc; " d{i}")?.as_str())?;
+        }
+        let ran = run(alloc, words.as_str(), LAN.as_bytes(), Failing::default())?;
+        assert_eq!(rt; ran.status, status, "{count}");
+        assert_eq!(rt; ran.err.bytes(), told.as_bytes(), "{count}");
+    }
+    Ok(())
+}

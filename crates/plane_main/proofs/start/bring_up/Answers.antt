@@ -33,7 +33,7 @@ returns-clause-cause g c =
       out = refl;
       out_faults = refl;
       devices = c.settle.ensures.devices;
-      later = c.settle.ensures.later;
+      later = c.settle.ensures.later.0;
       order = subst (AreCalls devices set.empty (wanted interfaces devices)) (sym c.deref.ensures.value) (c.in-Ok-wanted_calls.ensures devices c.in-Ok.ensures.present);
     })
     c.settle.result c.settle.ensures.cause
