@@ -78,7 +78,10 @@ fn a_failed_call_of_a_hub_keeps_its_events(rt: HostRuntime) -> Result<(), Fail> 
     let alloc = rt.alloc();
     let mut hub = hub(&rt, alloc, &[1, 3])?;
     assert_eq!(rt; hub.next().err(), Some(HubError::Failed));
-    assert_eq!(rt; told(alloc, &hub.next()?)?.as_slice(), b"+Aroot adm".as_slice());
+    assert_eq!(rt;
+        told(alloc, &hub.next()?)?.as_slice(),
+        b"+Aroot adm".as_slice()
+    );
     assert_eq!(rt; hub.send(65, b"x"), Err(Failed));
     assert!(rt; hub.sent().is_empty());
     assert_eq!(rt; told(alloc, &hub.next()?)?.as_slice(), b"".as_slice());

@@ -118,7 +118,12 @@ fn images_of_a_cut_and_a_write(rt: HostRuntime) -> Result<(), Fail> {
         assert_eq!(rt; disk.is_image(&image), may);
     }
     assert_eq!(rt; disk.sync(), Ok(()));
-    for (text, may) in [("abxy", true), ("abcdef", false), ("ab", false), ("abqy", false)] {
+    for (text, may) in [
+        ("abxy", true),
+        ("abcdef", false),
+        ("ab", false),
+        ("abqy", false),
+    ] {
         assert_eq!(rt; may_leave(alloc, &disk, text)?, may, "{text}");
     }
     Ok(())
@@ -176,7 +181,10 @@ fn a_fuse_blows(rt: HostRuntime) -> Result<(), Fail> {
         let mut disk = disk(&rt, alloc, &[], Some(passed))?;
         let mut into = [0u8; 4];
         assert!(rt; 1 < disk.count());
-        assert_eq!(rt; disk.read(1, 4, &mut into).ok(), if passed < 1 { None } else { Some(2) });
+        assert_eq!(rt;
+            disk.read(1, 4, &mut into).ok(),
+            if passed < 1 { None } else { Some(2) }
+        );
         assert_eq!(rt; write(&rt, &mut disk, 0, b"Q"), passed >= 2);
         assert_eq!(rt; cut(&rt, &mut disk, 1), passed >= 3);
         assert_eq!(rt; disk.sync(), Err(Failed));
