@@ -44,12 +44,11 @@ fn arguments(alloc: Global, words: Items<Text>) -> (Text, Text)
     ensures second { result.1 ≡ table.word_at words 2 }
 {
     let mut words = words.into_vec();
-    let second = if words.len() > 2 {
-        words.remove(2)
-    } else {
-        Text::from_vec(Vec::new(alloc))
+    let second = if words.len() > 2 { words.pop() } else { None };
+    let Some(first) = words.pop() else {
+        unreachable!()
     };
-    (words.remove(1), second)
+    (first, second.unwrap_or(Text::from_vec(Vec::new(alloc))))
 }
 
 fn section_name(name: Text) -> Option<Text>
