@@ -12,11 +12,13 @@ pub const MAC_RANK: u8 = 2;
 
 pub const MASTER_RANK: u8 = 3;
 
-pub const UP_RANK: u8 = 4;
+pub const VLAN_RANK: u8 = 4;
 
-pub const ADDRESS_RANK: u8 = 5;
+pub const UP_RANK: u8 = 5;
 
-pub const ROUTE_RANK: u8 = 6;
+pub const ADDRESS_RANK: u8 = 6;
+
+pub const ROUTE_RANK: u8 = 7;
 
 impl Object {
     // The rank of its kind.
@@ -28,6 +30,7 @@ impl Object {
             Object::Mtu { .. } => MTU_RANK,
             Object::Mac { .. } => MAC_RANK,
             Object::Master { .. } => MASTER_RANK,
+            Object::Vlan { .. } => VLAN_RANK,
             Object::Up { .. } => UP_RANK,
             Object::Address { .. } => ADDRESS_RANK,
             Object::Route(_) => ROUTE_RANK,
