@@ -5,3 +5,4 @@ pub mod Kept
 pub mod Counted
 pub mod Lower
 pub mod Due
+pub mod Between

@@ -172,7 +172,8 @@ fn has_vlan_of(objects: &[Object], bridge: &DevName, port: &DevName) -> bool
     objects.iter().any(|held| held.is_vlan_of(bridge, port))
 }
 
-fn is_among(objects: &[Object], object: &Object) -> bool
+/// Whether the object is among them.
+pub fn is_among(objects: &[Object], object: &Object) -> bool
     ensures { result ≡ is_among objects.now object.now }
 {
     objects.iter().any(|held| object.is(held))
@@ -257,13 +258,15 @@ pub(crate) fn find(devices: &[(DevName, Device)], name: &DevName) -> Option<Devi
     None
 }
 
-fn own_mtu(devices: &[(DevName, Device)], name: &DevName) -> u32
+/// The MTU of that name's own: that which a present device came with, else 1500 bytes.
+pub fn own_mtu(devices: &[(DevName, Device)], name: &DevName) -> u32
     ensures { result ≡ own_mtu (map_of devices.now) name.now }
 {
     find(devices, name).map_or(1500, |device| device.mtu)
 }
 
-fn own_mac(devices: &[(DevName, Device)], name: &DevName) -> Mac
+/// The hardware address of that name's own: that which a present device came with, else zeros.
+pub fn own_mac(devices: &[(DevName, Device)], name: &DevName) -> Mac
     ensures { result ≡ own_mac (map_of devices.now) name.now }
 {
     find(devices, name).map_or(Mac([0; 6]), |device| device.mac)

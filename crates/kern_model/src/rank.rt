@@ -39,8 +39,9 @@ impl Object {
 }
 
 impl Call {
-    // Takes come from above to below, and then puts from below to above.
-    pub(crate) fn rank(&self) -> u8
+    /// The place of its kind in the order of calls: takes come from above to below, and then puts from
+    /// below to above.
+    pub fn rank(&self) -> u8
         ensures { result ≡ rank self.now }
     {
         match self {
