@@ -166,7 +166,7 @@ module _ (devices : Devices) (held wanted : Objects) (from : AreAllowed devices 
         ])
 
     below_place : (o : Object) (place base : List ℕ) → Has held o → Contains (places_of o) place → IsOver held base place → IsBelow o base
-    below_place (object.Link name (Bridge mac)) place base had at over = absurd (none_in_nil place at)
+    below_place (object.Link name (Bridge mac filtering)) place base had at over = absurd (none_in_nil place at)
     below_place (object.Link name (Vlan lower id mac)) place base had at over = IsOver.above name lower id mac had (subst (IsOver held base) (sym (only_one lower place at)) over)
     below_place o place base had at over = tt
 

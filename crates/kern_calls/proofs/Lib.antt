@@ -4,3 +4,6 @@ pub mod KeptLemmas
 pub mod AlikeLemmas
 pub mod GoOnLemmas
 pub mod LowerLemmas
+pub mod DownLemmas
+pub mod DueLemmas
+pub mod BetweenLemmas

@@ -10,3 +10,4 @@ pub mod Counted
 pub mod Lower
 -- how much is left to do
 pub mod Due
+pub mod Between

@@ -1,8 +1,11 @@
 //! The calls between what a kernel holds and what is wanted: as a list, and their laws.
 #![tactic(auto)]
 
+mod between;
 mod laws;
+mod looked_up;
 
+pub use between::calls_between;
 pub use laws::{
     calls_are_the_calls, calls_go_on, falls_with_taken_links, fronts_are_admitted,
     levels_ground_vlans, lower_calls_are_calls, nothing_is_due, two_calls_at_most,

@@ -65,7 +65,7 @@ module _ (devices more : Devices) (objects : Objects) (allowed : AreAllowed devi
   exists_more n e = elim e as (λ _. Exists more objects n) [ inl present ↦ inl (still n present) | inr link ↦ inr link ]
 
   more_supported : (x : Object) → Has objects x → HasSupport more objects x
-  more_supported (object.Link n (Bridge mac)) h = no_link n (Bridge mac) h (allowed.supported (object.Link n (Bridge mac)) h)
+  more_supported (object.Link n (Bridge mac filtering)) h = no_link n (Bridge mac filtering) h (allowed.supported (object.Link n (Bridge mac filtering)) h)
   more_supported (object.Link n (Vlan lower id mac)) h =
       let support = allowed.supported (object.Link n (Vlan lower id mac)) h in
       let v = support.1 in
@@ -75,6 +75,7 @@ module _ (devices more : Devices) (objects : Objects) (allowed : AreAllowed devi
   more_supported (object.Master port bridge) h =
       let support = allowed.supported (object.Master port bridge) h in
       record { stands = exists_more port support.stands; plain = support.plain; made = support.made }
+  more_supported (object.Vlan bridge port id pvid untagged) h = allowed.supported (object.Vlan bridge port id pvid untagged) h
   more_supported (object.Up n) h = let support = allowed.supported (object.Up n) h in (exists_more n support.0, support.1)
   more_supported (object.Address dev cidr) h = allowed.supported (object.Address dev cidr) h
   more_supported (object.Route r) h = allowed.supported (object.Route r) h
@@ -95,7 +96,7 @@ module _ (devices : Devices) (objects : Objects) (allowed : AreAllowed devices o
   left x h none = has_retained objects (λ o. not (stands_on objects name o)) x h (of_not (stands_on objects name x) (λ stands. let found = from_any (is_over objects name) (places_of x) stands in none found.passing found.member found.passes))
 
   link_left : (n : List ℕ) (kind : LinkKind) → (is_over objects name n ≡ true → ⊥) → Has objects (object.Link n kind) → Has (gone objects name) (object.Link n kind)
-  link_left n (Bridge mac) apart h = left (object.Link n (Bridge mac)) h (λ place at over. none_in_nil place at)
+  link_left n (Bridge mac filtering) apart h = left (object.Link n (Bridge mac filtering)) h (λ place at over. none_in_nil place at)
   link_left n (Vlan lower id mac) apart h = left (object.Link n (Vlan lower id mac)) h (λ place at over. apart (over_on objects name lower n (subst (λ l. is_over objects name l ≡ true) (sym (only_one lower place at)) over) (over_lower objects n lower id mac h)))
 
   up_left : (n : List ℕ) → (is_over objects name n ≡ true → ⊥) → Has objects (object.Up n) → Has (gone objects name) (object.Up n)
@@ -113,7 +114,7 @@ module _ (devices : Devices) (objects : Objects) (allowed : AreAllowed devices o
       ]
 
   left_supported : (x : Object) → Has (gone objects name) x → HasSupport (map.remove devices name) (gone objects name) x
-  left_supported (object.Link n (Bridge mac)) h = still_absent devices name n (allowed.supported (object.Link n (Bridge mac)) (was_held (object.Link n (Bridge mac)) h))
+  left_supported (object.Link n (Bridge mac filtering)) h = still_absent devices name n (allowed.supported (object.Link n (Bridge mac filtering)) (was_held (object.Link n (Bridge mac filtering)) h))
   left_supported (object.Link n (Vlan lower id mac)) h =
       let x = object.Link n (Vlan lower id mac) in
       let support = allowed.supported (object.Link n (Vlan lower id mac)) (was_held x h) in
@@ -134,8 +135,19 @@ module _ (devices : Devices) (objects : Objects) (allowed : AreAllowed devices o
       let made = support.made in
       record {
         stands = place_left x port h (here port (bridge ∷ []));
-        plain = λ b. support.plain (b.0, was_held (object.Link port (Bridge b.0)) b.1);
-        made = (made.0, link_left bridge (Bridge made.0) (off x bridge h (there port (bridge ∷ []) bridge (here bridge []))) made.1);
+        plain = λ b. support.plain (record { mac = b.mac; filtering = b.filtering; held = was_held (object.Link port (Bridge b.mac b.filtering)) b.held });
+        made = record { mac = made.mac; filtering = made.filtering; held = link_left bridge (Bridge made.mac made.filtering) (off x bridge h (there port (bridge ∷ []) bridge (here bridge []))) made.held };
+      }
+  left_supported (object.Vlan bridge port id pvid untagged) h =
+      let x = object.Vlan bridge port id pvid untagged in
+      let support = allowed.supported (object.Vlan bridge port id pvid untagged) (was_held x h) in
+      let made = support.filtering in
+      record {
+        filtering = record { mac = made.mac; held = link_left bridge (Bridge made.mac true) (off x bridge h (there port (bridge ∷ []) bridge (here bridge []))) made.held };
+        joined = elim support.joined as (λ _. (port ≡ bridge) ⊎ Has (gone objects name) (object.Master port bridge)) [
+          | inl itself ↦ inl itself
+          | inr master ↦ inr (left (object.Master port bridge) master (λ place at over. off x place h at over))
+        ];
       }
   left_supported (object.Up n) h =
       let x = object.Up n in

@@ -1,6 +1,6 @@
 -- What the kernel admits leads from an allowed set to an allowed one.
 use Rattle.std.proofs.Common.{ℕ, ◌≡◌, ◌⊎◌, inl, inr, List, [], ◌∷◌, Option, true, Contains, refl, sym, subst, ◌∙◌}
-use Rattle.std.specs.Prelude.{not, bytes_eq, nat_eq}
+use Rattle.std.specs.Prelude.{◌&&◌, ◌||◌, not, bytes_eq, nat_eq}
 use Rattle.std.specs.FinSet as set
 use Rattle.std.proofs.lemmas.Bool.Decides.{Decides-eqb}
 use Rattle.kern_model.specs.declared.object.Mac.{Mac}
@@ -13,9 +13,9 @@ use Rattle.kern_model.specs.declared.object.Call.TheVariants.{Put, Take}
 use Rattle.kern_model.specs.ObjectOrder.{Objects, Has}
 use Rattle.kern_model.specs.Standing.{places_of, is_over, IsOver}
 use Rattle.kern_model.specs.Kernel.{Devices, is_present, Exists, replaces, after_call}
-use Rattle.kern_model.specs.Admission.{IsBridge, HasLowerUp, MayBeMade, AdmitsPut, AdmitsTake, Admits}
+use Rattle.kern_model.specs.Admission.{IsBridge, IsFiltering, HasLowerUp, MayBeMade, AdmitsPut, AdmitsTake, Admits}
 use Rattle.kern_model.specs.Allowed.{HasSupport, AreAllowed, exclude, are_one_vlan}
-use Rattle.kern_model.specs.Line.{HaveOneName}
+use Rattle.kern_model.specs.Line.{HaveOneVlan, HaveOneName}
 use Rattle.kern_model.specs.CallOrder.{AreAdmitted, after_calls}
 use Rattle.kern_model.proofs.MemberLemmas.{here, there, first_or_later, none_in_nil}
 use Rattle.kern_model.proofs.SetLemmas.{has_before, new_or_before, has_without, of_without, has_retained, of_retained}
@@ -41,6 +41,12 @@ exclude_back (object.Link n k) (object.Link m j) h = elim (either (bytes_eq n m)
 exclude_back (object.Mtu n m) (object.Mtu o k) h = same_name n o h
 exclude_back (object.Mac n m) (object.Mac o k) h = same_name n o h
 exclude_back (object.Master p b) (object.Master q c) h = same_name p q h
+exclude_back (object.Vlan b p i v u) (object.Vlan c q j w x) h =
+    let parts = both (bytes_eq p q) (nat_eq i j || (v && w)) h in
+    of_both (bytes_eq q p) (nat_eq j i || (w && v)) (same_name p q parts.0) (elim (either (nat_eq i j) (v && w) parts.1) as (λ _. (nat_eq j i || (w && v)) ≡ true) [
+      | inl id ↦ of_left (nat_eq j i) (w && v) ((Decides-eqb j i).1 (sym ((Decides-eqb i j).0 id)))
+      | inr pvids ↦ let two = both v w pvids in of_right (nat_eq j i) (w && v) (of_both w v two.1 two.0)
+    ])
 exclude_back a b h = cc h
 
 pub only_one : {X : Type 0} → (x y : X) → Contains (x ∷ []) y → x ≡ y
@@ -53,7 +59,7 @@ IsLinkName o name = (kind : LinkKind) × (o ≡ object.Link name kind)
 module _ (devices : Devices) (objects : Objects) (allowed : AreAllowed devices objects) where
   -- each place of a held object exists
   pub place_exists : (o : Object) (place : List ℕ) → Has objects o → Contains (places_of o) place → Exists devices objects place
-  place_exists (object.Link name (Bridge mac)) place h at = absurd (none_in_nil place at)
+  place_exists (object.Link name (Bridge mac filtering)) place h at = absurd (none_in_nil place at)
   place_exists (object.Link name (Vlan lower id mac)) place h at = subst (Exists devices objects) (only_one lower place at) (allowed.supported (object.Link name (Vlan lower id mac)) h).1.stands
   place_exists (object.Mtu name mtu) place h at = subst (Exists devices objects) (only_one name place at) (allowed.supported (object.Mtu name mtu) h)
   place_exists (object.Mac name mac) place h at = subst (Exists devices objects) (only_one name place at) (inl (allowed.supported (object.Mac name mac) h))
@@ -61,7 +67,17 @@ module _ (devices : Devices) (objects : Objects) (allowed : AreAllowed devices o
       let support = allowed.supported (object.Master port bridge) h in
       elim (first_or_later port (bridge ∷ []) place at) as (λ _. Exists devices objects place) [
         | inl same ↦ subst (Exists devices objects) same support.stands
-        | inr later ↦ subst (Exists devices objects) (only_one bridge place later) (inr (Bridge support.made.0, support.made.1))
+        | inr later ↦ subst (Exists devices objects) (only_one bridge place later) (inr (Bridge support.made.mac support.made.filtering, support.made.held))
+      ]
+  place_exists (object.Vlan bridge port id pvid untagged) place h at =
+      let support = allowed.supported (object.Vlan bridge port id pvid untagged) h in
+      let made : Exists devices objects bridge = inr (Bridge support.filtering.mac true, support.filtering.held) in
+      elim (first_or_later port (bridge ∷ []) place at) as (λ _. Exists devices objects place) [
+        | inl same ↦ subst (Exists devices objects) same (elim support.joined as (λ _. Exists devices objects port) [
+          | inl itself ↦ subst (Exists devices objects) (sym itself) made
+          | inr master ↦ (allowed.supported (object.Master port bridge) master).stands
+        ])
+        | inr later ↦ subst (Exists devices objects) (only_one bridge place later) made
       ]
   place_exists (object.Up name) place h at = subst (Exists devices objects) (only_one name place at) (allowed.supported (object.Up name) h).0
   place_exists (object.Address dev cidr) place h at = subst (Exists devices objects) (only_one dev place at) (allowed.supported (object.Up dev) (allowed.supported (object.Address dev cidr) h)).0
@@ -103,7 +119,13 @@ module _ (devices : Devices) (objects : Objects) (allowed : AreAllowed devices o
     ]
 
     bridge_still : (name : List ℕ) → IsBridge objects name → IsBridge after_put name
-    bridge_still name b = (b.0, lasts (object.Link name (Bridge b.0)) b.1 (λ r. r))
+    bridge_still name b = record { mac = b.mac; filtering = b.filtering; held = lasts (object.Link name (Bridge b.mac b.filtering)) b.held (λ r. r) }
+
+    filtering_still : (name : List ℕ) → IsFiltering objects name → IsFiltering after_put name
+    filtering_still name b = record { mac = b.mac; held = lasts (object.Link name (Bridge b.mac true)) b.held (λ r. r) }
+
+    joined_still : (port bridge : List ℕ) → (port ≡ bridge) ⊎ Has objects (object.Master port bridge) → (port ≡ bridge) ⊎ Has after_put (object.Master port bridge)
+    joined_still port bridge joined = elim joined as (λ _. (port ≡ bridge) ⊎ Has after_put (object.Master port bridge)) [ inl itself ↦ inl itself | inr master ↦ inr (lasts (object.Master port bridge) master (λ r. r)) ]
 
     -- the name of a new link did not exist
     new_name : (name : List ℕ) → IsLinkName o name → Exists devices objects name → ⊥
@@ -116,7 +138,7 @@ module _ (devices : Devices) (objects : Objects) (allowed : AreAllowed devices o
     ]
 
     plain_still : (name : List ℕ) → Exists devices objects name → (IsBridge objects name → ⊥) → IsBridge after_put name → ⊥
-    plain_still name e plain b = plain (b.0, link_was_held name (Bridge b.0) e b.1)
+    plain_still name e plain b = plain (record { mac = b.mac; filtering = b.filtering; held = link_was_held name (Bridge b.mac b.filtering) e b.held })
 
     lower_still : (name : List ℕ) → Exists devices objects name → HasLowerUp objects name → HasLowerUp after_put name
     lower_still name e lowers lower id mac h = lasts (object.Up lower) (lowers lower id mac (link_was_held name (Vlan lower id mac) e h)) (λ r. r)
@@ -137,7 +159,7 @@ module _ (devices : Devices) (objects : Objects) (allowed : AreAllowed devices o
 
     -- what was held has what it stands on
     old_supported : (x : Object) → Has objects x → HasSupport devices after_put x
-    old_supported (object.Link name (Bridge mac)) h = allowed.supported (object.Link name (Bridge mac)) h
+    old_supported (object.Link name (Bridge mac filtering)) h = allowed.supported (object.Link name (Bridge mac filtering)) h
     old_supported (object.Link name (Vlan lower id mac)) h =
         let support = allowed.supported (object.Link name (Vlan lower id mac)) h in
         let v = support.1 in (
@@ -154,13 +176,16 @@ module _ (devices : Devices) (objects : Objects) (allowed : AreAllowed devices o
     old_supported (object.Master port bridge) h =
         let support = allowed.supported (object.Master port bridge) h in
         record { stands = exists_still port support.stands; plain = plain_still port support.stands support.plain; made = bridge_still bridge support.made }
+    old_supported (object.Vlan bridge port id pvid untagged) h =
+        let support = allowed.supported (object.Vlan bridge port id pvid untagged) h in
+        record { filtering = filtering_still bridge support.filtering; joined = joined_still port bridge support.joined }
     old_supported (object.Up name) h = let support = allowed.supported (object.Up name) h in (exists_still name support.0, lower_still name support.0 support.1)
     old_supported (object.Address dev cidr) h = lasts (object.Up dev) (allowed.supported (object.Address dev cidr) h) (λ r. r)
     old_supported (object.Route r) h = lasts (object.Up r.dev) (allowed.supported (object.Route r) h) (λ x. x)
 
     -- what is put has what it stands on
     new_supported : (x : Object) → AdmitsPut devices objects x → o ≡ x → HasSupport devices after_put x
-    new_supported (object.Link name (Bridge mac)) admits is = false_of_not (is_present devices name) (λ present. admits.0 (inl present))
+    new_supported (object.Link name (Bridge mac filtering)) admits is = false_of_not (is_present devices name) (λ present. admits.0 (inl present))
     new_supported (object.Link name (Vlan lower id mac)) admits is =
         let v = admits.1 in (
           false_of_not (is_present devices name) (λ present. admits.0 (inl present)),
@@ -174,6 +199,7 @@ module _ (devices : Devices) (objects : Objects) (allowed : AreAllowed devices o
     new_supported (object.Mtu name mtu) admits is = exists_still name admits
     new_supported (object.Mac name mac) admits is = admits
     new_supported (object.Master port bridge) admits is = record { stands = exists_still port admits.stands; plain = plain_still port admits.stands admits.plain; made = bridge_still bridge admits.made }
+    new_supported (object.Vlan bridge port id pvid untagged) admits is = record { filtering = filtering_still bridge admits.filtering; joined = joined_still port bridge admits.joined }
     new_supported (object.Up name) admits is = (exists_still name admits.0, lower_still name admits.0 admits.1)
     new_supported (object.Address dev cidr) admits is = lasts (object.Up dev) admits (λ r. r)
     new_supported (object.Route r) admits is = lasts (object.Up r.dev) admits (λ x. x)
@@ -195,6 +221,13 @@ module _ (devices : Devices) (objects : Objects) (allowed : AreAllowed devices o
     excludes_none (object.Mtu n m) admits (object.Mtu l k) h kept excluded = kept excluded
     excludes_none (object.Mac n m) admits (object.Mac l k) h kept excluded = kept excluded
     excludes_none (object.Master p b) admits (object.Master q c) h kept excluded = admits.free c (subst (λ x. Has objects (object.Master x c)) (sym (bytes_same p q excluded)) h)
+    excludes_none (object.Vlan b p i v u) admits (object.Vlan c q j w x) h kept excluded =
+        let parts = both (bytes_eq p q) (nat_eq i j || (v && w)) excluded in
+        let at : Has objects (object.Vlan c p j w x) = subst (λ n. Has objects (object.Vlan c n j w x)) (sym (bytes_same p q parts.0)) h in
+        elim (either (nat_eq i j) (v && w) parts.1) as (λ _. ⊥) [
+          | inl id ↦ admits.free c w x (subst (λ n. Has objects (object.Vlan c p n w x)) (sym ((Decides-eqb i j).0 id)) at)
+          | inr pvids ↦ let two = both v w pvids in admits.alone two.0 c j x (subst (λ n. Has objects (object.Vlan c p j n x)) two.1 at)
+        ]
     excludes_none x admits y h kept excluded = cc excluded
 
     put_apart : (a b : Object) → Has after_put a → Has after_put b → exclude a b ≡ true → a ≡ b
@@ -237,7 +270,7 @@ module _ (devices : Devices) (objects : Objects) (allowed : AreAllowed devices o
     ]
 
     left_supported : (x : Object) → Has after_take x → HasSupport devices after_take x
-    left_supported (object.Link name (Bridge mac)) h = allowed.supported (object.Link name (Bridge mac)) (was_held (object.Link name (Bridge mac)) h)
+    left_supported (object.Link name (Bridge mac filtering)) h = allowed.supported (object.Link name (Bridge mac filtering)) (was_held (object.Link name (Bridge mac filtering)) h)
     left_supported (object.Link name (Vlan lower id mac)) h =
         let x = object.Link name (Vlan lower id mac) in
         let support = allowed.supported (object.Link name (Vlan lower id mac)) (was_held x h) in
@@ -258,8 +291,20 @@ module _ (devices : Devices) (objects : Objects) (allowed : AreAllowed devices o
         let made = support.made in
         record {
           stands = place_left x port h (here port (bridge ∷ []));
-          plain = λ b. support.plain (b.0, was_held (object.Link port (Bridge b.0)) b.1);
-          made = (made.0, link_left bridge (Bridge made.0) x made.1 h (there port (bridge ∷ []) bridge (here bridge [])));
+          plain = λ b. support.plain (record { mac = b.mac; filtering = b.filtering; held = was_held (object.Link port (Bridge b.mac b.filtering)) b.held });
+          made = record { mac = made.mac; filtering = made.filtering; held = link_left bridge (Bridge made.mac made.filtering) x made.held h (there port (bridge ∷ []) bridge (here bridge [])) };
+        }
+    left_supported (object.Vlan bridge port id pvid untagged) h =
+        let x = object.Vlan bridge port id pvid untagged in
+        let held = was_held x h in
+        let support = allowed.supported (object.Vlan bridge port id pvid untagged) held in
+        let made = support.filtering in
+        record {
+          filtering = record { mac = made.mac; held = link_left bridge (Bridge made.mac true) x made.held h (there port (bridge ∷ []) bridge (here bridge [])) };
+          joined = elim support.joined as (λ _. (port ≡ bridge) ⊎ Has after_take (object.Master port bridge)) [
+            | inl itself ↦ inl itself
+            | inr master ↦ inr (has_without objects o (object.Master port bridge) master (λ same. (subst (AdmitsTake objects) (sym same) may) id pvid untagged held))
+          ];
         }
     left_supported (object.Up name) h =
         let x = object.Up name in
@@ -300,10 +345,22 @@ excluded_by_name (object.Link n k) (object.Link m j) same = of_left (bytes_eq n 
 excluded_by_name (object.Mtu n i) (object.Mtu m j) same = same_bytes n m same
 excluded_by_name (object.Mac n i) (object.Mac m j) same = same_bytes n m same
 excluded_by_name (object.Master p b) (object.Master q c) same = same_bytes p q same
+excluded_by_name (object.Vlan b p i v u) (object.Vlan c q j w x) same =
+    of_both (bytes_eq p q) (nat_eq i j || (v && w)) (same_bytes p q same.0) (of_left (nat_eq i j) (v && w) ((Decides-eqb i j).1 same.1))
 excluded_by_name a b same = absurd same
+
+excluded_by_vlan : (a b : Object) → HaveOneVlan a b → exclude a b ≡ true
+excluded_by_vlan (object.Vlan b p i v u) (object.Vlan c q j w x) same = excluded_by_name (object.Vlan b p i v u) (object.Vlan c q j w x) same
+excluded_by_vlan a b same = absurd same
 
 pub one_of_take_line : (devices : Devices) (objects : Objects) (a b : Object) → AreAllowed devices objects → Has objects a → Has objects b → (a ≡ b) ⊎ HaveOneName a b → a ≡ b
 one_of_take_line devices objects a b allowed h g told = elim told as (λ _. a ≡ b) [
   | inl same ↦ same
   | inr named ↦ allowed.apart a b h g (excluded_by_name a b named)
+]
+
+pub one_of_put_line : (devices : Devices) (objects : Objects) (a b : Object) → AreAllowed devices objects → Has objects a → Has objects b → (a ≡ b) ⊎ HaveOneVlan a b → a ≡ b
+one_of_put_line devices objects a b allowed h g told = elim told as (λ _. a ≡ b) [
+  | inl same ↦ same
+  | inr one ↦ allowed.apart a b h g (excluded_by_vlan a b one)
 ]

@@ -1,7 +1,7 @@
 -- Between two allowed sets each call is admitted in its turn, and all of them lead from the one to
 -- the other.
 use Rattle.std.proofs.Common.{arith, ℕ, ◌≡◌, ◌≤◌, ◌-◌, ◌⊎◌, inl, inr, List, [], ◌∷◌, ◌++◌, Option, true, false, Bool, Contains, refl, ap, sym, subst}
-use Rattle.std.specs.Prelude.{not, nat_eq, bytes_eq, ⊤}
+use Rattle.std.specs.Prelude.{◌&&◌, ◌||◌, not, nat_eq, bytes_eq, ⊤}
 use Rattle.std.specs.declared.cmp.Ordering.TheVariants.{Less}
 use Rattle.std.specs.List.{AllByRecursion}
 use Rattle.std.specs.List.Sorted.{IsStrictlySortedBy}
@@ -27,7 +27,7 @@ use Rattle.kern_model.proofs.MemberLemmas.{all_members, member_of_all, here, the
 use Rattle.kern_model.proofs.SetLemmas.{same_or_other, has_itself, has_before, new_or_before, has_without, of_without, has_retained, of_retained, same_members}
 use Rattle.kern_model.proofs.TestLemmas.{both, of_both, of_left, of_right, not_true, of_not, true_or_not, bytes_same, same_bytes}
 use Rattle.kern_model.proofs.StandingLemmas.{over_itself, higher, height_within}
-use Rattle.kern_model.proofs.TouchLemmas.{IsReplaceable, replaceable, replaces_excludes, both_replace, touched_held, touched_wanted, replaced_by, taken_held, taken_touched, taken_not_replaced, taken_of, put_wanted, put_of, put_touched, taken_at_link, taken_address, taken_route, taken_upper}
+use Rattle.kern_model.proofs.TouchLemmas.{IsReplaceable, replaceable, replaces_excludes, both_replace, touched_held, touched_wanted, replaced_by, taken_held, taken_touched, taken_not_replaced, taken_of, put_wanted, put_of, put_touched, taken_at_link, taken_address, taken_route, taken_upper, taken_vlan}
 
 -- the take of an object, with the own values
 abbrev pub own_take : Devices → Object → Call
@@ -127,14 +127,14 @@ module _ (devices : Devices) (held wanted : Objects) (to : AreAllowed devices wa
   lower_place : (o x : Object) → AtPut o → Has wanted x → rank (Put o) ≡ rank (Put x) → (height_place held wanted (Put o) ≤ height_place held wanted (Put x) → ⊥) → Has now x
   lower_place o x at is level before = at.on.made x is (λ left. before (head_place held wanted (Put o) rest at.first (Put x) left level))
 
-  exists_now : (o : Object) (name : List ℕ) → AtPut o → (rank (Put o) ≤ 7 → ⊥) → Exists devices wanted name → Exists devices now name
+  exists_now : (o : Object) (name : List ℕ) → AtPut o → (rank (Put o) ≤ 8 → ⊥) → Exists devices wanted name → Exists devices now name
   exists_now o name at above e = elim e as (λ _. Exists devices now name) [
     | inl present ↦ inl present
     | inr link ↦ inr (link.0, earlier o (object.Link name link.0) at link.1 above)
   ]
 
   absent : (name : List ℕ) (kind : LinkKind) → IsHeldLink devices wanted name kind → is_present devices name ≡ false
-  absent name (Bridge mac) support = support
+  absent name (Bridge mac filtering) support = support
   absent name (Vlan lower id mac) support = support.0
 
   name_is_free : (name : List ℕ) (kind : LinkKind) → AtPut (object.Link name kind) → Exists devices now name → ⊥
@@ -146,7 +146,7 @@ module _ (devices : Devices) (held wanted : Objects) (to : AreAllowed devices wa
       ]
 
   link_may_be_made : (name : List ℕ) (kind : LinkKind) → AtPut (object.Link name kind) → MayBeMade devices now kind
-  link_may_be_made name (Bridge mac) at = tt
+  link_may_be_made name (Bridge mac filtering) at = tt
   link_may_be_made name (Vlan lower id mac) at =
       let new = object.Link name (Vlan lower id mac) in
       let support = (to.supported new (put_is_wanted new at)).1 in
@@ -178,9 +178,21 @@ module _ (devices : Devices) (held wanted : Objects) (to : AreAllowed devices wa
       let support = to.supported new (put_is_wanted new at) in
       record {
         stands = exists_now new port at (λ h. omega arith) support.stands;
-        plain = λ b. support.plain (b.0, (wanted_now new (object.Link port (Bridge b.0)) at (λ r. r) b.1).0);
-        made = (support.made.0, earlier new (object.Link bridge (Bridge support.made.0)) at support.made.1 (λ h. omega arith));
+        plain = λ b. support.plain (record { mac = b.mac; filtering = b.filtering; held = (wanted_now new (object.Link port (Bridge b.mac b.filtering)) at (λ r. r) b.held).0 });
+        made = record { mac = support.made.mac; filtering = support.made.filtering; held = earlier new (object.Link bridge (Bridge support.made.mac support.made.filtering)) at support.made.held (λ h. omega arith) };
         free = λ other h. not_now new (object.Master port other) at (λ r. r) (same_bytes port port refl) h;
+      }
+  put_admitted (object.Vlan bridge port id pvid untagged) at =
+      let new = object.Vlan bridge port id pvid untagged in
+      let support = to.supported new (put_is_wanted new at) in
+      record {
+        filtering = record { mac = support.filtering.mac; held = earlier new (object.Link bridge (Bridge support.filtering.mac true)) at support.filtering.held (λ h. omega arith) };
+        joined = elim support.joined as (λ _. (port ≡ bridge) ⊎ Has now (object.Master port bridge)) [
+          | inl itself ↦ inl itself
+          | inr master ↦ inr (earlier new (object.Master port bridge) at master (λ h. omega arith))
+        ];
+        free = λ other v u h. not_now new (object.Vlan other port id v u) at (λ r. r) (of_both (bytes_eq port port) (nat_eq id id || (pvid && v)) (same_bytes port port refl) (of_left (nat_eq id id) (pvid && v) ((Decides-eqb id id).1 refl))) h;
+        alone = λ is other i u h. not_now new (object.Vlan other port i true u) at (λ r. r) (of_both (bytes_eq port port) (nat_eq id i || (pvid && true)) (same_bytes port port refl) (of_right (nat_eq id i) (pvid && true) (of_both pvid true is refl))) h;
       }
   put_admitted (object.Up name) at =
       let support = to.supported (object.Up name) (put_is_wanted (object.Up name) at) in
@@ -331,7 +343,7 @@ module _ (devices : Devices) (held wanted : Objects) (from : AreAllowed devices 
       link = object.Link name kind
 
       at_link : (x : Object) → Has now x → Contains (places_of x) name → is_taken held wanted x ≡ true → ⊥
-      at_link (object.Link other (Bridge mac)) h place taken = none_in_nil name place
+      at_link (object.Link other (Bridge mac filtering)) h place taken = none_in_nil name place
       at_link (object.Link other (Vlan lower id mac)) h place taken =
           elim (first_or_later lower [] name place) as (λ _. ⊥) [
             | inl same ↦ not_below name other id mac (subst (λ l. Has held (object.Link other (Vlan l id mac))) same (at.on.kept (object.Link other (Vlan lower id mac)) h).0) (behind_place (object.Link name kind) (object.Link other (Vlan lower id mac)) at h taken refl)
@@ -348,6 +360,10 @@ module _ (devices : Devices) (held wanted : Objects) (from : AreAllowed devices 
 
   take_admitted : (o : Object) → AtTake o → AdmitsTake now o
   take_admitted (object.Link name kind) at = nothing_at_link name kind at
+  take_admitted (object.Master port bridge) at = λ id pvid untagged h.
+      let vlan = object.Vlan bridge port id pvid untagged in
+      let behind = behind_rank (object.Master port bridge) vlan at h (taken_vlan held wanted devices from to bridge port id pvid untagged (is_first_taken (object.Master port bridge) at) (at.on.kept vlan h).0) in
+      omega arith
   take_admitted (object.Up name) at = may_go_down name at
   take_admitted o at = tt
 

@@ -1,6 +1,6 @@
 -- Lines tell objects apart: their words do.
 use Rattle.std.proofs.Common.{arith, ℕ, ◌≡◌, ◌<◌, ◌^◌, ◌⊎◌, inl, inr, List, [], ◌∷◌, ◌++◌, length, codes, decimal, true, false, Bool, Option, Some, None, sym, ap, ◌∙◌, refl, append_assoc, append-nil, eqb-true, eq-eqb, get_or, cond}
-use Rattle.std.specs.Prelude.{◌==◌, if◌then◌else◌}
+use Rattle.std.specs.Prelude.{◌==◌, if◌then◌else◌, bytes_eq}
 use Rattle.std.specs.List.{AllByRecursion, join_with_byte}
 use Rattle.std.proofs.lemmas.Fmt.{decimal_injective}
 use Rattle.net_addr.specs.declared.address.Addr.{Addr}
@@ -14,7 +14,7 @@ use Rattle.kern_model.specs.declared.object.LinkKind.TheVariants.{Bridge, Vlan}
 use Rattle.kern_model.specs.declared.object.RouteObject.{RouteObject}
 use Rattle.kern_model.specs.declared.object.Object.{Object}
 use Rattle.kern_model.specs.declared.object.Object.TheVariants as object
-use Rattle.kern_model.specs.Line.{put_line, take_line, mac_text, gateway, IsOwnAddress, IsGateway, IsRoute, IsPrintable, IsBroughtUp, HaveOneName}
+use Rattle.kern_model.specs.Line.{put_line, take_line, mac_text, gateway, IsOwnAddress, IsGateway, IsRoute, IsPrintable, IsBroughtUp, HaveOneVlan, HaveOneName}
 use Rattle.kern_model.proofs.WordLemmas.{Plain, word, name, number, address, prefix, pairs, mac_one, spaced_one}
 
 pub printable_of : (o : Object) → IsBroughtUp o → IsPrintable o
@@ -23,6 +23,7 @@ printable_of (object.Address d c) p = p
 printable_of (object.Link n k) p = absurd p
 printable_of (object.Mtu n m) p = absurd p
 printable_of (object.Mac n m) p = absurd p
+printable_of (object.Vlan b q i v u) p = absurd p
 printable_of (object.Master q b) p = absurd p
 printable_of (object.Route r) p = absurd p
 
@@ -46,15 +47,30 @@ numbers b c metric table = number_words (codes "metric") b metric ++ number_word
 abbrev route_words : List ℕ → RouteObject → List (List ℕ)
 route_words verb r = codes "route" ∷ verb ∷ cidr_text r.target ∷ (via_words r.via ++ codes "dev" ∷ r.dev ∷ numbers (r.metric == 0) (r.table == 254) r.metric r.table)
 
+abbrev flag_words : List ℕ → Bool → List (List ℕ)
+flag_words word true = word ∷ []
+flag_words word false = []
+
+abbrev filtering_words : Bool → List (List ℕ)
+filtering_words true = codes "vlan_filtering" ∷ codes "1" ∷ codes "vlan_default_pvid" ∷ codes "0" ∷ []
+filtering_words false = []
+
+abbrev vlan_words : List ℕ → List ℕ → ℕ → List (List ℕ) → List (List ℕ)
+vlan_words verb port id marks = codes "bridge" ∷ codes "vlan" ∷ verb ∷ codes "dev" ∷ port ∷ codes "vid" ∷ decimal id ∷ marks
+
+abbrev mark_words : Bool → Bool → Bool → List (List ℕ)
+mark_words pvid untagged self = flag_words (codes "pvid") pvid ++ (flag_words (codes "untagged") untagged ++ flag_words (codes "self") self)
+
 abbrev set_words : List ℕ → List (List ℕ) → List (List ℕ)
 set_words n rest = codes "link" ∷ codes "set" ∷ codes "dev" ∷ n ∷ rest
 
 abbrev put_words : Object → List (List ℕ)
-put_words (object.Link n (Bridge mac)) = codes "link" ∷ codes "add" ∷ codes "name" ∷ n ∷ (own_words mac ++ codes "type" ∷ codes "bridge" ∷ [])
+put_words (object.Link n (Bridge mac filtering)) = codes "link" ∷ codes "add" ∷ codes "name" ∷ n ∷ (own_words mac ++ codes "type" ∷ codes "bridge" ∷ filtering_words filtering)
 put_words (object.Link n (Vlan l i mac)) = codes "link" ∷ codes "add" ∷ codes "link" ∷ l ∷ codes "name" ∷ n ∷ (own_words mac ++ codes "type" ∷ codes "vlan" ∷ codes "id" ∷ decimal i ∷ [])
 put_words (object.Mtu n mtu) = set_words n (codes "mtu" ∷ decimal mtu ∷ [])
 put_words (object.Mac n mac) = set_words n (codes "address" ∷ mac_text mac ∷ [])
 put_words (object.Master p b) = set_words p (codes "master" ∷ b ∷ [])
+put_words (object.Vlan b p i v u) = vlan_words (codes "add") p i (mark_words v u (bytes_eq p b))
 put_words (object.Up n) = set_words n (codes "up" ∷ [])
 put_words (object.Address d c) = codes "addr" ∷ codes "add" ∷ cidr_text c ∷ codes "dev" ∷ d ∷ []
 put_words (object.Route r) = route_words (codes "add") r
@@ -64,14 +80,29 @@ take_words (object.Link n k) mtu mac = codes "link" ∷ codes "del" ∷ codes "d
 take_words (object.Mtu n m) mtu mac = set_words n (codes "mtu" ∷ decimal mtu ∷ [])
 take_words (object.Mac n m) mtu mac = set_words n (codes "address" ∷ mac_text mac ∷ [])
 take_words (object.Master p b) mtu mac = set_words p (codes "nomaster" ∷ [])
+take_words (object.Vlan b p i v u) mtu mac = vlan_words (codes "del") p i (flag_words (codes "self") (bytes_eq p b))
 take_words (object.Up n) mtu mac = set_words n (codes "down" ∷ [])
 take_words (object.Address d c) mtu mac = codes "addr" ∷ codes "del" ∷ cidr_text c ∷ codes "dev" ∷ d ∷ []
 take_words (object.Route r) mtu mac = route_words (codes "del") r
+
+-- names brought up and addresses are no VLANs of bridges
+pub no_vlan_of_bridge : (a b : Object) → IsBroughtUp a → HaveOneVlan a b → ⊥
+no_vlan_of_bridge (object.Vlan b p i v u) o up one = up
+no_vlan_of_bridge a o up one = one
 
 -- ---- a line is its words with a space between
 
 regrouped : (a b c d e f g : List ℕ) → a ++ b ++ c ++ d ++ e ++ f ++ g ≡ a ++ (b ++ (c ++ (d ++ (e ++ (f ++ g)))))
 regrouped a b c d e f g = simp append_assoc
+
+regrouped_four : (a b c d : List ℕ) → a ++ b ++ c ++ d ≡ a ++ (b ++ (c ++ d))
+regrouped_four a b c d = simp append_assoc
+
+regrouped_six : (a b c d e f : List ℕ) → a ++ b ++ c ++ d ++ e ++ f ≡ a ++ (b ++ (c ++ (d ++ (e ++ f))))
+regrouped_six a b c d e f = simp append_assoc
+
+regrouped_few : (a b c d e : List ℕ) → a ++ b ++ c ++ d ++ e ≡ a ++ (b ++ (c ++ (d ++ e)))
+regrouped_few a b c d e = simp append_assoc
 
 regrouped_more : (a b c d e f g h : List ℕ) → a ++ b ++ c ++ d ++ e ++ f ++ g ++ h ≡ a ++ (b ++ (c ++ (d ++ (e ++ (f ++ (g ++ h))))))
 regrouped_more a b c d e f g h = simp append_assoc
@@ -91,14 +122,35 @@ route_spaced verb target dev (Some via) true false m t = regrouped_all (codes "r
 route_spaced verb target dev (Some via) false true m t = append-nil _ ∙ regrouped_more (codes "route ") verb (codes " ") target (gateway (Some via)) (codes " dev ") dev (codes " metric " ++ decimal m)
 route_spaced verb target dev (Some via) false false m t = regrouped_all (codes "route ") verb (codes " ") target (gateway (Some via)) (codes " dev ") dev (codes " metric " ++ decimal m) (codes " table " ++ decimal t)
 
+vlan_put_spaced : (p : List ℕ) (i : ℕ) (v u s : Bool) →
+    codes "bridge vlan add dev " ++ p ++ codes " vid " ++ decimal i ++ (if v then codes " pvid" else []) ++ (if u then codes " untagged" else []) ++ (if s then codes " self" else [])
+    ≡ join_with_byte 32 (vlan_words (codes "add") p i (mark_words v u s))
+vlan_put_spaced p i true true true = regrouped (codes "bridge vlan add dev ") p (codes " vid ") (decimal i) (codes " pvid") (codes " untagged") (codes " self")
+vlan_put_spaced p i true true false = append-nil _ ∙ regrouped_six (codes "bridge vlan add dev ") p (codes " vid ") (decimal i) (codes " pvid") (codes " untagged")
+vlan_put_spaced p i true false true = regrouped (codes "bridge vlan add dev ") p (codes " vid ") (decimal i) (codes " pvid") [] (codes " self")
+vlan_put_spaced p i true false false = append-nil _ ∙ append-nil _ ∙ regrouped_few (codes "bridge vlan add dev ") p (codes " vid ") (decimal i) (codes " pvid")
+vlan_put_spaced p i false true true = regrouped (codes "bridge vlan add dev ") p (codes " vid ") (decimal i) [] (codes " untagged") (codes " self")
+vlan_put_spaced p i false true false = append-nil _ ∙ regrouped_six (codes "bridge vlan add dev ") p (codes " vid ") (decimal i) [] (codes " untagged")
+vlan_put_spaced p i false false true = regrouped (codes "bridge vlan add dev ") p (codes " vid ") (decimal i) [] [] (codes " self")
+vlan_put_spaced p i false false false = append-nil _ ∙ append-nil _ ∙ append-nil _ ∙ regrouped_four (codes "bridge vlan add dev ") p (codes " vid ") (decimal i)
+
+vlan_take_spaced : (p : List ℕ) (i : ℕ) (s : Bool) →
+    codes "bridge vlan del dev " ++ p ++ codes " vid " ++ decimal i ++ (if s then codes " self" else [])
+    ≡ join_with_byte 32 (vlan_words (codes "del") p i (flag_words (codes "self") s))
+vlan_take_spaced p i true = regrouped_few (codes "bridge vlan del dev ") p (codes " vid ") (decimal i) (codes " self")
+vlan_take_spaced p i false = append-nil _ ∙ regrouped_four (codes "bridge vlan del dev ") p (codes " vid ") (decimal i)
+
 put_spaced : (o : Object) → put_line o ≡ join_with_byte 32 (put_words o)
-put_spaced (object.Link n (Bridge None)) = simp append_assoc
-put_spaced (object.Link n (Bridge (Some mac))) = simp append_assoc
+put_spaced (object.Link n (Bridge None true)) = regrouped_few (codes "link add name ") n [] (codes " type bridge") (codes " vlan_filtering 1 vlan_default_pvid 0")
+put_spaced (object.Link n (Bridge None false)) = append-nil _ ∙ regrouped_four (codes "link add name ") n [] (codes " type bridge")
+put_spaced (object.Link n (Bridge (Some mac) true)) = regrouped_few (codes "link add name ") n (codes " address " ++ mac_text mac) (codes " type bridge") (codes " vlan_filtering 1 vlan_default_pvid 0")
+put_spaced (object.Link n (Bridge (Some mac) false)) = append-nil _ ∙ regrouped_four (codes "link add name ") n (codes " address " ++ mac_text mac) (codes " type bridge")
 put_spaced (object.Link n (Vlan l i None)) = simp append_assoc
 put_spaced (object.Link n (Vlan l i (Some mac))) = regrouped (codes "link add link ") l (codes " name ") n (codes " address " ++ mac_text mac) (codes " type vlan id ") (decimal i)
 put_spaced (object.Mtu n mtu) = simp append_assoc
 put_spaced (object.Mac n mac) = simp append_assoc
 put_spaced (object.Master p b) = simp append_assoc
+put_spaced (object.Vlan b p i v u) = vlan_put_spaced p i v u (bytes_eq p b)
 put_spaced (object.Up n) = simp append_assoc
 put_spaced (object.Address d c) = simp append_assoc
 put_spaced (object.Route r) = route_spaced (codes "add") (cidr_text r.target) r.dev r.via (r.metric == 0) (r.table == 254) r.metric r.table
@@ -108,6 +160,7 @@ take_spaced (object.Link n k) mtu mac = refl
 take_spaced (object.Mtu n m) mtu mac = simp append_assoc
 take_spaced (object.Mac n m) mtu mac = simp append_assoc
 take_spaced (object.Master p b) mtu mac = simp append_assoc
+take_spaced (object.Vlan b p i v u) mtu mac = vlan_take_spaced p i (bytes_eq p b)
 take_spaced (object.Up n) mtu mac = simp append_assoc
 take_spaced (object.Address d c) mtu mac = simp append_assoc
 take_spaced (object.Route r) mtu mac = route_spaced (codes "del") (cidr_text r.target) r.dev r.via (r.metric == 0) (r.table == 254) r.metric r.table
@@ -131,32 +184,51 @@ numbers_plain false false m t p q = (word refl, (number m p, (word refl, (number
 route_plain : (verb : List ℕ) (r : RouteObject) → Plain verb → IsRoute r → AllByRecursion Plain (route_words verb r)
 route_plain verb r v p = (word refl, (v, (prefix r.target p.target, via_plain r.via (codes "dev" ∷ r.dev ∷ numbers (r.metric == 0) (r.table == 254) r.metric r.table) p.via (word refl, (name r.dev p.named, numbers_plain (r.metric == 0) (r.table == 254) r.metric r.table p.metric p.table)))))
 
+filtering_plain : (b : Bool) → AllByRecursion Plain (filtering_words b)
+filtering_plain true = (word refl, (word refl, (word refl, (word refl, tt))))
+filtering_plain false = tt
+
+self_plain : (s : Bool) → AllByRecursion Plain (flag_words (codes "self") s)
+self_plain true = (word refl, tt)
+self_plain false = tt
+
+untagged_plain : (u s : Bool) → AllByRecursion Plain (flag_words (codes "untagged") u ++ flag_words (codes "self") s)
+untagged_plain true s = (word refl, self_plain s)
+untagged_plain false s = self_plain s
+
+marks_plain : (v u s : Bool) → AllByRecursion Plain (mark_words v u s)
+marks_plain true u s = (word refl, untagged_plain u s)
+marks_plain false u s = untagged_plain u s
+
 put_plain : (o : Object) → IsPrintable o → AllByRecursion Plain (put_words o)
-put_plain (object.Link n (Bridge mac)) p = (word refl, (word refl, (word refl, (name n p.0, own_plain mac (codes "type" ∷ codes "bridge" ∷ []) (word refl, (word refl, tt))))))
+put_plain (object.Link n (Bridge mac filtering)) p = (word refl, (word refl, (word refl, (name n p.0, own_plain mac (codes "type" ∷ codes "bridge" ∷ filtering_words filtering) (word refl, (word refl, filtering_plain filtering))))))
 put_plain (object.Link n (Vlan l i mac)) p = (word refl, (word refl, (word refl, (name l p.1, (word refl, (name n p.0, own_plain mac (codes "type" ∷ codes "vlan" ∷ codes "id" ∷ decimal i ∷ []) (word refl, (word refl, (word refl, (number i (let small = p.2 in omega arith), tt))))))))))
 put_plain (object.Mtu n mtu) p = (word refl, (word refl, (word refl, (name n p.0, (word refl, (number mtu p.1, tt))))))
 put_plain (object.Mac n mac) p = (word refl, (word refl, (word refl, (name n p.0, (word refl, (pairs mac.0, tt))))))
 put_plain (object.Master q b) p = (word refl, (word refl, (word refl, (name q p.0, (word refl, (name b p.1, tt))))))
+put_plain (object.Vlan b q i v u) p = (word refl, (word refl, (word refl, (word refl, (name q p.1, (word refl, (number i (let small = p.2 in omega arith), marks_plain v u (bytes_eq q b))))))))
 put_plain (object.Up n) p = (word refl, (word refl, (word refl, (name n p, (word refl, tt)))))
 put_plain (object.Address d c) p = (word refl, (word refl, (prefix c p.1, (word refl, (name d p.0, tt)))))
 put_plain (object.Route r) p = route_plain (codes "add") r (word refl) p
 
 take_plain : (o : Object) (mtu : ℕ) (mac : Mac) → IsPrintable o → mtu < 2 ^ 32 → AllByRecursion Plain (take_words o mtu mac)
-take_plain (object.Link n (Bridge m)) mtu mac p fits = (word refl, (word refl, (word refl, (name n p.0, tt))))
+take_plain (object.Link n (Bridge m f)) mtu mac p fits = (word refl, (word refl, (word refl, (name n p.0, tt))))
 take_plain (object.Link n (Vlan l i m)) mtu mac p fits = (word refl, (word refl, (word refl, (name n p.0, tt))))
 take_plain (object.Mtu n m) mtu mac p fits = (word refl, (word refl, (word refl, (name n p.0, (word refl, (number mtu fits, tt))))))
 take_plain (object.Mac n m) mtu mac p fits = (word refl, (word refl, (word refl, (name n p.0, (word refl, (pairs mac.0, tt))))))
 take_plain (object.Master q b) mtu mac p fits = (word refl, (word refl, (word refl, (name q p.0, (word refl, tt)))))
+take_plain (object.Vlan b q i v u) mtu mac p fits = (word refl, (word refl, (word refl, (word refl, (name q p.1, (word refl, (number i (let small = p.2 in omega arith), self_plain (bytes_eq q b))))))))
 take_plain (object.Up n) mtu mac p fits = (word refl, (word refl, (word refl, (name n p, (word refl, tt)))))
 take_plain (object.Address d c) mtu mac p fits = (word refl, (word refl, (prefix c p.1, (word refl, (name d p.0, tt)))))
 take_plain (object.Route r) mtu mac p fits = route_plain (codes "del") r (word refl) p
 
 some_put_words : (o : Object) → 0 < length (put_words o)
-some_put_words (object.Link n (Bridge mac)) = omega arith
+some_put_words (object.Link n (Bridge mac filtering)) = omega arith
 some_put_words (object.Link n (Vlan l i mac)) = omega arith
 some_put_words (object.Mtu n mtu) = omega arith
 some_put_words (object.Mac n mac) = omega arith
 some_put_words (object.Master q b) = omega arith
+some_put_words (object.Vlan b p i v u) = omega arith
 some_put_words (object.Up n) = omega arith
 some_put_words (object.Address d c) = omega arith
 some_put_words (object.Route r) = omega arith
@@ -166,6 +238,7 @@ some_take_words (object.Link n k) mtu mac = omega arith
 some_take_words (object.Mtu n m) mtu mac = omega arith
 some_take_words (object.Mac n m) mtu mac = omega arith
 some_take_words (object.Master q b) mtu mac = omega arith
+some_take_words (object.Vlan b p i v u) mtu mac = omega arith
 some_take_words (object.Up n) mtu mac = omega arith
 some_take_words (object.Address d c) mtu mac = omega arith
 some_take_words (object.Route r) mtu mac = omega arith
@@ -251,18 +324,28 @@ route_one verb a b p q h =
 -- the kind of the object, as words of its line tell
 abbrev kind_of_put : List (List ℕ) → ℕ
 kind_of_put words =
+    cond (byte 0 0 words == 98) 9 (
     cond (byte 0 0 words == 97) 1 (
     cond (byte 0 0 words == 114) 2 (
     cond (byte 1 0 words == 97) (cond (byte 2 0 words == 110) 3 4) (cond (byte 4 1 words == 116) 5 (cond (byte 4 1 words == 100) 6 (cond (byte 4 1 words == 97) 7 8)))
     )
     )
+    )
 
-put_one : (a b : Object) → IsPrintable a → IsPrintable b → put_words a ≡ put_words b → a ≡ b
-put_one (object.Link n (Bridge v)) (object.Link m (Bridge w)) p q h =
-    let own = own_one v w (codes "bridge" ∷ []) (codes "bridge" ∷ []) p.1 q.1 (cc h) in
+filtering_one : (f g : Bool) → filtering_words f ≡ filtering_words g → f ≡ g
+filtering_one true true h = refl
+filtering_one false false h = refl
+filtering_one true false h = cc h
+filtering_one false true h = cc h
+
+put_one : (a b : Object) → IsPrintable a → IsPrintable b → put_words a ≡ put_words b → (a ≡ b) ⊎ HaveOneVlan a b
+put_one (object.Link n (Bridge v f)) (object.Link m (Bridge w g)) p q h =
+    let own = own_one v w (codes "bridge" ∷ filtering_words f) (codes "bridge" ∷ filtering_words g) p.1 q.1 (cc h) in
     let macs = own.0 in
+    let rest = own.1 in
+    let filters = filtering_one f g (cc rest) in
     let names : n ≡ m = cc h in
-    λ i. object.Link (names i) (Bridge (macs i))
+    inl (λ i. object.Link (names i) (Bridge (macs i) (filters i)))
 put_one (object.Link n (Vlan l i v)) (object.Link m (Vlan k j w)) p q h =
     let small = p.2 in
     let small_too = q.2 in
@@ -272,25 +355,31 @@ put_one (object.Link n (Vlan l i v)) (object.Link m (Vlan k j w)) p q h =
     let ids = decimal_injective i j (omega arith) (omega arith) (cc rest) in
     let names : n ≡ m = cc h in
     let lowers : l ≡ k = cc h in
-    λ t. object.Link (names t) (Vlan (lowers t) (ids t) (macs t))
+    inl (λ t. object.Link (names t) (Vlan (lowers t) (ids t) (macs t)))
 put_one (object.Mtu n i) (object.Mtu m j) p q h =
     let small = p.1 in
     let small_too = q.1 in
-    let mtus = decimal_injective i j (omega arith) (omega arith) (cc h) in cc (h, mtus)
-put_one (object.Mac n x) (object.Mac m y) p q h = let macs = mac_one x y p.1 q.1 (cc h) in cc (h, macs)
-put_one (object.Master p b) (object.Master q c) r s h = cc h
-put_one (object.Up n) (object.Up m) p q h = cc h
-put_one (object.Address d a) (object.Address e b) p q h = let cidrs = cidr_text_injective a b p.1 q.1 (cc h) in cc (h, cidrs)
-put_one (object.Route a) (object.Route b) p q h = ap object.Route (route_one (codes "add") a b p q h)
-put_one a (object.Link m (Bridge w)) p q h = absurd (different (kind_of_put (put_words a)) 3 (ap kind_of_put h) refl)
+    let mtus = decimal_injective i j (omega arith) (omega arith) (cc h) in inl (cc (h, mtus))
+put_one (object.Mac n x) (object.Mac m y) p q h = let macs = mac_one x y p.1 q.1 (cc h) in inl (cc (h, macs))
+put_one (object.Master p b) (object.Master q c) r s h = inl (cc h)
+put_one (object.Vlan b p i v u) (object.Vlan c q j w x) r s h =
+    let small = r.2 in
+    let small_too = s.2 in
+    inr (cc h, decimal_injective i j (omega arith) (omega arith) (cc h))
+put_one (object.Up n) (object.Up m) p q h = inl (cc h)
+put_one (object.Address d a) (object.Address e b) p q h = let cidrs = cidr_text_injective a b p.1 q.1 (cc h) in inl (cc (h, cidrs))
+put_one (object.Route a) (object.Route b) p q h = inl (ap object.Route (route_one (codes "add") a b p q h))
+put_one a (object.Link m (Bridge w g)) p q h = absurd (different (kind_of_put (put_words a)) 3 (ap kind_of_put h) refl)
 put_one a (object.Link m (Vlan k j w)) p q h = absurd (different (kind_of_put (put_words a)) 4 (ap kind_of_put h) refl)
 put_one a b p q h = absurd (different (kind_of_put (put_words a)) (kind_of_put (put_words b)) (ap kind_of_put h) refl)
 
 abbrev kind_of_take : List (List ℕ) → ℕ
 kind_of_take words =
+    cond (byte 0 0 words == 98) 9 (
     cond (byte 0 0 words == 97) 1 (
     cond (byte 0 0 words == 114) 2 (
     cond (byte 1 0 words == 100) 3 (cond (byte 4 0 words == 109) 4 (cond (byte 4 0 words == 97) 5 (cond (byte 4 0 words == 110) 6 7)))
+    )
     )
     )
 
@@ -299,12 +388,16 @@ take_one (object.Link n k) (object.Link m l) i j x y p q h = inr (cc h)
 take_one (object.Mtu n k) (object.Mtu m l) i j x y p q h = inr (cc h)
 take_one (object.Mac n k) (object.Mac m l) i j x y p q h = inr (cc h)
 take_one (object.Master n k) (object.Master m l) i j x y p q h = inr (cc h)
+take_one (object.Vlan b r k v u) (object.Vlan c s l w t) i j x y p q h =
+    let small = p.2 in
+    let small_too = q.2 in
+    inr (cc h, decimal_injective k l (omega arith) (omega arith) (cc h))
 take_one (object.Up n) (object.Up m) i j x y p q h = inl (cc h)
 take_one (object.Address d a) (object.Address e b) i j x y p q h = let cidrs = cidr_text_injective a b p.1 q.1 (cc h) in inl (cc (h, cidrs))
 take_one (object.Route a) (object.Route b) i j x y p q h = inl (ap object.Route (route_one (codes "del") a b p q h))
 take_one a b i j x y p q h = absurd (different (kind_of_take (take_words a i x)) (kind_of_take (take_words b j y)) (ap kind_of_take h) refl)
 
-pub object_of_line : (a b : Object) → IsPrintable a → IsPrintable b → put_line a ≡ put_line b → a ≡ b
+pub object_of_line : (a b : Object) → IsPrintable a → IsPrintable b → put_line a ≡ put_line b → (a ≡ b) ⊎ HaveOneVlan a b
 object_of_line a b p q h =
     put_one a b p q (spaced_one (put_words a) (put_words b) (some_put_words a) (some_put_words b) (put_plain a p) (put_plain b q) (sym (put_spaced a) ∙ h ∙ put_spaced b))
 

@@ -1,5 +1,5 @@
 -- The orders of objects and of calls are total, and tell them apart.
-use Rattle.std.specs.Prelude.{ℕ, List, [], ◌∷◌, ◌++◌, ◌≡◌, ◌<◌, ◌≤◌, ◌⊎◌, length, Option, Some, None, refl}
+use Rattle.std.specs.Prelude.{ℕ, List, [], ◌∷◌, ◌++◌, ◌≡◌, ◌<◌, ◌≤◌, ◌⊎◌, length, Option, Some, None, Bool, true, false, refl}
 use Rattle.std.proofs.Common.{arith, inl, inr, ap, ap₂, sym, subst, ◌∙◌, take, drop}
 use Rattle.std.proofs.lemmas.List.{take_at, drop_at}
 use Rattle.std.proofs.lemmas.Cmp.{on_total, then_total}
@@ -20,7 +20,7 @@ use Rattle.kern_model.specs.declared.object.Object.{Object}
 use Rattle.kern_model.specs.declared.object.Object.TheVariants as object
 use Rattle.kern_model.specs.declared.object.Call.{Call}
 use Rattle.kern_model.specs.declared.object.Call.TheVariants.{Put, Take}
-use Rattle.kern_model.specs.ObjectOrder.{sized, addr_key, cidr_key, via_key, mac_key, kind_key, object_key, call_key, object_cmp, Objects}
+use Rattle.kern_model.specs.ObjectOrder.{sized, addr_key, cidr_key, via_key, mac_key, bool_key, kind_key, object_key, call_key, object_cmp, Objects}
 use Rattle.plane_words.specs.InOrder.{TellsApart}
 use Rattle.kern_model.specs.Line.{line_of}
 use Rattle.kern_model.specs.CallOrder.{rank, height_place, call_cmp}
@@ -55,10 +55,16 @@ mac_of_key None (Some b) e = cc e
 mac_of_key (Some a) None e = cc e
 mac_of_key (Some a) (Some b) e = let p = sized_parts a.0 b.0 [] [] (cc e) in ap (λ (xs : List ℕ). Some (record { 0 = xs })) p.0
 
+bool_of_key : (a b : Bool) → bool_key a ≡ bool_key b → a ≡ b
+bool_of_key true true e = refl
+bool_of_key false false e = refl
+bool_of_key true false e = absurd (omega arith)
+bool_of_key false true e = absurd (omega arith)
+
 kind_of_key : (a b : LinkKind) → kind_key a ≡ kind_key b → a ≡ b
-kind_of_key (Bridge m) (Bridge n) e = ap Bridge (mac_of_key m n (cc e))
-kind_of_key (Bridge m) (Vlan l i n) e = cc e
-kind_of_key (Vlan l i m) (Bridge n) e = cc e
+kind_of_key (Bridge m f) (Bridge n g) e = let macs = mac_of_key m n (cc e) in let filters = bool_of_key f g (cc e) in cc (macs, filters)
+kind_of_key (Bridge m f) (Vlan l i n) e = cc e
+kind_of_key (Vlan l i m) (Bridge n f) e = cc e
 kind_of_key (Vlan l i m) (Vlan k j n) e =
     let p = sized_parts l k (i ∷ mac_key m) (j ∷ mac_key n) (cc e) in
     let number : i ≡ j = cc p.1 in
@@ -79,6 +85,15 @@ master_of_key p q b c e =
     let x = sized_parts p q (sized b []) (sized c []) e in
     let y = sized_parts b c [] [] x.1 in
     cc (x.0, y.0)
+
+vlan_of_key : (b p c q : List ℕ) (i j : ℕ) (v u w x : Bool) → object_key (object.Vlan b p i v u) ≡ object_key (object.Vlan c q j w x) → object.Vlan b p i v u ≡ object.Vlan c q j w x
+vlan_of_key b p c q i j v u w x e =
+    let id : i ≡ j = cc e in
+    let pvid = bool_of_key v w (cc e) in
+    let untagged = bool_of_key u x (cc e) in
+    let ports = sized_parts p q (sized b []) (sized c []) (cc e) in
+    let bridges = sized_parts b c [] [] ports.1 in
+    cc (id, pvid, untagged, ports.0, bridges.0)
 
 address_of_key : (d e : List ℕ) (a b : Addr × ℕ) → cidr_key a (sized d []) ≡ cidr_key b (sized e []) → object.Address d a ≡ object.Address e b
 address_of_key d e a b h =
@@ -101,6 +116,7 @@ object_of_key (object.Link n k) (object.Link m l) h = link_of_key n m k l (cc h)
 object_of_key (object.Mtu n i) (object.Mtu m j) h = let p = sized_parts n m [] [] (cc h) in let q : i ≡ j = cc h in cc (p.0, q)
 object_of_key (object.Mac n a) (object.Mac m b) h = mac_object_of_key n m a b (cc h)
 object_of_key (object.Master p b) (object.Master q c) h = master_of_key p q b c (cc h)
+object_of_key (object.Vlan b p i v u) (object.Vlan c q j w x) h = vlan_of_key b p c q i j v u w x h
 object_of_key (object.Up n) (object.Up m) h = ap object.Up (sized_parts n m [] [] (cc h)).0
 object_of_key (object.Address d a) (object.Address e b) h = address_of_key d e a b (cc h)
 object_of_key (object.Route a) (object.Route b) h = route_of_key a b h

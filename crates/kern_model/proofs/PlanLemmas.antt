@@ -24,7 +24,7 @@ use Rattle.kern_model.specs.Touched.{is_call}
 use Rattle.kern_model.specs.Line.{IsBroughtUp, put_line}
 use Rattle.kern_model.specs.Place.{place_of, place_cmp}
 use Rattle.kern_model.specs.CallOrder.{call_cmp, AreCalls, height_of, rank}
-use Rattle.kern_model.proofs.LineLemmas.{printable_of, object_of_line}
+use Rattle.kern_model.proofs.LineLemmas.{printable_of, object_of_line, no_vlan_of_bridge}
 use Rattle.kern_model.proofs.MemberLemmas.{all_members, member_of_all, map_member, member_of_map, ComesFrom}
 use Rattle.kern_model.proofs.SetLemmas.{set_of_member, member_of_set, none_in_empty}
 use Rattle.kern_model.proofs.TouchLemmas.{touched_wanted, put_wanted, put_of}
@@ -64,7 +64,10 @@ holds_more old new objects place o is printable updates holds = record {
     kept : (x : Object) → Contains objects x → (b : Bool) → is_at (place_cmp place) (place_of x) ≡ b → cond b (Some o) (old (place_of x)) ≡ Some x
     kept x member true tie =
         let places : place_of o ≡ place_of x = sym is ∙ at_place place (place_of x) tie in
-        ap Some (object_of_line o x (printable_of o printable) (printable_of x (holds.sound (place_of x) x (holds.complete x member)).1) (ap (λ p. p.line) places))
+        elim (object_of_line o x (printable_of o printable) (printable_of x (holds.sound (place_of x) x (holds.complete x member)).1) (ap (λ p. p.line) places)) as (λ _. Some o ≡ Some x) [
+          | inl same ↦ ap Some same
+          | inr one ↦ absurd (no_vlan_of_bridge o x printable one)
+        ]
     kept x member false apart = holds.complete x member
 
     here_itself : (x : Object) → o ≡ x → is_at (place_cmp place) (place_of x) ≡ true

@@ -1,5 +1,5 @@
 -- Which objects are touched, taken and replaced between a held and a wanted set that are allowed.
-use Rattle.std.proofs.Common.{ℕ, ◌≡◌, ◌⊎◌, inl, inr, List, Option, true, false, Contains, sym, subst, ◌∙◌}
+use Rattle.std.proofs.Common.{ℕ, ◌≡◌, ◌⊎◌, inl, inr, List, Option, true, false, Bool, Contains, sym, subst, ◌∙◌}
 use Rattle.std.specs.Prelude.{◌&&◌, ◌||◌, not, ⊤}
 use Rattle.std.specs.FinSet as set
 use Rattle.net_addr.specs.declared.address.Addr.{Addr}
@@ -12,6 +12,7 @@ use Rattle.kern_model.specs.declared.object.Object.TheVariants as object
 use Rattle.kern_model.specs.ObjectOrder.{Objects, Has}
 use Rattle.kern_model.specs.Standing.{places_of, is_over}
 use Rattle.kern_model.specs.Kernel.{Devices, replaces}
+use Rattle.kern_model.specs.Admission.{IsBridge}
 use Rattle.kern_model.specs.Allowed.{AreAllowed, exclude}
 use Rattle.kern_model.specs.Touched.{is_unwanted_under, falls, is_on_taken, is_in_one, is_touched, is_replaced, is_taken, is_put}
 use Rattle.kern_model.proofs.SetLemmas.{set_of_item, item_of_set}
@@ -147,7 +148,7 @@ module _ (held wanted : Objects) where
 
   -- the name of a link that is taken falls, and with it all at that name
   link_falls_at : (name : List ℕ) (kind : LinkKind) → Has held (object.Link name kind) → is_on_taken held wanted (object.Link name kind) ≡ true → falls held wanted name ≡ true
-  link_falls_at name (Bridge mac) had on = cc on
+  link_falls_at name (Bridge mac filtering) had on = cc on
   link_falls_at name (Vlan lower id mac) had on =
       elim (either (falls held wanted lower) false on) as (λ _. falls held wanted name ≡ true) [
         | inl f ↦ falls_above lower name f (over_lower held name lower id mac had)
@@ -193,3 +194,19 @@ module _ (held wanted : Objects) where
           ]
           | inr on ↦ taken_on (object.Up vlan) up (of_left (falls held wanted vlan) false (falls_above name vlan (only_place name on) (over_lower held vlan name id mac link)))
         ]
+
+-- where a port leaves its bridge, its VLANs of that bridge are taken
+module _ (held wanted : Objects) (devices : Devices) (from : AreAllowed devices held) (to : AreAllowed devices wanted) where
+  not_itself : (port bridge : List ℕ) → Has held (object.Master port bridge) → port ≡ bridge → ⊥
+  not_itself port bridge had same =
+      let support = from.supported (object.Master port bridge) had in
+      support.plain (subst (IsBridge held) (sym same) support.made)
+
+  pub taken_vlan : (bridge port : List ℕ) (id : ℕ) (pvid untagged : Bool) → is_taken held wanted (object.Master port bridge) ≡ true → Has held (object.Vlan bridge port id pvid untagged) → is_taken held wanted (object.Vlan bridge port id pvid untagged) ≡ true
+  taken_vlan bridge port id pvid untagged h had =
+      let vlan = object.Vlan bridge port id pvid untagged in
+      let master = taken_held held wanted (object.Master port bridge) h in
+      elim (touched_cases held wanted (object.Master port bridge) master (taken_touched held wanted (object.Master port bridge) h)) as (λ _. is_taken held wanted (object.Vlan bridge port id pvid untagged) ≡ true) [
+        | inl unwanted ↦ taken_unwanted held wanted vlan had (λ is. elim (to.supported (object.Vlan bridge port id pvid untagged) is).joined as (λ _. ⊥) [ inl itself ↦ not_itself port bridge master itself | inr joined ↦ unwanted joined ]) (λ r. r)
+        | inr on ↦ taken_on held wanted vlan had on
+      ]

@@ -11,7 +11,7 @@ use Rattle.kern_model.specs.declared.object.Object.TheVariants as object
 use Rattle.kern_model.specs.declared.object.Call.{Call}
 use Rattle.kern_model.specs.declared.object.Call.TheVariants.{Put, Take}
 use Rattle.kern_model.specs.declared.rank.TheConstants.{LINK_RANK, MTU_RANK, MAC_RANK, MASTER_RANK}
-use Rattle.kern_model.specs.declared.rank.TheConstants.{UP_RANK, ADDRESS_RANK, ROUTE_RANK}
+use Rattle.kern_model.specs.declared.rank.TheConstants.{VLAN_RANK, UP_RANK, ADDRESS_RANK, ROUTE_RANK}
 use Rattle.kern_model.specs.ObjectOrder.{Objects, call_key}
 use Rattle.kern_model.specs.Standing.{height}
 use Rattle.kern_model.specs.Kernel.{Devices, after_call}
@@ -25,6 +25,7 @@ kind_rank (object.Link name kind) = LINK_RANK
 kind_rank (object.Mtu name mtu) = MTU_RANK
 kind_rank (object.Mac name mac) = MAC_RANK
 kind_rank (object.Master port bridge) = MASTER_RANK
+kind_rank (object.Vlan bridge port id pvid untagged) = VLAN_RANK
 kind_rank (object.Up name) = UP_RANK
 kind_rank (object.Address dev cidr) = ADDRESS_RANK
 kind_rank (object.Route r) = ROUTE_RANK

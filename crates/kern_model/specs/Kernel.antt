@@ -43,12 +43,14 @@ abbrev pub own_mac : Devices → List ℕ → Mac
 own_mac devices name =
     option_map_or (λ device. device.mac) (map.get devices name) (record { 0 = replicate 6 0 })
 
--- the name whose own values come back when an object is taken; of a master, its port
+-- the name whose own values come back when an object is taken; of a master or a VLAN of a bridge,
+-- its port
 abbrev pub name_of : Object → List ℕ
 name_of (object.Link name kind) = name
 name_of (object.Mtu name mtu) = name
 name_of (object.Mac name mac) = name
 name_of (object.Master port bridge) = port
+name_of (object.Vlan bridge port id pvid untagged) = port
 name_of (object.Up name) = name
 name_of (object.Address dev cidr) = dev
 name_of (object.Route r) = r.dev

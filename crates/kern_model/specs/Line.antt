@@ -1,7 +1,7 @@
 -- The lines of calls, as `ip -batch` of iproute2 takes them (ip-link(8), ip-address(8),
 -- ip-route(8)). A name with `#`, `\` or a quote in it is printed as it is, though `ip -batch` reads
 -- these bytes in a way of its own.
-use Rattle.std.specs.Prelude.{◌≡◌, ◌<◌, ◌^◌, ◌/◌, ◌%◌, ◌==◌, if◌then◌else◌, List, [], ◌∷◌, ◌++◌, codes, decimal, ℕ, true, ⊤, Option, Some, None}
+use Rattle.std.specs.Prelude.{◌≡◌, ◌<◌, ◌^◌, ◌/◌, ◌%◌, ◌==◌, if◌then◌else◌, List, [], ◌∷◌, ◌++◌, codes, decimal, ℕ, true, Bool, bytes_eq, ⊤, Option, Some, None}
 use Rattle.std.specs.List.{join_by}
 use Rattle.std.specs.Char.{digit_char}
 use Rattle.net_addr.specs.declared.address.Addr.{Addr}
@@ -34,6 +34,14 @@ abbrev pub own_address : Option Mac → List ℕ
 own_address None = []
 own_address (Some mac) = codes " address " ++ mac_text mac
 
+-- a word where it holds
+abbrev pub flag : List ℕ → Bool → List ℕ
+flag word holds = if holds then word else []
+
+-- a bridge that filters has no VLAN of its own at first
+abbrev pub filter_words : Bool → List ℕ
+filter_words filtering = flag (codes " vlan_filtering 1 vlan_default_pvid 0") filtering
+
 abbrev pub gateway : Option Addr → List ℕ
 gateway None = []
 gateway (Some via) = codes " via " ++ addr_text via
@@ -47,16 +55,24 @@ route_line words r =
     words ++ cidr_text r.target ++ gateway r.via ++ codes " dev " ++ r.dev
     ++ unusual (codes " metric ") 0 r.metric ++ unusual (codes " table ") 254 r.table
 
+-- a VLAN of a port, after the words that add or delete it
+abbrev pub vlan_line : List ℕ → List ℕ → ℕ → List ℕ
+vlan_line words port id = words ++ port ++ codes " vid " ++ decimal id
+
 -- the line that puts an object
 abbrev pub put_line : Object → List ℕ
-put_line (object.Link name (Bridge mac)) =
+put_line (object.Link name (Bridge mac filtering)) =
     codes "link add name " ++ name ++ own_address mac ++ codes " type bridge"
+    ++ filter_words filtering
 put_line (object.Link name (Vlan lower id mac)) =
     codes "link add link " ++ lower ++ codes " name " ++ name ++ own_address mac
     ++ codes " type vlan id " ++ decimal id
 put_line (object.Mtu name mtu) = codes "link set dev " ++ name ++ codes " mtu " ++ decimal mtu
 put_line (object.Mac name mac) = codes "link set dev " ++ name ++ codes " address " ++ mac_text mac
 put_line (object.Master port bridge) = codes "link set dev " ++ port ++ codes " master " ++ bridge
+put_line (object.Vlan bridge port id pvid untagged) =
+    vlan_line (codes "bridge vlan add dev ") port id ++ flag (codes " pvid") pvid
+    ++ flag (codes " untagged") untagged ++ flag (codes " self") (bytes_eq port bridge)
 put_line (object.Up name) = codes "link set dev " ++ name ++ codes " up"
 put_line (object.Address dev cidr) = codes "addr add " ++ cidr_text cidr ++ codes " dev " ++ dev
 put_line (object.Route r) = route_line (codes "route add ") r
@@ -71,6 +87,8 @@ take_line (object.Mac name mac) own_mtu own_mac =
     codes "link set dev " ++ name ++ codes " address " ++ mac_text own_mac
 take_line (object.Master port bridge) own_mtu own_mac =
     codes "link set dev " ++ port ++ codes " nomaster"
+take_line (object.Vlan bridge port id pvid untagged) own_mtu own_mac =
+    vlan_line (codes "bridge vlan del dev ") port id ++ flag (codes " self") (bytes_eq port bridge)
 take_line (object.Up name) own_mtu own_mac = codes "link set dev " ++ name ++ codes " down"
 take_line (object.Address dev cidr) own_mtu own_mac =
     codes "addr del " ++ cidr_text cidr ++ codes " dev " ++ dev
@@ -102,24 +120,34 @@ pub record IsRoute (r : RouteObject) : Type 0 where
 
 -- the names, addresses and numbers of an object are of their form, as those of the program are
 abbrev pub IsPrintable : Object → Type 0
-IsPrintable (object.Link name (Bridge mac)) = (is_name name ≡ true) × IsOwnAddress mac
+IsPrintable (object.Link name (Bridge mac filtering)) = (is_name name ≡ true) × IsOwnAddress mac
 IsPrintable (object.Link name (Vlan lower id mac)) =
     (is_name name ≡ true) × (is_name lower ≡ true) × (id < 2 ^ 16) × IsOwnAddress mac
 IsPrintable (object.Mtu name mtu) = (is_name name ≡ true) × (mtu < 2 ^ 32)
 IsPrintable (object.Mac name mac) = (is_name name ≡ true) × IsMac mac
 IsPrintable (object.Master port bridge) = (is_name port ≡ true) × (is_name bridge ≡ true)
+IsPrintable (object.Vlan bridge port id pvid untagged) =
+    (is_name bridge ≡ true) × (is_name port ≡ true) × (id < 2 ^ 16)
 IsPrintable (object.Up name) = is_name name ≡ true
 IsPrintable (object.Address dev cidr) = (is_name dev ≡ true) × IsCidr cidr
 IsPrintable (object.Route r) = IsRoute r
 
+-- both VLANs of bridges, of one port and one id, of which the line that puts one tells no bridge
+abbrev pub HaveOneVlan : Object → Object → Type 0
+HaveOneVlan (object.Vlan bridge port id pvid untagged)
+    (object.Vlan other other_port other_id other_pvid other_untagged) =
+    (port ≡ other_port) × (id ≡ other_id)
+HaveOneVlan _ _ = ⊥
+
 -- of one kind, of which the line that takes one tells its name alone: a link, an MTU, a hardware
--- address or a master; and of one name, which is that of the port for a master
+-- address or a master; and of one name, which is that of the port for a master. Of a VLAN of a
+-- bridge it tells the port and the id.
 abbrev pub HaveOneName : Object → Object → Type 0
 HaveOneName (object.Link name kind) (object.Link other other_kind) = name ≡ other
 HaveOneName (object.Mtu name mtu) (object.Mtu other other_mtu) = name ≡ other
 HaveOneName (object.Mac name mac) (object.Mac other other_mac) = name ≡ other
 HaveOneName (object.Master port bridge) (object.Master other other_bridge) = port ≡ other
-HaveOneName _ _ = ⊥
+HaveOneName a b = HaveOneVlan a b
 
 -- a name to bring up, or an address to add, of its form: the objects that are put so far
 abbrev pub IsBroughtUp : Object → Type 0

@@ -1,6 +1,6 @@
 -- An order of objects and of calls that tells all of them apart, so that sets of them can be
 -- written as values.
-use Rattle.std.specs.Prelude.{ℕ, ◌≡◌, List, [], ◌∷◌, ◌++◌, length, Option, Some, None, true}
+use Rattle.std.specs.Prelude.{ℕ, ◌≡◌, List, [], ◌∷◌, ◌++◌, length, Option, Some, None, Bool, true, false}
 use Rattle.std.specs.Ordering.{nat_cmp}
 use Rattle.std.specs.declared.cmp.Ordering.{Ordering}
 use Rattle.std.specs.Cmp.Lexicographic.{slice_cmp}
@@ -35,8 +35,12 @@ abbrev pub mac_key : Option Mac → List ℕ
 mac_key None = 0 ∷ []
 mac_key (Some m) = 1 ∷ sized m.0 []
 
+abbrev pub bool_key : Bool → ℕ
+bool_key false = 0
+bool_key true = 1
+
 abbrev pub kind_key : LinkKind → List ℕ
-kind_key (Bridge mac) = 0 ∷ mac_key mac
+kind_key (Bridge mac filtering) = 0 ∷ bool_key filtering ∷ mac_key mac
 kind_key (Vlan lower id mac) = 1 ∷ sized lower (id ∷ mac_key mac)
 
 -- numbers that tell an object from every other
@@ -45,10 +49,12 @@ object_key (object.Link name kind) = 0 ∷ sized name (kind_key kind)
 object_key (object.Mtu name mtu) = 1 ∷ mtu ∷ sized name []
 object_key (object.Mac name mac) = 2 ∷ sized mac.0 (sized name [])
 object_key (object.Master port bridge) = 3 ∷ sized port (sized bridge [])
-object_key (object.Up name) = 4 ∷ sized name []
-object_key (object.Address dev cidr) = 5 ∷ cidr_key cidr (sized dev [])
+object_key (object.Vlan bridge port id pvid untagged) =
+    4 ∷ id ∷ bool_key pvid ∷ bool_key untagged ∷ sized port (sized bridge [])
+object_key (object.Up name) = 5 ∷ sized name []
+object_key (object.Address dev cidr) = 6 ∷ cidr_key cidr (sized dev [])
 object_key (object.Route r) =
-    6 ∷ r.metric ∷ r.table ∷ cidr_key r.target (via_key r.via (sized r.dev []))
+    7 ∷ r.metric ∷ r.table ∷ cidr_key r.target (via_key r.via (sized r.dev []))
 
 -- numbers that tell a call from every other
 abbrev pub call_key : Call → List ℕ

@@ -8,14 +8,15 @@ use Rattle.kern_model.specs.declared.object.Object.{Object}
 use Rattle.kern_model.specs.declared.object.Object.TheVariants as object
 use Rattle.kern_model.specs.ObjectOrder.{Objects, Has}
 
--- the names that an object is at: a VLAN at the name under it, a master at its port and at its
--- bridge
+-- the names that an object is at: a VLAN link at the name under it, a master and a VLAN of a bridge
+-- at their port and at their bridge
 abbrev pub places_of : Object → List (List ℕ)
-places_of (object.Link name (Bridge mac)) = []
+places_of (object.Link name (Bridge mac filtering)) = []
 places_of (object.Link name (Vlan lower id mac)) = lower ∷ []
 places_of (object.Mtu name mtu) = name ∷ []
 places_of (object.Mac name mac) = name ∷ []
 places_of (object.Master port bridge) = port ∷ bridge ∷ []
+places_of (object.Vlan bridge port id pvid untagged) = port ∷ bridge ∷ []
 places_of (object.Up name) = name ∷ []
 places_of (object.Address dev cidr) = dev ∷ []
 places_of (object.Route r) = r.dev ∷ []

@@ -25,10 +25,15 @@ is_link_of name _ = false
 
 -- a bridge of that name
 abbrev pub is_bridge_of : List ℕ → Object → Bool
-is_bridge_of name (object.Link other (Bridge mac)) = bytes_eq other name
+is_bridge_of name (object.Link other (Bridge mac filtering)) = bytes_eq other name
 is_bridge_of name _ = false
 
--- a VLAN of that id over that name
+-- a bridge of that name that filters VLANs
+abbrev pub is_filtering_of : List ℕ → Object → Bool
+is_filtering_of name (object.Link other (Bridge mac filtering)) = bytes_eq other name && filtering
+is_filtering_of name _ = false
+
+-- a VLAN link of that id over that name
 abbrev pub is_vlan_with : List ℕ → ℕ → Object → Bool
 is_vlan_with lower id (object.Link name (Vlan other other_id mac)) =
     bytes_eq other lower && nat_eq other_id id
@@ -43,6 +48,23 @@ is_vlan_over lower _ = false
 abbrev pub is_master_of : List ℕ → Object → Bool
 is_master_of port (object.Master other bridge) = bytes_eq other port
 is_master_of port _ = false
+
+-- a VLAN of that id on that port
+abbrev pub is_vlan_on : List ℕ → ℕ → Object → Bool
+is_vlan_on port id (object.Vlan bridge other other_id pvid untagged) =
+    bytes_eq other port && nat_eq other_id id
+is_vlan_on port id _ = false
+
+-- a PVID of that port
+abbrev pub is_pvid_on : List ℕ → Object → Bool
+is_pvid_on port (object.Vlan bridge other id pvid untagged) = bytes_eq other port && pvid
+is_pvid_on port _ = false
+
+-- a VLAN of that bridge on that port
+abbrev pub is_vlan_of : List ℕ → List ℕ → Object → Bool
+is_vlan_of bridge port (object.Vlan other_bridge other id pvid untagged) =
+    bytes_eq other_bridge bridge && bytes_eq other port
+is_vlan_of bridge port _ = false
 
 -- an object at that name
 abbrev pub is_at : List ℕ → Object → Bool
@@ -70,7 +92,7 @@ abbrev pub exists : List (List ℕ × Device) → List Object → List ℕ → B
 exists devices objects name = is_present (map_of devices) name || list_any (is_link_of name) objects
 
 abbrev pub may_be_made : List (List ℕ × Device) → List Object → LinkKind → Bool
-may_be_made devices objects (Bridge mac) = true
+may_be_made devices objects (Bridge mac filtering) = true
 may_be_made devices objects (Vlan lower id mac) =
     exists devices objects lower
     && (nat_le LEAST_VLAN_ID id
@@ -82,6 +104,13 @@ master_may_be_set devices objects port bridge =
     && (not (list_any (is_bridge_of port) objects)
     && (list_any (is_bridge_of bridge) objects && not (list_any (is_master_of port) objects)))
 
+abbrev pub port_vlan_may_be_set : List Object → List ℕ → List ℕ → ℕ → Bool → Bool
+port_vlan_may_be_set objects bridge port id pvid =
+    list_any (is_filtering_of bridge) objects
+    && ((bytes_eq port bridge || is_among objects (object.Master port bridge))
+    && (not (list_any (is_vlan_on port id) objects)
+    && not (pvid && list_any (is_pvid_on port) objects)))
+
 abbrev pub may_be_put : List (List ℕ × Device) → List Object → Object → Bool
 may_be_put devices objects (object.Link name kind) =
     not (exists devices objects name) && may_be_made devices objects kind
@@ -89,6 +118,8 @@ may_be_put devices objects (object.Mtu name mtu) = exists devices objects name
 may_be_put devices objects (object.Mac name mac) = is_present (map_of devices) name
 may_be_put devices objects (object.Master port bridge) =
     master_may_be_set devices objects port bridge
+may_be_put devices objects (object.Vlan bridge port id pvid untagged) =
+    port_vlan_may_be_set objects bridge port id pvid
 may_be_put devices objects (object.Up name) =
     exists devices objects name && not (list_any (lacks_lower objects name) objects)
 may_be_put devices objects (object.Address dev cidr) = is_among objects (object.Up dev)
@@ -96,6 +127,7 @@ may_be_put devices objects (object.Route r) = is_among objects (object.Up r.dev)
 
 abbrev pub may_be_taken : List Object → Object → Bool
 may_be_taken objects (object.Link name kind) = not (list_any (is_at name) objects)
+may_be_taken objects (object.Master port bridge) = not (list_any (is_vlan_of bridge port) objects)
 may_be_taken objects (object.Up name) = not (list_any (needs_up objects name) objects)
 may_be_taken objects _ = true
 

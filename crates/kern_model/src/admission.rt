@@ -1,10 +1,14 @@
 //! Whether a kernel admits a call, judged by the list of its present devices and that of its
 //! objects.
-ghost use Rattle.std.specs.Prelude.{◌≡◌};
+ghost use Rattle.std.specs.Prelude.{◌≡◌, ◌||◌, bytes_eq};
 ghost use Rattle.std.specs.List.{list_any};
 ghost use Rattle.std.specs.FinMap as map;
 ghost use Rattle.kern_model.specs.Kernel.{map_of, is_present, own_mtu, own_mac};
-ghost use Rattle.kern_model.specs.Tests.{is_link_of, is_vlan_with, is_master_of, is_at, is_bridge_of, is_among, lacks_lower, needs_up, exists, may_be_made, master_may_be_set, may_be_put, may_be_taken, is_admitted, may_happen};
+ghost use Rattle.kern_model.specs.Tests.{is_link_of, is_bridge_of, is_filtering_of, is_vlan_with};
+ghost use Rattle.kern_model.specs.Tests.{is_master_of, is_vlan_on, is_pvid_on, is_vlan_of, is_at};
+ghost use Rattle.kern_model.specs.Tests.{is_among, lacks_lower, needs_up, exists, may_be_made};
+ghost use Rattle.kern_model.specs.Tests.{master_may_be_set, port_vlan_may_be_set, may_be_put};
+ghost use Rattle.kern_model.specs.Tests.{may_be_taken, is_admitted, may_happen};
 
 use crate::name::DevName;
 use crate::object::{Call, DevEvent, Device, LinkKind, Mac, Object};
@@ -48,6 +52,13 @@ fn may_be_put(devices: &[(DevName, Device)], objects: &[Object], object: &Object
         Object::Mtu { name, .. } => exists(devices, objects, name),
         Object::Mac { name, .. } => is_present(devices, name),
         Object::Master { port, bridge } => master_may_be_set(devices, objects, port, bridge),
+        Object::Vlan {
+            bridge,
+            port,
+            id,
+            pvid,
+            ..
+        } => port_vlan_may_be_set(objects, bridge, port, *id, *pvid),
         Object::Up { name } => {
             exists(devices, objects, name) && !is_lower_missing(objects, name)
         }
@@ -61,6 +72,7 @@ fn may_be_taken(objects: &[Object], object: &Object) -> bool
 {
     match object {
         Object::Link { name, .. } => !is_occupied(objects, name),
+        Object::Master { port, bridge } => !has_vlan_of(objects, bridge, port),
         Object::Up { name } => !is_needed_up(objects, name),
         _ => true,
     }
@@ -106,7 +118,62 @@ fn has_master(objects: &[Object], port: &DevName) -> bool
     objects.iter().any(|held| held.is_master_of(port))
 }
 
-fn is_among(objects: &[Object], object: &Object) -> bool
+fn port_vlan_may_be_set(
+    objects: &[Object],
+    bridge: &DevName,
+    port: &DevName,
+    id: u16,
+    pvid: bool,
+) -> bool
+    ensures { result ≡ port_vlan_may_be_set objects.now bridge.now port.now id pvid }
+{
+    is_filtering(objects, bridge)
+        && is_joined(objects, port, bridge)
+        && !has_vlan_on(objects, port, id)
+        && !(pvid && has_pvid(objects, port))
+}
+
+fn is_filtering(objects: &[Object], name: &DevName) -> bool
+    ensures { result ≡ list_any (is_filtering_of name.now) objects.now }
+{
+    objects.iter().any(|held| held.is_filtering_of(name))
+}
+
+// Whether the port is the bridge itself or has it as its master.
+fn is_joined(objects: &[Object], port: &DevName, bridge: &DevName) -> bool
+    ensures { result ≡ (bytes_eq port.now bridge.now
+        || is_among objects.now (Object.Master port.now bridge.now)) }
+{
+    port.text() == bridge.text()
+        || is_among(
+            objects,
+            &Object::Master {
+                port: *port,
+                bridge: *bridge,
+            },
+        )
+}
+
+fn has_vlan_on(objects: &[Object], port: &DevName, id: u16) -> bool
+    ensures { result ≡ list_any (is_vlan_on port.now id) objects.now }
+{
+    objects.iter().any(|held| held.is_vlan_on(port, id))
+}
+
+fn has_pvid(objects: &[Object], port: &DevName) -> bool
+    ensures { result ≡ list_any (is_pvid_on port.now) objects.now }
+{
+    objects.iter().any(|held| held.is_pvid_on(port))
+}
+
+fn has_vlan_of(objects: &[Object], bridge: &DevName, port: &DevName) -> bool
+    ensures { result ≡ list_any (is_vlan_of bridge.now port.now) objects.now }
+{
+    objects.iter().any(|held| held.is_vlan_of(bridge, port))
+}
+
+/// Whether the object is among them.
+pub fn is_among(objects: &[Object], object: &Object) -> bool
     ensures { result ≡ is_among objects.now object.now }
 {
     objects.iter().any(|held| object.is(held))
@@ -191,13 +258,15 @@ pub(crate) fn find(devices: &[(DevName, Device)], name: &DevName) -> Option<Devi
     None
 }
 
-fn own_mtu(devices: &[(DevName, Device)], name: &DevName) -> u32
+/// The MTU of that name's own: that which a present device came with, else 1500 bytes.
+pub fn own_mtu(devices: &[(DevName, Device)], name: &DevName) -> u32
     ensures { result ≡ own_mtu (map_of devices.now) name.now }
 {
     find(devices, name).map_or(1500, |device| device.mtu)
 }
 
-fn own_mac(devices: &[(DevName, Device)], name: &DevName) -> Mac
+/// The hardware address of that name's own: that which a present device came with, else zeros.
+pub fn own_mac(devices: &[(DevName, Device)], name: &DevName) -> Mac
     ensures { result ≡ own_mac (map_of devices.now) name.now }
 {
     find(devices, name).map_or(Mac([0; 6]), |device| device.mac)

@@ -13,15 +13,19 @@ ghost use Rattle.kern_model.specs.Standing.{is_over, IsOver, height};
 ghost use Rattle.kern_model.specs.Kernel.{Devices, after_call, MayHappen, after_event, objects_after_event};
 ghost use Rattle.kern_model.specs.Admission.{Admits};
 ghost use Rattle.kern_model.specs.Allowed.{AreAllowed};
-ghost use Rattle.kern_model.specs.Line.{put_line, take_line, IsPrintable, HaveOneName};
+ghost use Rattle.kern_model.specs.Line.{put_line, take_line, IsPrintable, HaveOneVlan, HaveOneName};
 ghost use Rattle.kern_model.specs.CallOrder.{AreCalls, AreAdmitted, after_calls};
 
-/// Objects that are put by one line are one object. Objects that are taken by one line are one, or
-/// are both links, MTUs, hardware addresses or masters, and of one name; of the objects of an
-/// allowed set they are one.
+/// Objects that are put by one line are one object, or are both VLANs of bridges, of one port and
+/// one id. Objects that are taken by one line are one, or are of one kind, which is not that of
+/// names that are up, addresses or routes, and of one name; VLANs of bridges of one port and one
+/// id. In an allowed set they are one.
 pub fn distinct_lines()
     ensures puts { (a b : Object) → IsPrintable a → IsPrintable b → put_line a ≡ put_line b
-        → a ≡ b }
+        → (a ≡ b) ⊎ HaveOneVlan a b }
+    ensures held_puts { (devices : Devices) (objects : Objects) → AreAllowed devices objects
+        → (a b : Object) → Has objects a → Has objects b → IsPrintable a → IsPrintable b
+        → put_line a ≡ put_line b → a ≡ b }
     ensures takes { (a b : Object) (m n : ℕ) (x y : Mac) → IsPrintable a → IsPrintable b
         → m < 2 ^ 32 → n < 2 ^ 32 → take_line a m x ≡ take_line b n y → (a ≡ b) ⊎ HaveOneName a b }
     ensures held { (devices : Devices) (objects : Objects) → AreAllowed devices objects

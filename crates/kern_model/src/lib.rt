@@ -15,6 +15,7 @@ mod print;
 mod rank;
 mod vlan_name;
 
+pub use admission::{is_among, own_mac, own_mtu};
 pub use kernel::Kernel;
 pub use laws::{
     admitted_calls_keep_allowed, calls_go_on_from_nothing, calls_lead_on, distinct_lines,

@@ -2,7 +2,8 @@ ghost use Rattle.std.specs.Prelude.{◌≡◌, ◌↔◌, IsTrue, false};
 ghost use Rattle.std.specs.Ordering.{eq_by_cmp};
 ghost use Rattle.kern_model.specs.ObjectOrder.{object_cmp};
 ghost use Rattle.kern_model.specs.Kernel.{object_of, name_of, replaces};
-ghost use Rattle.kern_model.specs.Tests.{is_link_of, is_bridge_of, is_vlan_with, is_vlan_over, is_master_of, is_at};
+ghost use Rattle.kern_model.specs.Tests.{is_link_of, is_bridge_of, is_vlan_with, is_vlan_over, is_at};
+ghost use Rattle.kern_model.specs.Tests.{is_master_of, is_filtering_of, is_vlan_on, is_pvid_on, is_vlan_of};
 
 use crate::name::DevName;
 use net_addr::{Addr, Cidr};
@@ -19,12 +20,13 @@ pub struct Device {
     pub mac: Mac,
 }
 
-/// The kinds of links that are made: bridges, and VLANs (IEEE 802.1Q) of an `id` over a `lower`
-/// name. A link may be made with a hardware address.
+/// The kinds of links that are made: bridges, which may filter VLANs, and VLANs (IEEE 802.1Q) of an
+/// `id` over a `lower` name. A link may be made with a hardware address.
 #[derive(Clone, Copy, Debug, PartialEq, Eq, PartialOrd, Ord, Hash)]
 pub enum LinkKind {
     Bridge {
         mac: Option<Mac>,
+        filtering: bool,
     },
     Vlan {
         lower: DevName,
@@ -43,16 +45,40 @@ pub struct RouteObject {
     pub table: u32,
 }
 
-/// What a kernel holds beside its present devices. Two objects are one exactly where all their
-/// fields are equal.
+/// What a kernel holds beside its present devices. A VLAN of a bridge is set on one of its ports,
+/// or on the bridge itself. Two objects are one exactly where all their fields are equal.
 #[derive(Clone, Copy, Debug, PartialEq, Eq, PartialOrd, Ord, Hash)]
 pub enum Object {
-    Link { name: DevName, kind: LinkKind },
-    Mtu { name: DevName, mtu: u32 },
-    Mac { name: DevName, mac: Mac },
-    Master { port: DevName, bridge: DevName },
-    Up { name: DevName },
-    Address { dev: DevName, cidr: Cidr },
+    Link {
+        name: DevName,
+        kind: LinkKind,
+    },
+    Mtu {
+        name: DevName,
+        mtu: u32,
+    },
+    Mac {
+        name: DevName,
+        mac: Mac,
+    },
+    Master {
+        port: DevName,
+        bridge: DevName,
+    },
+    Vlan {
+        bridge: DevName,
+        port: DevName,
+        id: u16,
+        pvid: bool,
+        untagged: bool,
+    },
+    Up {
+        name: DevName,
+    },
+    Address {
+        dev: DevName,
+        cidr: Cidr,
+    },
     Route(RouteObject),
 }
 
@@ -69,7 +95,121 @@ impl Object {
     pub fn same(&self, other: &Object) -> bool
         ensures { IsTrue result ↔ (self.now ≡ other.now) }
     {
-        self == other
+        match self {
+            Object::Link { name, kind } => other.is_link(name, kind),
+            Object::Mtu { name, mtu } => other.is_mtu(name, *mtu),
+            Object::Mac { name, mac } => other.is_mac(name, mac),
+            Object::Master { port, bridge } => other.is_master(port, bridge),
+            Object::Vlan {
+                bridge,
+                port,
+                id,
+                pvid,
+                untagged,
+            } => other.is_vlan(bridge, port, *id, *pvid, *untagged),
+            Object::Up { name } => other.is_up(name),
+            Object::Address { dev, cidr } => other.is_address(dev, cidr),
+            Object::Route(route) => other.is_route(route),
+        }
+    }
+
+    fn is_link(&self, name: &DevName, kind: &LinkKind) -> bool
+        ensures { IsTrue result ↔ (Object.Link name.now kind.now ≡ self.now) }
+    {
+        match self {
+            Object::Link {
+                name: other,
+                kind: other_kind,
+            } => name.same(other) && kind == other_kind,
+            _ => false,
+        }
+    }
+
+    fn is_mtu(&self, name: &DevName, mtu: u32) -> bool
+        ensures { IsTrue result ↔ (Object.Mtu name.now mtu ≡ self.now) }
+    {
+        match self {
+            Object::Mtu {
+                name: other,
+                mtu: other_mtu,
+            } => name.same(other) && mtu == *other_mtu,
+            _ => false,
+        }
+    }
+
+    fn is_mac(&self, name: &DevName, mac: &Mac) -> bool
+        ensures { IsTrue result ↔ (Object.Mac name.now mac.now ≡ self.now) }
+    {
+        match self {
+            Object::Mac {
+                name: other,
+                mac: other_mac,
+            } => name.same(other) && mac == other_mac,
+            _ => false,
+        }
+    }
+
+    fn is_master(&self, port: &DevName, bridge: &DevName) -> bool
+        ensures { IsTrue result ↔ (Object.Master port.now bridge.now ≡ self.now) }
+    {
+        match self {
+            Object::Master {
+                port: other,
+                bridge: other_bridge,
+            } => port.same(other) && bridge.same(other_bridge),
+            _ => false,
+        }
+    }
+
+    fn is_vlan(&self, bridge: &DevName, port: &DevName, id: u16, pvid: bool, untagged: bool) -> bool
+        ensures { IsTrue result ↔ (Object.Vlan bridge.now port.now id pvid untagged ≡ self.now) }
+    {
+        match self {
+            Object::Vlan {
+                bridge: other_bridge,
+                port: other,
+                id: other_id,
+                pvid: other_pvid,
+                untagged: other_untagged,
+            } => {
+                bridge.same(other_bridge)
+                    && port.same(other)
+                    && id == *other_id
+                    && pvid == *other_pvid
+                    && untagged == *other_untagged
+            }
+            _ => false,
+        }
+    }
+
+    fn is_up(&self, name: &DevName) -> bool
+        ensures { IsTrue result ↔ (Object.Up name.now ≡ self.now) }
+    {
+        match self {
+            Object::Up { name: other } => name.same(other),
+            _ => false,
+        }
+    }
+
+    fn is_address(&self, dev: &DevName, cidr: &Cidr) -> bool
+        ensures { IsTrue result ↔ (Object.Address dev.now cidr.now ≡ self.now) }
+    {
+        match self {
+            Object::Address {
+                dev: other,
+                cidr: other_cidr,
+            } => dev.same(other) && cidr.same(other_cidr),
+            _ => false,
+        }
+    }
+
+    fn is_route(&self, route: &RouteObject) -> bool
+        ensures { IsTrue result ↔ (Object.Route route.now ≡ self.now) }
+    {
+        match self {
+            Object::Route(other) => route == other,
+            _ => false,
+        }
     }
 
     // As `same`, in the words of the order of objects.
@@ -79,7 +219,8 @@ impl Object {
         self.same(other)
     }
 
-    /// The name whose own values come back when the object is taken; of a master, its port.
+    /// The name whose own values come back when the object is taken; of a master or a VLAN of a
+    /// bridge, its port.
     pub fn name(&self) -> DevName
         ensures { result ≡ name_of self.now }
     {
@@ -88,6 +229,7 @@ impl Object {
             Object::Mtu { name, .. } => *name,
             Object::Mac { name, .. } => *name,
             Object::Master { port, .. } => *port,
+            Object::Vlan { port, .. } => *port,
             Object::Up { name } => *name,
             Object::Address { dev, .. } => *dev,
             Object::Route(route) => route.dev,
@@ -175,6 +317,57 @@ impl Object {
         }
     }
 
+    pub(crate) fn is_filtering_of(&self, name: &DevName) -> bool
+        ensures { result ≡ is_filtering_of name.now self.now }
+    {
+        match self {
+            Object::Link {
+                name: other,
+                kind: LinkKind::Bridge { filtering, .. },
+            } => other.text() == name.text() && *filtering,
+            _ => false,
+        }
+    }
+
+    pub(crate) fn is_vlan_on(&self, port: &DevName, id: u16) -> bool
+        ensures { result ≡ is_vlan_on port.now id self.now }
+    {
+        match self {
+            Object::Vlan {
+                port: other,
+                id: other_id,
+                ..
+            } => other.text() == port.text() && *other_id == id,
+            _ => false,
+        }
+    }
+
+    pub(crate) fn is_pvid_on(&self, port: &DevName) -> bool
+        ensures { result ≡ is_pvid_on port.now self.now }
+    {
+        match self {
+            Object::Vlan {
+                port: other,
+                pvid,
+                ..
+            } => other.text() == port.text() && *pvid,
+            _ => false,
+        }
+    }
+
+    pub(crate) fn is_vlan_of(&self, bridge: &DevName, port: &DevName) -> bool
+        ensures { result ≡ is_vlan_of bridge.now port.now self.now }
+    {
+        match self {
+            Object::Vlan {
+                bridge: other_bridge,
+                port: other,
+                ..
+            } => other_bridge.text() == bridge.text() && other.text() == port.text(),
+            _ => false,
+        }
+    }
+
     // Whether the object is at that name: a VLAN at the name under it, a master at its port and at
     // its bridge.
     pub(crate) fn is_at(&self, name: &DevName) -> bool
@@ -189,6 +382,9 @@ impl Object {
             Object::Mtu { name: other, .. } => other.text() == name.text(),
             Object::Mac { name: other, .. } => other.text() == name.text(),
             Object::Master { port, bridge } => {
+                port.text() == name.text() || bridge.text() == name.text()
+            }
+            Object::Vlan { bridge, port, .. } => {
                 port.text() == name.text() || bridge.text() == name.text()
             }
             Object::Up { name: other } => other.text() == name.text(),

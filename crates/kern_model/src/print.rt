@@ -1,6 +1,7 @@
-ghost use Rattle.std.specs.Prelude.{◌≡◌, ◌≤◌, ◌<◌, ◌+◌, ◌*◌, ◌++◌, take, length, codes, decimal};
+ghost use Rattle.std.specs.Prelude.{◌≡◌, ◌≤◌, ◌<◌, ◌+◌, ◌*◌, ◌++◌, take, length, codes, decimal, bytes_eq};
 ghost use Rattle.net_addr.specs.Printed.{cidr_text};
-ghost use Rattle.kern_model.specs.Line.{line_of, put_line, take_line, route_line, hex_pair, pairs_text, own_address, gateway, unusual};
+ghost use Rattle.kern_model.specs.Line.{line_of, put_line, take_line, route_line, vlan_line, flag};
+ghost use Rattle.kern_model.specs.Line.{hex_pair, pairs_text, own_address, gateway, unusual};
 
 use crate::name::DevName;
 use crate::object::{Call, LinkKind, Mac, Object, RouteObject};
@@ -33,6 +34,13 @@ fn print_put(object: &Object, into: &mut [u8; 256]) -> usize
         Object::Mtu { name, mtu } => print_mtu(*name, *mtu, into),
         Object::Mac { name, mac } => print_mac(*name, *mac, into),
         Object::Master { port, bridge } => print_master(*port, *bridge, into),
+        Object::Vlan {
+            bridge,
+            port,
+            id,
+            pvid,
+            untagged,
+        } => print_port_vlan(*bridge, *port, *id, *pvid, *untagged, into),
         Object::Up { name } => print_set(*name, b" up", into),
         Object::Address { dev, cidr } => print_address(b"addr add ", *dev, *cidr, into),
         Object::Route(route) => print_route(b"route add ", route, into),
@@ -48,6 +56,12 @@ fn print_take(object: &Object, mtu: u32, mac: Mac, into: &mut [u8; 256]) -> usiz
         Object::Mtu { name, .. } => print_mtu(*name, mtu, into),
         Object::Mac { name, .. } => print_mac(*name, mac, into),
         Object::Master { port, .. } => print_set(*port, b" nomaster", into),
+        Object::Vlan {
+            bridge,
+            port,
+            id,
+            ..
+        } => print_taken_vlan(*bridge, *port, *id, into),
         Object::Up { name } => print_set(*name, b" down", into),
         Object::Address { dev, cidr } => print_address(b"addr del ", *dev, *cidr, into),
         Object::Route(route) => print_route(b"route del ", route, into),
@@ -59,19 +73,76 @@ fn print_link(name: DevName, kind: &LinkKind, into: &mut [u8; 256]) -> usize
     ensures fits { result ≤ 255 }
 {
     match kind {
-        LinkKind::Bridge { mac } => print_bridge(name, *mac, into),
+        LinkKind::Bridge { mac, filtering } => print_bridge(name, *mac, *filtering, into),
         LinkKind::Vlan { lower, id, mac } => print_vlan(name, *lower, *id, *mac, into),
     }
 }
 
-fn print_bridge(name: DevName, mac: Option<Mac>, into: &mut [u8; 256]) -> usize
-    ensures written { take result into.new ≡ put_line (Object.Link name (LinkKind.Bridge mac)) }
+fn print_bridge(name: DevName, mac: Option<Mac>, filtering: bool, into: &mut [u8; 256]) -> usize
+    ensures written { take result into.new
+        ≡ put_line (Object.Link name (LinkKind.Bridge mac filtering)) }
     ensures fits { result ≤ 255 }
 {
     let end = append_text(into, 0, b"link add name ");
     let end = append_text(into, end, name.text());
     let end = append_own_address(into, end, mac);
-    append_text(into, end, b" type bridge")
+    let end = append_text(into, end, b" type bridge");
+    append_flag(
+        into,
+        end,
+        b" vlan_filtering 1 vlan_default_pvid 0",
+        filtering,
+    )
+}
+
+fn print_port_vlan(
+    bridge: DevName,
+    port: DevName,
+    id: u16,
+    pvid: bool,
+    untagged: bool,
+    into: &mut [u8; 256],
+) -> usize
+    ensures written { take result into.new ≡ put_line (Object.Vlan bridge port id pvid untagged) }
+    ensures fits { result ≤ 255 }
+{
+    let end = print_vlan_of(b"bridge vlan add dev ", port, id, into);
+    let end = append_flag(into, end, b" pvid", pvid);
+    let end = append_flag(into, end, b" untagged", untagged);
+    append_flag(into, end, b" self", port.text() == bridge.text())
+}
+
+fn print_taken_vlan(bridge: DevName, port: DevName, id: u16, into: &mut [u8; 256]) -> usize
+    ensures written { take result into.new ≡ vlan_line (codes "bridge vlan del dev ") port id
+        ++ flag (codes " self") (bytes_eq port bridge) }
+    ensures fits { result ≤ 255 }
+{
+    let end = print_vlan_of(b"bridge vlan del dev ", port, id, into);
+    append_flag(into, end, b" self", port.text() == bridge.text())
+}
+
+fn print_vlan_of(words: &[u8], port: DevName, id: u16, into: &mut [u8; 256]) -> usize
+    requires { length words.now ≤ 24 }
+    ensures written { take result into.new ≡ vlan_line words.now port id }
+    ensures fits { result ≤ 54 }
+{
+    let end = append_text(into, 0, words);
+    let end = append_text(into, end, port.text());
+    let end = append_text(into, end, b" vid ");
+    append_number(into, end, u32::from(id))
+}
+
+// The word where it holds.
+fn append_flag(into: &mut [u8; 256], at: usize, word: &[u8], holds: bool) -> usize
+    requires { at + length word.now ≤ 255 }
+    ensures written { take result into.new ≡ take at into.old ++ flag word.now holds }
+    ensures fits { result ≤ at + length word.now }
+{
+    if holds {
+        append_text(into, at, word)
+    } else {
+        at
+    }
 }
 
 fn print_vlan(

@@ -12,11 +12,13 @@ pub const MAC_RANK: u8 = 2;
 
 pub const MASTER_RANK: u8 = 3;
 
-pub const UP_RANK: u8 = 4;
+pub const VLAN_RANK: u8 = 4;
 
-pub const ADDRESS_RANK: u8 = 5;
+pub const UP_RANK: u8 = 5;
 
-pub const ROUTE_RANK: u8 = 6;
+pub const ADDRESS_RANK: u8 = 6;
+
+pub const ROUTE_RANK: u8 = 7;
 
 impl Object {
     // The rank of its kind.
@@ -28,6 +30,7 @@ impl Object {
             Object::Mtu { .. } => MTU_RANK,
             Object::Mac { .. } => MAC_RANK,
             Object::Master { .. } => MASTER_RANK,
+            Object::Vlan { .. } => VLAN_RANK,
             Object::Up { .. } => UP_RANK,
             Object::Address { .. } => ADDRESS_RANK,
             Object::Route(_) => ROUTE_RANK,
@@ -36,8 +39,9 @@ impl Object {
 }
 
 impl Call {
-    // Takes come from above to below, and then puts from below to above.
-    pub(crate) fn rank(&self) -> u8
+    /// The place of its kind in the order of calls: takes come from above to below, and then puts from
+    /// below to above.
+    pub fn rank(&self) -> u8
         ensures { result ≡ rank self.now }
     {
         match self {

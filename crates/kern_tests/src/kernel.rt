@@ -19,7 +19,10 @@ fn cidr(rt: &impl Abort, text: &str) -> Cidr {
 fn bridge(rt: &impl Abort, text: &str) -> Object {
     Object::Link {
         name: name(rt, text),
-        kind: LinkKind::Bridge { mac: None },
+        kind: LinkKind::Bridge {
+            mac: None,
+            filtering: false,
+        },
     }
 }
 
@@ -38,6 +41,16 @@ fn master(rt: &impl Abort, port: &str, bridge: &str) -> Object {
     Object::Master {
         port: name(rt, port),
         bridge: name(rt, bridge),
+    }
+}
+
+fn port_vlan(rt: &impl Abort, port: &str, id: u16, pvid: bool) -> Object {
+    Object::Vlan {
+        bridge: name(rt, "br0"),
+        port: name(rt, port),
+        id,
+        pvid,
+        untagged: pvid,
     }
 }
 
@@ -172,6 +185,79 @@ fn a_bridge_becomes_a_vlan(rt: HostRuntime) {
     refuse(&rt, &kernel, &take(up(&rt, "eth0")));
     refuse(&rt, &kernel, &Call::Put(vlan(&rt, "v", "eth0", 5)));
     assert_eq!(rt; kernel.objects().len(), 4);
+}
+
+#[test]
+fn a_bridge_filters_vlans(rt: HostRuntime) {
+    let alloc = rt.alloc();
+    let mut kernel = MemKernel::new(alloc, Vec::new(alloc), Vec::new(alloc));
+    add(&rt, &mut kernel, "lan1");
+    add(&rt, &mut kernel, "lan2");
+    let filtering = Object::Link {
+        name: name(&rt, "br0"),
+        kind: LinkKind::Bridge {
+            mac: None,
+            filtering: true,
+        },
+    };
+    for (object, line) in [
+        (
+            filtering,
+            "link add name br0 type bridge vlan_filtering 1 vlan_default_pvid 0",
+        ),
+        (
+            vlan(&rt, "br0.10", "br0", 10),
+            "link add link br0 name br0.10 type vlan id 10",
+        ),
+        (master(&rt, "lan1", "br0"), "link set dev lan1 master br0"),
+        (
+            port_vlan(&rt, "br0", 10, false),
+            "bridge vlan add dev br0 vid 10 self",
+        ),
+        (
+            port_vlan(&rt, "lan1", 10, true),
+            "bridge vlan add dev lan1 vid 10 pvid untagged",
+        ),
+        (up(&rt, "br0"), "link set dev br0 up"),
+        (up(&rt, "lan1"), "link set dev lan1 up"),
+        (up(&rt, "br0.10"), "link set dev br0.10 up"),
+        (
+            address(&rt, "br0.10", "10.0.10.1/24"),
+            "addr add 10.0.10.1/24 dev br0.10",
+        ),
+    ] {
+        make(&rt, &mut kernel, &Call::Put(object), line);
+    }
+    refuse(&rt, &kernel, &Call::Put(port_vlan(&rt, "lan1", 10, false)));
+    refuse(&rt, &kernel, &Call::Put(port_vlan(&rt, "lan1", 20, true)));
+    refuse(&rt, &kernel, &Call::Put(port_vlan(&rt, "lan2", 10, false)));
+    refuse(&rt, &kernel, &take(master(&rt, "lan1", "br0")));
+    for (call, line) in [
+        (
+            Call::Put(master(&rt, "lan2", "br0")),
+            "link set dev lan2 master br0",
+        ),
+        (
+            Call::Put(port_vlan(&rt, "lan2", 10, false)),
+            "bridge vlan add dev lan2 vid 10",
+        ),
+        (
+            take(port_vlan(&rt, "lan2", 10, false)),
+            "bridge vlan del dev lan2 vid 10",
+        ),
+        (
+            Call::Put(port_vlan(&rt, "lan2", 10, true)),
+            "bridge vlan add dev lan2 vid 10 pvid untagged",
+        ),
+    ] {
+        make(&rt, &mut kernel, &call, line);
+    }
+    let event = DevEvent::Remove {
+        name: name(&rt, "lan1"),
+    };
+    assert!(rt; kernel.may_happen(&event));
+    assert!(rt; kernel.environment(&event).is_ok());
+    assert_eq!(rt; kernel.objects().len(), 8);
 }
 
 #[test]

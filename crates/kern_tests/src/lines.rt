@@ -21,7 +21,20 @@ fn addr(rt: &impl Abort, text: &str) -> Addr {
 fn bridge(rt: &impl Abort, mac: Option<Mac>) -> Object {
     Object::Link {
         name: name(rt, "br-lan"),
-        kind: LinkKind::Bridge { mac },
+        kind: LinkKind::Bridge {
+            mac,
+            filtering: false,
+        },
+    }
+}
+
+fn port_vlan(rt: &impl Abort, port: &str, pvid: bool, untagged: bool) -> Object {
+    Object::Vlan {
+        bridge: name(rt, "br0"),
+        port: name(rt, port),
+        id: 10,
+        pvid,
+        untagged,
     }
 }
 
@@ -93,6 +106,53 @@ fn puts_of_links_are_printed(rt: HostRuntime) {
         ),
     ] {
         expect_put(&rt, object, line);
+    }
+}
+
+#[test]
+fn vlans_of_bridges_are_printed(rt: HostRuntime) {
+    let filtering = Object::Link {
+        name: name(&rt, "br0"),
+        kind: LinkKind::Bridge {
+            mac: Some(SET_MAC),
+            filtering: true,
+        },
+    };
+    for (object, line) in [
+        (
+            filtering,
+            "link add name br0 address 02:5e:10:00:ff:0a type bridge vlan_filtering 1 vlan_default_pvid 0",
+        ),
+        (
+            port_vlan(&rt, "br0", false, false),
+            "bridge vlan add dev br0 vid 10 self",
+        ),
+        (
+            port_vlan(&rt, "lan1", true, true),
+            "bridge vlan add dev lan1 vid 10 pvid untagged",
+        ),
+        (
+            port_vlan(&rt, "lan1", false, true),
+            "bridge vlan add dev lan1 vid 10 untagged",
+        ),
+        (
+            port_vlan(&rt, "lan2", false, false),
+            "bridge vlan add dev lan2 vid 10",
+        ),
+    ] {
+        expect_put(&rt, object, line);
+    }
+    for (object, line) in [
+        (
+            port_vlan(&rt, "br0", true, false),
+            "bridge vlan del dev br0 vid 10 self",
+        ),
+        (
+            port_vlan(&rt, "lan2", true, true),
+            "bridge vlan del dev lan2 vid 10",
+        ),
+    ] {
+        expect_take(&rt, object, line);
     }
 }
 
