@@ -10,4 +10,5 @@ pub mod Counted
 pub mod Lower
 -- how much is left to do
 pub mod Due
+-- what the program that computes the calls is asked, and where it places each
 pub mod Between

@@ -1,16 +1,31 @@
 -- The kernel as a model: what it holds, what may be asked of it, what it does then, and how that is
 -- printed.
+
+-- device names
 pub mod Name
+-- how device names lie in memory
 pub mod NameInside
+-- names of the form X.N, which stand for VLANs, and plain names
 pub mod VlanName
+-- objects as a finite set
 pub mod ObjectOrder
+-- what stands on a name, what goes with it, heights
 pub mod Standing
+-- what exists, what calls and events do, own values
 pub mod Kernel
+-- what a kernel admits
 pub mod Admission
+-- which sets of objects are allowed
 pub mod Allowed
+-- which objects are touched, taken, replaced and put
 pub mod Touched
+-- the tests of the kernel in memory
 pub mod Tests
+-- lines of calls
 pub mod Line
+-- the order of calls; calls that are admitted each in its turn
 pub mod CallOrder
+-- the place of a call by its kind and line
 pub mod Place
+-- a kernel in memory
 pub mod MemKernel

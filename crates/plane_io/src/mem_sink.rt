@@ -89,7 +89,8 @@ impl Sink for MemSink {
 
     fn write(&mut self, bytes: &[u8]) -> Result<(), Failed>
         ensures ok { OnOk result (Grows (Some self.old.bytes) (Some self.new.bytes) bytes.now) }
-        ensures err { OnErr result (GrowsByFront (Some self.old.bytes) (Some self.new.bytes) bytes.now) }
+        ensures err { OnErr result
+            (GrowsByFront (Some self.old.bytes) (Some self.new.bytes) bytes.now) }
         ensures cause { HasCause self.old.faults self.new.faults result }
 
         // A call fails exactly where its number is in the list or a growth was refused, and writes nothing then.

@@ -9,7 +9,7 @@ use Rattle.uci_text.specs.ByteClass.{AllIn}
 use Rattle.uci_text.specs.Gap.{IsGap}
 use Rattle.uci_text.specs.Command.{SpellsCommand}
 use Rattle.uci_text.specs.Open.{IsExtent, ended}
-use Rattle.uci_text.specs.Fault.{IsFreeOf}
+use Rattle.uci_text.specs.FirstFault.{IsFreeOf}
 use Rattle.uci_text.specs.Table.{IsCmd, HasWordsFault}
 use Rattle.uci_text.specs.Commands.{IsCmdOf, SpellsCommands, HasCommandFault, of_bytes, of_words, IsFirstCommandFault}
 use Rattle.uci_text.specs.Found.{ReadsExtent, RefusesExtent, ReadsGap, RefusesGap}

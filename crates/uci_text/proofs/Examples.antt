@@ -14,7 +14,7 @@ use Rattle.uci_text.specs.Gap.{blank, comment, IsGap}
 use Rattle.uci_text.specs.Command.{SpellsCommand}
 use Rattle.uci_text.specs.Open.{open_single, open_double, open_pair, IsOpenCommand, ended, unended}
 use Rattle.uci_text.specs.Text.{Spells}
-use Rattle.uci_text.specs.Fault.{zero_byte, no_end, IsFirstFault}
+use Rattle.uci_text.specs.FirstFault.{zero_byte, no_end, IsFirstFault}
 use Rattle.uci_text.specs.Table.{of_count, IsCmd}
 use Rattle.uci_text.specs.Commands.{SpellsCommands, of_bytes, of_words, IsFirstCommandFault}
 use Rattle.uci_text.proofs.FaultLemmas.{gap_faultless}

@@ -10,7 +10,7 @@ use Rattle.uci_text.specs.declared.byte_class.ByteClass.TheVariants.{NotZero}
 use Rattle.uci_text.specs.ByteClass.{is_in, AllIn, IsAtEndOr, SplitsBehind, newlines, ends_command}
 use Rattle.uci_text.specs.Command.{command_text, SpellsCommand}
 use Rattle.uci_text.specs.Open.{Open, open_single, open_double, open_pair, last_backslash, open_text, IsOpenCommand, ended, unended}
-use Rattle.uci_text.specs.Fault.{HasFault, zero_byte, no_end}
+use Rattle.uci_text.specs.FirstFault.{HasFault, zero_byte, no_end}
 use Rattle.uci_text.specs.Found.{stop_of, TakesCommand, HasNoEnd, TakesGap, ReadsExtent, RefusesExtent, RefusesGap}
 use Rattle.uci_text.proofs.ClassLemmas.{has_some}
 

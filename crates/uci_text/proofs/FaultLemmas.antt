@@ -14,7 +14,7 @@ use Rattle.uci_text.specs.Gap.{Filler, blank, comment, gap_text, AreFillers, IsG
 use Rattle.uci_text.specs.Command.{SpellsCommand}
 use Rattle.uci_text.specs.Open.{Open, open_single, open_double, open_pair, last_backslash, open_text, IsOpen, IsLoose, IsOpenCommand, IsExtent, ended, unended, AreExtents, AreFirst}
 use Rattle.uci_text.specs.Text.{Spells}
-use Rattle.uci_text.specs.Fault.{open_error, HasFault, zero_byte, no_end, IsFreeOf, IsFirstFault}
+use Rattle.uci_text.specs.FirstFault.{open_error, HasFault, zero_byte, no_end, IsFreeOf, IsFirstFault}
 use Rattle.uci_text.specs.Found.{BeginsOutside}
 use Rattle.uci_text.proofs.ClassLemmas.{all_in-append, all_in-right}
 use Rattle.uci_text.proofs.RunLemmas.{Mode, in_gap, in_command, Outcome, read, fault, run, add, line_of, finished, blank_runs, gap_runs, command_begins, command_runs, space_step, piece_begins, piece_runs, open_runs, newlines-append, reading_runs}

@@ -9,7 +9,7 @@ use Rattle.uci_text.specs.declared.byte_class.ByteClass.TheVariants.{NotZero}
 use Rattle.uci_text.specs.ByteClass.{AllIn, newlines}
 use Rattle.uci_text.specs.Open.{Open, open_text, IsOpenCommand, ended, AreExtents, AreFirst}
 use Rattle.uci_text.specs.Text.{SpellsLines}
-use Rattle.uci_text.specs.Fault.{open_error, HasFault, zero_byte, no_end, IsFreeOf}
+use Rattle.uci_text.specs.FirstFault.{open_error, HasFault, zero_byte, no_end, IsFreeOf}
 use Rattle.uci_text.specs.Table.{HasWordsFault}
 use Rattle.uci_text.specs.Commands.{IsCmdOf, SpellsCommands, HasCommandFault, of_bytes, of_words, IsFirstCommandFault}
 use Rattle.uci_text.specs.Found.{ReadsExtent}

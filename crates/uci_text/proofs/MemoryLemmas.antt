@@ -2,7 +2,7 @@
 use Rattle.std.proofs.Common.{ℕ, ◌≡◌, List, sym, ◌∙◌}
 use Rattle.uci_text.specs.declared.text_error.TextError.TheVariants.{BadWord, OpenQuote, Memory}
 use Rattle.uci_text.specs.Open.{Open, open_single, open_double, open_pair, last_backslash}
-use Rattle.uci_text.specs.Fault.{HasFault, zero_byte, no_end, open_error}
+use Rattle.uci_text.specs.FirstFault.{HasFault, zero_byte, no_end, open_error}
 use Rattle.uci_text.specs.Table.{HasWordsFault, of_first, of_count, of_name}
 use Rattle.uci_text.specs.Commands.{HasCommandFault, of_bytes, of_words}
 

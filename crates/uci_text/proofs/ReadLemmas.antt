@@ -10,7 +10,7 @@ use Rattle.uci_text.specs.Word.{word_text, spaced_text}
 use Rattle.uci_text.specs.Gap.{IsGap}
 use Rattle.uci_text.specs.Open.{IsExtent, ended, AreExtents}
 use Rattle.uci_text.specs.Text.{SpellsLines, Spells}
-use Rattle.uci_text.specs.Fault.{HasFault, IsFreeOf, IsFirstFault}
+use Rattle.uci_text.specs.FirstFault.{HasFault, IsFreeOf, IsFirstFault}
 use Rattle.uci_text.specs.Found.{BeginsOutside, ReadsExtent, RefusesExtent, ReadsGap, RefusesGap}
 use Rattle.uci_text.proofs.ClassLemmas.{all_in-append, each-append, has_some}
 use Rattle.uci_text.proofs.WordLemmas.{word_length}

@@ -17,7 +17,7 @@ use Rattle.uci_text.specs.Gap.{Filler, blank, comment, gap_text, AreFillers, IsG
 use Rattle.uci_text.specs.Command.{Command, SpellsCommand}
 use Rattle.uci_text.specs.Open.{Open, open_single, open_double, open_pair, last_backslash, open_text, IsOpen}
 use Rattle.uci_text.specs.Text.{SpellsLines, Spells}
-use Rattle.uci_text.specs.Fault.{open_error}
+use Rattle.uci_text.specs.FirstFault.{open_error}
 use Rattle.uci_text.specs.Found.{BeginsOutside}
 
 -- where the machine is: between commands; in a command with this line, these words, and perhaps a word begun; in a

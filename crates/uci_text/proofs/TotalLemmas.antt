@@ -13,7 +13,7 @@ use Rattle.uci_text.specs.ByteClass.{is_in, AllIn, IsAtEndOr, SplitsBehind, newl
 use Rattle.uci_text.specs.Piece.{kept, escaped_value}
 use Rattle.uci_text.specs.Open.{last_backslash}
 use Rattle.uci_text.specs.Text.{Spells}
-use Rattle.uci_text.specs.Fault.{open_error, HasFault, no_end, IsFirstFault}
+use Rattle.uci_text.specs.FirstFault.{open_error, HasFault, no_end, IsFirstFault}
 use Rattle.uci_text.specs.Found.{BeginsOutside, TakesPiece, IsOpenPiece, TakesWord, IsOpenWord, TakesCommand, HasNoEnd, TakesGap, ReadsExtent, RefusesExtent}
 use Rattle.uci_text.proofs.PieceLemmas.{DoubleSoFar, double_none, double_more, double_pair, double_closes, double_open, double_open_pair, single_takes, single_open, escaped_takes, plain_takes}
 use Rattle.uci_text.proofs.WordLemmas.{WordSoFar, WordThrough, word_none, word_more, word_done, word_open, piece_shortens, word_shortens}

@@ -8,7 +8,7 @@ use Rattle.uci_text.specs.declared.byte_class.ByteClass.TheVariants.{NotZero}
 use Rattle.uci_text.specs.ByteClass.{AllIn}
 use Rattle.uci_text.specs.Command.{SpellsCommand}
 use Rattle.uci_text.specs.Text.{Spells}
-use Rattle.uci_text.specs.Fault.{HasFault, IsFirstOf}
+use Rattle.uci_text.specs.FirstFault.{HasFault, IsFirstOf}
 use Rattle.uci_text.specs.Table.{IsCmd, HasWordsFault}
 
 -- the words of the line are this command

@@ -12,7 +12,7 @@ use Rattle.uci_text.specs.Word.{IsWord, word_text, word_value}
 use Rattle.uci_text.specs.Gap.{IsGap}
 use Rattle.uci_text.specs.Command.{Command, IsCommand, SpellsCommand, command_text, command_words}
 use Rattle.uci_text.specs.Open.{Open, open_single, open_double, open_pair, last_backslash, open_text, IsOpen, IsOpenCommand, IsExtent}
-use Rattle.uci_text.specs.Fault.{HasFault}
+use Rattle.uci_text.specs.FirstFault.{HasFault}
 
 -- there is a byte, and the test is false of the first one
 abbrev pub BeginsOutside : (ℕ → Bool) → List ℕ → Type 0

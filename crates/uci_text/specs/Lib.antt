@@ -17,7 +17,7 @@ pub mod Open
 -- a text as lines of words
 pub mod Text
 -- the first fault of a text
-pub mod Fault
+pub mod FirstFault
 -- what the reader finds in front of a rest
 pub mod Found
 -- the table of commands, a command of a line, the fault of its words

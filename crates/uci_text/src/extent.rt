@@ -3,7 +3,7 @@ ghost use Rattle.uci_text.specs.declared.byte_class.ByteClass.TheVariants.{NotZe
 ghost use Rattle.uci_text.specs.declared.text_error.TextError.{TextError};
 ghost use Rattle.uci_text.specs.ByteClass as class;
 ghost use Rattle.uci_text.specs.ByteClass.{AllIn};
-ghost use Rattle.uci_text.specs.Fault.{HasFault};
+ghost use Rattle.uci_text.specs.FirstFault.{HasFault};
 ghost use Rattle.uci_text.specs.Found.{BeginsOutside, HasNoEnd, ReadsExtent, RefusesExtent, ReadsGap, RefusesGap};
 
 use crate::byte_class::ByteClass;

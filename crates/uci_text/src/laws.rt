@@ -3,7 +3,7 @@ ghost use Rattle.uci_text.specs.declared.line.Line.{Line};
 ghost use Rattle.uci_text.specs.declared.cmd.Cmd.{Cmd};
 ghost use Rattle.uci_text.specs.declared.text_error.TextError.{TextError};
 ghost use Rattle.uci_text.specs.Text.{Spells};
-ghost use Rattle.uci_text.specs.Fault.{IsFirstFault};
+ghost use Rattle.uci_text.specs.FirstFault.{IsFirstFault};
 ghost use Rattle.uci_text.specs.Commands.{SpellsCommands, IsFirstCommandFault};
 ghost use Rattle.uci_text.specs.declared.text_error.TextError.TheVariants as text_error;
 

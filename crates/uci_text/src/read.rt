@@ -2,7 +2,7 @@ ghost use Rattle.std.specs.Prelude.{◌≡◌, ◌≢◌, ◌<◌, ◌-◌, ◌^
 ghost use Rattle.uci_text.specs.declared.line.Line.{Line};
 ghost use Rattle.uci_text.specs.declared.text_error.TextError.{TextError};
 ghost use Rattle.uci_text.specs.Text.{Spells};
-ghost use Rattle.uci_text.specs.Fault.{IsFirstFault};
+ghost use Rattle.uci_text.specs.FirstFault.{IsFirstFault};
 
 use crate::extent::{read_extent, read_gap};
 use crate::{Line, TextError};
