@@ -14,7 +14,7 @@ use Rattle.kern_model.specs.Allowed.{HasSupport, AreAllowed, exclude}
 use Rattle.kern_model.proofs.MemberLemmas.{first_or_later, none_in_nil, here}
 use Rattle.kern_model.proofs.SetLemmas.{set_of_member, member_of_set}
 use Rattle.plane_main.specs.declared.interface.Interface.{Interface}
-use Rattle.plane_main.specs.Bring.{IsSound, AreSound}
+use Rattle.plane_main.specs.BringUp.{IsSound, AreSound}
 use Rattle.plane_main.specs.Wanted.{objects_of, all_objects_of, wanted}
 
 all_append : {X : Type 0} (P : X → Type 0) → (xs ys : List X) → AllByRecursion P xs → AllByRecursion P ys → AllByRecursion P (xs ++ ys)

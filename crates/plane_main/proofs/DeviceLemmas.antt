@@ -19,7 +19,7 @@ use Rattle.kern_model.proofs.MemberLemmas.{first_or_later, none_in_nil, here, th
 use Rattle.kern_model.proofs.SetLemmas.{none_in_empty}
 use Rattle.plane_words.specs.Distinct.{AreDistinct}
 use Rattle.plane_main.specs.Wanted.{with_devices, comes}
-use Rattle.plane_main.specs.Bring.{Came, CameInFront, absent_count}
+use Rattle.plane_main.specs.BringUp.{Came, CameInFront, absent_count}
 
 -- nothing is present at first
 pub none_present : (name : List ℕ) → is_present map.empty name ≡ false

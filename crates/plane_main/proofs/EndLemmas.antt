@@ -14,7 +14,7 @@ use Rattle.plane_main.specs.declared.ending.Ending.TheVariants as ending
 use Rattle.plane_main.specs.Outside.{Outside}
 use Rattle.plane_main.specs.Wanted.{wanted}
 use Rattle.plane_main.specs.Settle.{Settled, StopsAtCall, StopsAtLine, SettleEnds}
-use Rattle.plane_main.specs.Bring.{Came, Finished, StoppedAtCall, StoppedAtLine, BringUpEnds}
+use Rattle.plane_main.specs.BringUp.{Came, Finished, StoppedAtCall, StoppedAtLine, BringUpEnds}
 use Rattle.plane_main.proofs.BringLemmas.{wanted_allowed}
 use Rattle.plane_main.proofs.CountLemmas.{count_due}
 use Rattle.plane_main.proofs.SettleLemmas.{settled_from, settled_in_part_from}

@@ -17,7 +17,7 @@ use Rattle.uci_tree.specs.declared.package.Package.{Package}
 use Rattle.uci_tree.specs.Reading.{Reads}
 use Rattle.uci_tree.proofs.ReadingLemmas.{one_tree}
 use Rattle.plane_main.specs.declared.interface.Interface.{Interface}
-use Rattle.plane_main.specs.Form.{single, value_of, IsInterface, package_name, IsNetwork, IsOfForm, IsOutOfForm}
+use Rattle.plane_main.specs.Network.{single, value_of, IsInterface, package_name, IsNetwork, IsOfForm, IsOutOfForm}
 use Rattle.plane_main.specs.Options.{GivesCidr}
 
 value_test : (b : Bool) (name : List ℕ) (option : Opt) (options : List Opt) → bytes_eq option.name name ≡ b → value_of name (option ∷ options) ≡ cond b (single option.value) (value_of name options)

@@ -17,10 +17,10 @@ use Rattle.plane_main.specs.declared.interface.Interface.{Interface}
 use Rattle.plane_main.specs.declared.ending.Ending.{Ending}
 use Rattle.plane_main.specs.declared.ending.Ending.TheVariants as ending
 use Rattle.plane_main.specs.Outside.{Input, Outside}
-use Rattle.plane_main.specs.Form.{IsInterface, IsNetwork, IsOfForm, IsOutOfForm}
+use Rattle.plane_main.specs.Network.{IsInterface, IsNetwork, IsOfForm, IsOutOfForm}
 use Rattle.plane_main.specs.Wanted.{wanted}
 use Rattle.plane_main.specs.Ending.{IsFailure, IsCutShort, IsKernelFailed, Tells, OrLacksMemory}
-use Rattle.plane_main.specs.Bring.{IsSound, AreSound, LackedMemory, BringUpEnds}
+use Rattle.plane_main.specs.BringUp.{IsSound, AreSound, LackedMemory, BringUpEnds}
 use Rattle.plane_main.specs.Start.{IsRead, AreRead, IsUnreadable, IsNotBuilt, ReadEnds, StartEnds, IsInput, IsCalm, StartComes}
 use Rattle.plane_main.proofs.InterfaceLemmas.{network_one}
 use Rattle.plane_main.proofs.CountLemmas.{some_due}

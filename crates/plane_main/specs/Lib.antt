@@ -15,7 +15,7 @@ pub mod Start
 -- the pages of the program, and how a run ends that prints one
 pub mod Page
 -- the form of the package that is brought up, its interfaces
-pub mod Form
+pub mod Network
 -- what single options of a section give
 pub mod Options
 -- what interfaces want of the kernel; the named devices
@@ -23,4 +23,4 @@ pub mod Wanted
 -- how far the calls of a settling came
 pub mod Settle
 -- what bringing interfaces up leaves, to its end or a part of the way
-pub mod Bring
+pub mod BringUp

@@ -6,7 +6,7 @@ use Rattle.net_addr.specs.Mask.{mask_octets}
 use Rattle.net_addr.specs.declared.address.Addr.{Addr}
 use Rattle.net_addr.specs.declared.address.Addr.TheVariants as family
 use Rattle.uci_tree.specs.declared.package.Opt.{Opt}
-use Rattle.plane_main.specs.Form.{value_of}
+use Rattle.plane_main.specs.Network.{value_of}
 use Rattle.kern_model.specs.VlanName.{IsPlainName}
 
 -- `device` is given, and is this plain name

@@ -11,10 +11,10 @@ use Rattle.plane_main.specs.declared.interface.Interface.{Interface}
 use Rattle.plane_main.specs.declared.ending.Ending.{Ending}
 use Rattle.plane_main.specs.declared.ending.Ending.TheVariants as ending
 use Rattle.plane_main.specs.Outside.{Input, Outside}
-use Rattle.plane_main.specs.Form.{IsNetwork, IsOfForm, IsOutOfForm}
+use Rattle.plane_main.specs.Network.{IsNetwork, IsOfForm, IsOutOfForm}
 use Rattle.plane_main.specs.Wanted.{wanted}
 use Rattle.plane_main.specs.Ending.{IsFailure, IsCutShort, IsKernelFailed, Tells, OrLacksMemory}
-use Rattle.plane_main.specs.Bring.{Finished, StoppedAtCall, StoppedAtLine, LackedMemory}
+use Rattle.plane_main.specs.BringUp.{Finished, StoppedAtCall, StoppedAtLine, LackedMemory}
 
 -- the input was read to its end, and this is its text, which is within the limit
 pub record IsRead (input : Input) (text : List ℕ) : Type 0 where

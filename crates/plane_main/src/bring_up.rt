@@ -8,7 +8,7 @@ ghost use Rattle.kern_model.specs.CallOrder.{AreCalls};
 ghost use Rattle.plane_words.specs.Distinct.{AreDistinct};
 ghost use Rattle.plane_main.specs.Wanted.{all_objects_of, wanted};
 ghost use Rattle.plane_main.specs.Outside.{IsBare};
-ghost use Rattle.plane_main.specs.Bring.{AreSound, Came, CameInFront};
+ghost use Rattle.plane_main.specs.BringUp.{AreSound, Came, CameInFront};
 
 use crate::interface::Interface;
 use kern_model::{Call, DevEvent, DevName, Kernel, LinkKind, Mac, Object, calls_from_nothing};

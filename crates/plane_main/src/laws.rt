@@ -6,7 +6,7 @@ ghost use Rattle.plane_io.specs.declared.input.TheConstants.{INPUT_LIMIT};
 ghost use Rattle.kern_model.specs.declared.vlan_name.TheConstants.{LEAST_VLAN_ID, MOST_VLAN_ID};
 ghost use Rattle.plane_main.specs.declared.command.TheConstants.{MOST_DEVICES};
 ghost use Rattle.plane_main.specs.declared.bring_up.TheConstants.{ETHERNET_MTU};
-ghost use Rattle.plane_main.specs.Form.{IsNetwork};
+ghost use Rattle.plane_main.specs.Network.{IsNetwork};
 ghost use Rattle.plane_main.specs.Command.{AskFor};
 
 /// A `network` text has at most one list of interfaces.

@@ -9,8 +9,8 @@ ghost use Rattle.uci_tree.specs.declared.tree_error.TreeError.{TreeError};
 ghost use Rattle.uci_tree.specs.declared.tree_error.TreeError.TheVariants as tree_error;
 ghost use Rattle.uci_tree.specs.Reading.{HasTreeFault};
 ghost use Rattle.plane_main.specs.declared.interface.Interface.{Interface};
-ghost use Rattle.plane_main.specs.Form as form;
-ghost use Rattle.plane_main.specs.Form.{IsInterface, IsNetwork, IsOutOfForm};
+ghost use Rattle.plane_main.specs.Network as network;
+ghost use Rattle.plane_main.specs.Network.{IsInterface, IsNetwork, IsOutOfForm};
 ghost use Rattle.plane_main.specs.Options.{GivesDevice, GivesCidr};
 
 use crate::interface::Interface;
@@ -80,9 +80,9 @@ fn interface_of(section: &Section) -> Result<Option<Interface>, Memory>
 }
 
 fn is_static(options: &[Opt]) -> bool
-    ensures yes { OnTrue result (form.value_of (codes "proto") options.now
+    ensures yes { OnTrue result (network.value_of (codes "proto") options.now
         ≡ Some (codes "static")) }
-    ensures no { OnFalse result (form.value_of (codes "proto") options.now ≡ Some (codes "static") →
+    ensures no { OnFalse result (network.value_of (codes "proto") options.now ≡ Some (codes "static") →
         ⊥) }
 {
     match value_of(options, b"proto") {
@@ -131,8 +131,8 @@ fn ipv4(text: &[u8]) -> Option<V4>
 
 // The single value of the first option of the name.
 fn value_of<'a>(options: &'a [Opt], name: &[u8]) -> Option<&'a [u8]>
-    ensures found { IfSome result (λ value. form.value_of name.now options.now ≡ Some value.now) }
-    ensures none { IfNone result (form.value_of name.now options.now ≡ None) }
+    ensures found { IfSome result (λ value. network.value_of name.now options.now ≡ Some value.now) }
+    ensures none { IfNone result (network.value_of name.now options.now ≡ None) }
 {
     for option in options {
         if option.name.as_bytes() == name {
@@ -144,8 +144,8 @@ fn value_of<'a>(options: &'a [Opt], name: &[u8]) -> Option<&'a [u8]>
 
 // The text of a value that is no list.
 fn single(value: &Value) -> Option<&[u8]>
-    ensures found { IfSome result (λ text. form.single value.now ≡ Some text.now) }
-    ensures none { IfNone result (form.single value.now ≡ None) }
+    ensures found { IfSome result (λ text. network.single value.now ≡ Some text.now) }
+    ensures none { IfNone result (network.single value.now ≡ None) }
 {
     match value {
         Value::One(text) => Some(text.as_bytes()),

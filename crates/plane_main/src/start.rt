@@ -3,7 +3,7 @@ ghost use Rattle.plane_words.specs.Distinct.{AreDistinct};
 ghost use Rattle.uci_tree.specs.Fault.{fault_of};
 ghost use Rattle.plane_main.specs.Outside.{IsBare, input_of, outside_of};
 ghost use Rattle.plane_main.specs.Ending.{IsEarly};
-ghost use Rattle.plane_main.specs.Bring.{AreSound, BringUpEnds};
+ghost use Rattle.plane_main.specs.BringUp.{AreSound, BringUpEnds};
 ghost use Rattle.plane_main.specs.Start.{AreRead, ReadEnds, StartEnds};
 
 use crate::bring_up::{add_devices, wanted_calls};

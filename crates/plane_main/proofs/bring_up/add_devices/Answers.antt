@@ -9,7 +9,7 @@ use Rattle.std.specs.List.{list_any}
 use Rattle.std.proofs.lemmas.List.Elements.{Contains-append_left, Contains-push}
 use Rattle.kern_model.specs.Kernel.{is_present, after_event}
 use Rattle.plane_main.specs.Wanted.{comes}
-use Rattle.plane_main.specs.Bring.{Came}
+use Rattle.plane_main.specs.BringUp.{Came}
 use Rattle.plane_main.proofs.DeviceLemmas.{none_present, may_come, not_before, present_after, same_name, either, added, came_none, came_not, came_next, came_in_front, one_more, false_of_not}
 use Rattle.plane_main.proofs.bring_up.add_devices.Goals as goal
 

@@ -4,7 +4,7 @@ use Rattle.std.specs.Ordering.{nat_cmp}
 use Rattle.std.specs.Cmp.Lexicographic.{slice_cmp}
 use Rattle.std.specs.BTreeSet.{contains}
 use Rattle.kern_model.specs.Kernel.{is_present}
-use Rattle.plane_main.specs.Bring.{Came}
+use Rattle.plane_main.specs.BringUp.{Came}
 use Rattle.plane_main.proofs.bring_up.add_devices.Given as goal
 
 -- the devices so far are present where the kernel took them, and nothing else is

@@ -2,7 +2,7 @@ use Rattle.std.proofs.Common.{List, ◌≡◌, ◌+◌, ◌++◌, ◌∷◌, [],
 use Rattle.std.specs.List.{AllZip}
 use Rattle.std.proofs.lemmas.List.{take_more}
 use Rattle.uci_tree.specs.declared.package.Section.{Section}
-use Rattle.plane_main.specs.Form.{IsInterface}
+use Rattle.plane_main.specs.Network.{IsInterface}
 use Rattle.plane_main.proofs.InterfaceLemmas.{no_zip, zip_push}
 use Rattle.plane_main.proofs.network.interfaces_of.Goals as goal
 

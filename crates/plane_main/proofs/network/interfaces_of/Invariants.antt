@@ -1,6 +1,6 @@
 use Rattle.std.proofs.Common.{take}
 use Rattle.std.specs.List.{AllZip}
-use Rattle.plane_main.specs.Form.{IsInterface}
+use Rattle.plane_main.specs.Network.{IsInterface}
 use Rattle.plane_main.proofs.network.interfaces_of.Given as goal
 
 -- the sections so far are these interfaces

@@ -1,5 +1,5 @@
 use Rattle.std.proofs.Common.{◌≡◌, drop}
-use Rattle.plane_main.specs.Form.{value_of}
+use Rattle.plane_main.specs.Network.{value_of}
 use Rattle.plane_main.proofs.network.value_of.Given as goal
 
 -- the options so far have other names

@@ -1,5 +1,5 @@
 use Rattle.std.proofs.Common.{subst}
-use Rattle.plane_main.specs.Form.{IsOutOfForm}
+use Rattle.plane_main.specs.Network.{IsOutOfForm}
 use Rattle.plane_main.proofs.start.read_interfaces.Goals as goal
 
 pub returns-in-Ok-None-clause-refused : goal.returns-in-Ok-None-clause-refused

@@ -1,5 +1,5 @@
 use Rattle.std.proofs.Common.{sym, subst}
-use Rattle.plane_main.specs.Bring.{AreSound}
+use Rattle.plane_main.specs.BringUp.{AreSound}
 use Rattle.plane_main.proofs.StartLemmas.{interfaces_sound}
 use Rattle.plane_main.proofs.start.start.Goals as goal
 
