@@ -1,5 +1,5 @@
 -- The fields of the attribute in front of bytes, each at its place (libubox's blob and blobmsg).
-use Rattle.std.specs.Prelude.{ℕ, ◌+◌, ◌-◌, ◌*◌, ◌/◌, ◌%◌, ◌^◌, ◌≡◌, ◌≤◌, List, take, drop, length, position, Bool, false, Some, nat_eq, option_map, unwrap_or}
+use Rattle.std.specs.Prelude.{ℕ, ◌+◌, ◌-◌, ◌*◌, ◌/◌, ◌%◌, ◌^◌, ◌≡◌, ◌≤◌, List, take, drop, length, position, Bool, false, IsTrue, nat_eq, option_map, unwrap_or}
 use Rattle.std.specs.Int.{w16, w32, from_be_bytes}
 use Rattle.lanes_scan.specs.ByteTest.{is_nul}
 
@@ -48,12 +48,8 @@ unfoldable pub behind : List ℕ → List ℕ
 behind bytes = drop (padded (length_in bytes)) bytes
 
 -- a byte is zero, and the first one is the last byte
-unfoldable pub IsTerminated : List ℕ → Type 0
-IsTerminated bytes = position is_nul bytes ≡ Some (length bytes - 1)
-
--- the test of that
 unfoldable pub is_terminated : List ℕ → Bool
-is_terminated bytes = unwrap_or (option_map (nat_eq (length bytes - 1)) (position is_nul bytes)) false
+is_terminated bytes = unwrap_or (option_map (λ place. nat_eq (place + 1) (length bytes)) (position is_nul bytes)) false
 
 -- the bytes without the last one
 unfoldable pub without_last : List ℕ → List ℕ
@@ -64,8 +60,8 @@ without_last bytes = take (length bytes - 1) bytes
 pub record IsWhole (bytes : List ℕ) : Type 0 where
   pub word : 4 ≤ length bytes
   pub room : padded (length_in bytes) ≤ length bytes
-  pub length : 4 ≤ length_in bytes
+  pub least : 4 ≤ length_in bytes
   pub flag : flag_in bytes ≡ 1
   pub type : type_in bytes ≤ 7
   pub name_room : value_place bytes ≤ length_in bytes
-  pub name_end : IsTerminated (named_in bytes)
+  pub name_end : IsTrue (is_terminated (named_in bytes))

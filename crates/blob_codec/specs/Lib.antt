@@ -8,3 +8,5 @@ pub mod Attribute
 pub mod Blob
 -- the first fault of bytes
 pub mod Fault
+-- what the reader finds
+pub mod Found

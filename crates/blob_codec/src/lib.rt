@@ -1,10 +1,17 @@
 //! Blobs, the typed attribute lists of OpenWrt's message bus (libubox's blobmsg), read and written.
 #![tactic(auto)]
 
+mod attribute;
 mod blob;
 mod blob_error;
 mod copy;
+mod laws;
+mod leaf;
+mod nul;
+mod read;
 
 pub use blob::{Attr, Blob, MOST_LEVELS};
 pub use blob_error::BlobError;
 pub use copy::copy_attrs;
+pub use laws::{no_reading_with_fault, one_fault, one_reading};
+pub use read::read_blob;

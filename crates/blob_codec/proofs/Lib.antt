@@ -1,0 +1,4 @@
+pub mod FieldLemmas
+pub mod TestLemmas
+pub mod LawLemmas
+pub mod ReadLemmas
