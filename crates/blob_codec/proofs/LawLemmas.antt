@@ -1,5 +1,5 @@
 -- Bytes have one reading, or one first fault, and not both.
-use Rattle.std.proofs.Common.{ℕ, suc, ◌≡◌, ◌+◌, ◌<◌, ◌≤◌, Bool, true, false, cond, List, [], ◌∷◌, length, Option, Some, None, nat_eq, arith, ap, ◌∙◌, sym, refl, subst}
+use Rattle.std.proofs.Common.{ℕ, suc, ◌≡◌, ◌+◌, ◌<◌, ◌≤◌, Bool, true, false, cond, List, [], ◌∷◌, length, Option, Some, None, nat_eq, arith, ap, ◌∙◌, sym, refl, subst, Result, Ok, Err, IfOk}
 use Rattle.std.specs.Prelude.{◌||◌}
 use Rattle.std.specs.Int.{w8, w16, w32, w64, from_be_bytes, cast_signed}
 use Rattle.blob_codec.specs.declared.blob.Blob.{Blob}
@@ -131,3 +131,8 @@ one_first levels place bytes e d (later _ _ _ _ v w s g) (inside _ f _ _ _ x m y
     (λ k is z t. not_both f (place + value_place bytes) (value_in bytes) d is h (subst (λ (i : ℕ). Spells i (value_in bytes) is) (same_level levels k f z y) t)))
 one_first levels place bytes e d (later _ _ _ _ v w s g) (later _ _ _ _ u x t h) =
     one_first levels (place + padded (length_in bytes)) (behind bytes) e d g h
+
+pub only_found : (levels : ℕ) (bytes : List ℕ) (r : Result (List Attr) BlobError) → IfOk r (λ attrs. Spells levels bytes attrs)
+    → IfOk r (λ attrs. (others : List Attr) → Spells levels bytes others → others ≡ attrs)
+only_found levels bytes (Ok attrs) s = λ others t. one_list levels bytes attrs others s t
+only_found levels bytes (Err error) s = tt

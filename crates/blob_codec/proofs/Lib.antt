@@ -2,3 +2,4 @@ pub mod FieldLemmas
 pub mod TestLemmas
 pub mod LawLemmas
 pub mod ReadLemmas
+pub mod Examples

@@ -19,11 +19,11 @@ pub goes_on : (levels place at : ℕ) (bytes rest : List ℕ) (attrs : List Attr
     → SpellsValue levels (type_in rest) (value_in rest) value
     → SoFar levels place (at + padded (length_in rest)) bytes (behind rest) (attrs ++ record { name = name_in rest; value = value } ∷ [])
 goes_on levels place at bytes rest attrs value so w s = record {
-    room = let r : at + length rest < 2 ^ 64 = so.room in let b : length (behind rest) + padded (length_in rest) ≡ length rest = length-behind rest w in omega arith;
-    sound = λ others t. subst (λ (xs : List Attr). Spells levels bytes xs) (sym (append_assoc attrs (record { name = name_in rest; value = value } ∷ []) others))
-        (so.sound (record { name = name_in rest; value = value } ∷ others) (attribute levels rest value others _ w s t refl));
-    bad = λ error f. so.bad error (later levels at rest error value w s f)
-    }
+  room = let r : at + length rest < 2 ^ 64 = so.room in let b : length (behind rest) + padded (length_in rest) ≡ length rest = length-behind rest w in omega arith;
+  sound = λ others t. subst (λ (xs : List Attr). Spells levels bytes xs) (sym (append_assoc attrs (record { name = name_in rest; value = value } ∷ []) others))
+      (so.sound (record { name = name_in rest; value = value } ∷ others) (attribute levels rest value others _ w s t refl));
+  bad = λ error f. so.bad error (later levels at rest error value w s f);
+}
 
 pub ends : (levels place at : ℕ) (bytes rest : List ℕ) (attrs : List Attr) → SoFar levels place at bytes rest attrs → length rest ≡ 0 → Spells levels bytes attrs
 ends levels place at bytes rest attrs so n =

@@ -96,7 +96,7 @@ high_type place bytes w r l h = unknown_held place bytes w r l (or_true (not (na
 
 past_unknown : (place : ℕ) (bytes : List ℕ) → 4 ≤ length bytes → padded (length_in bytes) ≤ length bytes → 4 ≤ length_in bytes → flag_in bytes ≡ 1 → type_in bytes ≤ 8
     → first_held (tests_of place bytes) ≡ first_held (record { holds = nat_eq (type_in bytes) 8; fault = Double place }
-      ∷ record { holds = is_misnamed bytes; fault = BadLength place } ∷ value_tests place (type_in bytes) (value_in bytes))
+    ∷ record { holds = is_misnamed bytes; fault = BadLength place } ∷ value_tests place (type_in bytes) (value_in bytes))
 past_unknown place bytes w r l f t =
     held_later (is_cut bytes) (Short place) (after_cut place bytes) (cut_false bytes w r) ∙ (held_later (nat_lt (length_in bytes) 4) (BadLength place) (after_small place bytes) (lt_false _ _ l)
     ∙ held_later (is_unknown bytes) (BadType place) (after_unknown place bytes) (unknown_false bytes f t))
@@ -188,10 +188,11 @@ table_at place type bytes e = tests_at place type 2 bytes e (no_test place 2 byt
 
 nested_cases : (type : ℕ) → is_nested type ≡ true → (P : Type 0) → (type ≡ 1 → P) → (type ≡ 2 → P) → P
 nested_cases type h P one two =
-    elim (nat_eq type 1) as (λ b. nat_eq type 1 ≡ b → P)
-    [ true ↦ (λ e. one (let q : nat_eq type 1 ≡ true = e in grind (arith, nat_tests)))
-    | false ↦ (λ e. two (let q : nat_eq type 1 ≡ false = e in let g : (nat_eq type 1 || nat_eq type 2) ≡ true = h in
-        let k : nat_eq type 2 ≡ true = sym (ap (λ b. b || nat_eq type 2) q) ∙ g in grind (arith, nat_tests))) ] refl
+    elim (nat_eq type 1) as (λ b. nat_eq type 1 ≡ b → P) [
+      | true ↦ (λ e. one (let q : nat_eq type 1 ≡ true = e in grind (arith, nat_tests)))
+      | false ↦ (λ e. two (let q : nat_eq type 1 ≡ false = e in let g : (nat_eq type 1 || nat_eq type 2) ≡ true = h in
+          let k : nat_eq type 2 ≡ true = sym (ap (λ b. b || nat_eq type 2) q) ∙ g in grind (arith, nat_tests)))
+    ] refl
 
 pub nested_tests : (place type : ℕ) (bytes : List ℕ) → is_nested type ≡ true → first_held (value_tests place type bytes) ≡ None
 nested_tests place type bytes h = nested_cases type h (first_held (value_tests place type bytes) ≡ None) (nested_at place type bytes) (table_at place type bytes)

@@ -10,7 +10,12 @@ use plane_io::Text;
 use std::alloc::Global;
 
 /// Reads a value that holds no attributes. `place` is that of its attribute in the whole.
-pub(crate) fn read_leaf(alloc: Global, kind: u8, bytes: &[u8], place: usize) -> Result<Blob, BlobError>
+pub(crate) fn read_leaf(
+    alloc: Global,
+    kind: u8,
+    bytes: &[u8],
+    place: usize,
+) -> Result<Blob, BlobError>
     requires known { kind ≤ 7 }
     requires leaf { is_nested kind ≡ false }
     ensures found { IfOk result (λ value. IsLeaf kind bytes.now value) }

@@ -30,6 +30,8 @@ use std::alloc::Global;
 /// memory.
 pub fn read_blob(alloc: Global, bytes: &[u8]) -> Result<Items<Attr>, BlobError>
     ensures found { IfOk result (λ attrs. SpellsBlob bytes.now attrs) }
+    ensures only { IfOk result (λ attrs.
+        (others : List Attr) → SpellsBlob bytes.now others → others ≡ attrs) }
     ensures refused { (error : BlobError) → result ≡ Err error → error ≢ BlobError.Memory →
         IsBlobFault bytes.now error }
 {

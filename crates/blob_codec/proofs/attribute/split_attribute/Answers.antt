@@ -63,13 +63,18 @@ returns-clause-found c =
     let room : value_place c.args.bytes.now ≤ length_in c.args.bytes.now = omega arith in
     record {
       whole = record {
-        word = h.word; room = h.room; least = h.least; flag = h.flag; type = h.type; name_room = room;
-        name_end = ap is_terminated (sym e) ∙ (sym c.ends_at_nul.ensures ∙ c.if-not-ends_at_nul.false)
+        word = h.word;
+        room = h.room;
+        least = h.least;
+        flag = h.flag;
+        type = h.type;
+        name_room = room;
+        name_end = ap is_terminated (sym e) ∙ (sym c.ends_at_nul.ensures ∙ c.if-not-ends_at_nul.false);
       };
       kind_is = h.kind_is;
       name_is = name_from c.args.bytes.now _ _ _ c.split_at.ensures.back c.split_at-3.ensures.front n;
       value_is = value_from c.args.bytes.now _ _ _ _ c.split_at-4.ensures.front c.split_at-5.ensures.back l v;
       value_place_is = v;
       size_is = s;
-      behind_is = behind_from c.args.bytes.now _ _ c.split_at-6.ensures.back s
+      behind_is = behind_from c.args.bytes.now _ _ c.split_at-6.ensures.back s;
     }
