@@ -1,5 +1,5 @@
 -- Blobs whose reading and faults the checker computes.
-use Rattle.std.proofs.Common.{ℕ, ◌≡◌, ◌<◌, ◌≤◌, List, [], ◌∷◌, refl, lit<, lit≤}
+use Rattle.std.proofs.Common.{ℕ, List, [], ◌∷◌, refl, lit<, lit≤}
 use Rattle.blob_codec.specs.declared.blob.TheConstants.{MOST_LEVELS}
 use Rattle.blob_codec.specs.declared.blob.Blob.TheVariants.{Str}
 use Rattle.blob_codec.specs.declared.blob_error.BlobError.TheVariants.{Short, BadLength, BadType, Double, NoNul}

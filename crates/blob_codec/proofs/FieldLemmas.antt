@@ -1,9 +1,7 @@
 -- Bounds on the fields of an attribute.
-use Rattle.std.proofs.Common.{ℕ, ◌≡◌, ◌+◌, ◌*◌, ◌/◌, ◌%◌, ◌^◌, ◌<◌, ◌≤◌, List, length, take, drop, arith, w32, sym, subst, ap, ◌∙◌}
-use Rattle.std.specs.Int.{from_be_bytes}
-use Rattle.std.proofs.lemmas.Grind.{common_steps}
+use Rattle.std.proofs.Common.{ℕ, ◌≡◌, ◌+◌, ◌^◌, ◌<◌, ◌≤◌, List, length, take, drop, arith, ap, ◌∙◌}
 use Rattle.std.proofs.lemmas.List.{length-take, length-drop}
-use Rattle.blob_codec.specs.Attribute.{padded, word_in, flag_in, type_in, length_in, name_length_in, named_in, name_in, value_place, value_in, behind, IsWhole}
+use Rattle.blob_codec.specs.Attribute.{padded, type_in, length_in, name_length_in, named_in, name_in, value_place, value_in, behind, IsWhole}
 
 pub padded_least : (n : ℕ) → n ≤ padded n
 unfolding padded

@@ -1,14 +1,13 @@
 -- Bytes have one reading, or one first fault, and not both.
-use Rattle.std.proofs.Common.{ℕ, suc, ◌≡◌, ◌+◌, ◌<◌, ◌≤◌, Bool, true, false, cond, List, [], ◌∷◌, length, Option, Some, None, nat_eq, arith, ap, ◌∙◌, sym, refl, subst, Result, Ok, Err, IfOk}
-use Rattle.std.specs.Prelude.{◌||◌}
+use Rattle.std.proofs.Common.{ℕ, suc, ◌≡◌, ◌+◌, ◌≤◌, Bool, true, false, cond, List, length, Option, Some, None, nat_eq, arith, ap, ◌∙◌, sym, subst, Result, Ok, Err, IfOk}
 use Rattle.std.specs.Int.{w8, w16, w32, w64, from_be_bytes, cast_signed}
 use Rattle.blob_codec.specs.declared.blob.Blob.{Blob}
 use Rattle.blob_codec.specs.declared.blob.Blob.TheVariants.{Unspec, Array, Table, Str, I64, I32, I16, I8}
 use Rattle.blob_codec.specs.declared.blob.Attr.{Attr}
 use Rattle.blob_codec.specs.declared.blob_error.BlobError.{BlobError}
-use Rattle.blob_codec.specs.Attribute.{IsWhole, without_last, padded, type_in, name_in, length_in, value_place, value_in, behind}
+use Rattle.blob_codec.specs.Attribute.{IsWhole, without_last, padded, type_in, length_in, value_place, value_in, behind}
 use Rattle.blob_codec.specs.Blob.{IsLeaf, IsNested, nothing, string, int64, int32, int16, int8, array, table, Spells, SpellsValue, none, attribute, leaf, nested}
-use Rattle.blob_codec.specs.Fault.{IsFirstFault, front, deep, inside, later, first_held, tests_of, value_tests, is_nested}
+use Rattle.blob_codec.specs.Fault.{IsFirstFault, front, deep, inside, later, first_held, tests_of, is_nested}
 use Rattle.blob_codec.proofs.TestLemmas.{whole_tests, leaf_tests, nested_tests}
 
 -- the value of a leaf, and of attributes, by the type

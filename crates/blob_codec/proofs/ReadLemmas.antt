@@ -1,5 +1,5 @@
 -- What the reader has found so far.
-use Rattle.std.proofs.Common.{ℕ, suc, ◌≡◌, ◌+◌, ◌<◌, ◌≤◌, ◌^◌, List, [], ◌∷◌, ◌++◌, length, arith, refl, subst, append_assoc, append-nil, sym, ◌∙◌, Some, Result, Ok, Err, IfOk, IsTrue, nat_eq, true, false}
+use Rattle.std.proofs.Common.{ℕ, ◌≡◌, ◌+◌, ◌<◌, ◌≤◌, ◌^◌, List, [], ◌∷◌, ◌++◌, length, arith, refl, subst, append_assoc, append-nil, sym, ◌∙◌, Some, Result, Ok, Err, IfOk, IsTrue, nat_eq, true, false}
 use Rattle.std.proofs.lemmas.Bool.Decides.{nat_tests}
 use Rattle.blob_codec.specs.declared.blob.Blob.{Blob}
 use Rattle.blob_codec.specs.declared.blob.Blob.TheVariants.{Array, Table}

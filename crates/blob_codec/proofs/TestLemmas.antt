@@ -1,15 +1,13 @@
 -- Which test holds first.
-use Rattle.std.proofs.Common.{ℕ, ◌≡◌, ◌≢◌, ◌+◌, ◌<◌, ◌≤◌, Bool, true, false, not, cond, List, [], ◌∷◌, length, Option, Some, None, nat_eq, nat_lt, arith, ap, ◌∙◌, sym, refl}
+use Rattle.std.proofs.Common.{ℕ, ◌≡◌, ◌≢◌, ◌<◌, ◌≤◌, Bool, true, false, not, cond, List, [], ◌∷◌, length, Some, None, nat_eq, nat_lt, arith, ap, ◌∙◌, sym, refl}
 use Rattle.std.specs.Prelude.{◌||◌, ◌&&◌}
 use Rattle.std.proofs.lemmas.Bool.Decides.{nat_tests}
 use Rattle.blob_codec.specs.declared.blob.Blob.{Blob}
-use Rattle.blob_codec.specs.declared.blob.Attr.{Attr}
 use Rattle.blob_codec.specs.declared.blob_error.BlobError.{BlobError}
-use Rattle.blob_codec.specs.declared.blob_error.BlobError.TheVariants.{Short, BadLength, BadType, Double, NoNul, Deep}
-use Rattle.blob_codec.specs.Attribute.{IsWhole, is_terminated, padded, flag_in, type_in, length_in, named_in, value_place, value_in, behind}
-use Rattle.blob_codec.specs.Blob.{IsLeaf, IsNested, nothing, string, int64, int32, int16, int8, array, table}
+use Rattle.blob_codec.specs.declared.blob_error.BlobError.TheVariants.{Short, BadLength, BadType, Double, NoNul}
+use Rattle.blob_codec.specs.Attribute.{IsWhole, is_terminated, padded, flag_in, type_in, length_in, named_in, value_place, value_in}
+use Rattle.blob_codec.specs.Blob.{IsLeaf, nothing, string, int64, int32, int16, int8}
 use Rattle.blob_codec.specs.Fault.{Test, first_held, tests_of, value_tests, is_cut, is_unknown, is_misnamed, is_missized, is_unended, is_nested}
-use Rattle.blob_codec.proofs.FieldLemmas.{length_in_most, value_place_eight, padded_least}
 
 held_here : (holds : Bool) (fault : BlobError) (tests : List Test) → holds ≡ true → first_held (record { holds = holds; fault = fault } ∷ tests) ≡ Some fault
 held_here holds fault tests h = ap (λ b. cond b (Some fault) (first_held tests)) h

@@ -1,7 +1,6 @@
-use Rattle.std.proofs.Common.{◌≡◌, ◌<◌, ◌≤◌, ◌≢◌, length, arith}
-use Rattle.blob_codec.specs.Attribute.{padded, flag_in, type_in, length_in}
-use Rattle.blob_codec.specs.Found.{IsWord, IsHead}
-use Rattle.blob_codec.proofs.TestLemmas.{attribute_cut, too_small, no_flag, high_type, is_double}
+use Rattle.std.proofs.Common.{◌≡◌, arith}
+use Rattle.blob_codec.specs.Attribute.{length_in}
+use Rattle.blob_codec.specs.Found.{IsWord}
 use Rattle.blob_codec.proofs.FieldLemmas.{length_in_most}
 use Rattle.blob_codec.proofs.attribute.read_head.Goals as goal
 

@@ -1,4 +1,4 @@
-use Rattle.std.proofs.Common.{◌≡◌, ◌<◌, ◌≤◌, ◌+◌, ◌-◌, suc, length, arith, rules, sym, ◌∙◌, ap, Err, Some, refl}
+use Rattle.std.proofs.Common.{◌≡◌, ◌≤◌, ◌-◌, suc, arith, rules, sym, ◌∙◌, ap, Err, Some}
 use Rattle.std.proofs.lemmas.Result.{err_from_is_err_and}
 use Rattle.blob_codec.specs.Attribute.{type_in, value_place}
 use Rattle.blob_codec.specs.Found.{of_inner, of_nested, HasParts}

@@ -1,4 +1,4 @@
-use Rattle.std.proofs.Common.{ℕ, ◌+◌, ◌*◌, length}
+use Rattle.std.proofs.Common.{◌+◌, ◌*◌, length}
 use Rattle.blob_codec.specs.Found.{SoFar}
 use Rattle.blob_codec.proofs.read.+read.Given as goal
 
