@@ -3,3 +3,4 @@ pub mod TestLemmas
 pub mod LawLemmas
 pub mod ReadLemmas
 pub mod Examples
+pub mod AsTextLemmas

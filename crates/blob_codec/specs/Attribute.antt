@@ -49,14 +49,16 @@ behind bytes = drop (padded (length_in bytes)) bytes
 
 -- a byte is zero, and the first one is the last byte
 unfoldable pub is_terminated : List ℕ → Bool
-is_terminated bytes = unwrap_or (option_map (λ place. nat_eq (place + 1) (length bytes)) (position is_nul bytes)) false
+is_terminated bytes =
+    unwrap_or (option_map (λ place. nat_eq (place + 1) (length bytes)) (position is_nul bytes)) false
 
 -- the bytes without the last one
 unfoldable pub without_last : List ℕ → List ℕ
 without_last bytes = take (length bytes - 1) bytes
 
--- An attribute is in front, whole but for its value: its word is there, its padding too, it has a name, a known type
--- that is taken, and its name is as long as told, ends with a zero byte, and leaves its room to the value.
+-- An attribute is in front, whole but for its value: its word is there, its padding too, it has a
+-- name, a known type that is taken, and its name is as long as told, ends with a zero byte, and
+-- leaves its room to the value.
 pub record IsWhole (bytes : List ℕ) : Type 0 where
   pub word : 4 ≤ length bytes
   pub room : padded (length_in bytes) ≤ length bytes

@@ -3,8 +3,8 @@ use Rattle.std.specs.Prelude.{ℕ}
 use Rattle.blob_codec.specs.declared.blob_error.BlobError.{BlobError}
 use Rattle.blob_codec.specs.declared.blob_error.BlobError.TheVariants.{Short, BadLength, BadType, Double, NoNul, Deep, Memory}
 
--- 40 for an attribute cut short, 41 for a bad length, 42 for a bad type, 43 for a double, 44 for a string without its
--- zero byte, 45 for nesting too deep, 8 for memory
+-- 40 for an attribute cut short, 41 for a bad length, 42 for a bad type, 43 for a double, 44 for a
+-- string without its zero byte, 45 for nesting too deep, 8 for memory
 abbrev pub number_of : BlobError → ℕ
 number_of (Short at) = 40
 number_of (BadLength at) = 41

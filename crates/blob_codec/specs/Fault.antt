@@ -1,4 +1,5 @@
--- The first fault of bytes that spell no list of attributes, with the place of its attribute's first byte.
+-- The first fault of bytes that spell no list of attributes, with the place of its attribute's
+-- first byte.
 use Rattle.std.specs.Prelude.{ℕ, suc, ◌+◌, ◌≡◌, ◌<◌, List, [], ◌∷◌, length, Bool, IsTrue, not, ◌||◌, ◌&&◌, nat_eq, nat_lt, Option, Some, None, if◌then◌else◌}
 use Rattle.blob_codec.specs.declared.blob.TheConstants.{MOST_LEVELS}
 use Rattle.blob_codec.specs.declared.blob.Blob.{Blob}
@@ -27,13 +28,18 @@ is_unknown bytes = not (nat_eq (flag_in bytes) 1) || nat_lt 8 (type_in bytes)
 
 -- the name does not leave its room to the value, or its first zero byte is not where it ends
 abbrev pub is_misnamed : List ℕ → Bool
-is_misnamed bytes = nat_lt (length_in bytes) (value_place bytes) || not (is_terminated (named_in bytes))
+is_misnamed bytes = nat_lt (length_in bytes) (value_place bytes)
+    || not (is_terminated (named_in bytes))
 
--- the value has another size than its type: nothing has 0 bytes, an int64 8, an int32 4, an int16 2, an int8 1
+-- the value has another size than its type: nothing has 0 bytes, an int64 8, an int32 4, an int16
+-- 2, an int8 1
 abbrev pub is_missized : ℕ → ℕ → Bool
 is_missized type size =
-    (nat_eq type 0 && not (nat_eq size 0)) || ((nat_eq type 4 && not (nat_eq size 8)) || ((nat_eq type 5 && not (nat_eq size 4))
-    || ((nat_eq type 6 && not (nat_eq size 2)) || (nat_eq type 7 && not (nat_eq size 1)))))
+    (nat_eq type 0 && not (nat_eq size 0))
+    || ((nat_eq type 4 && not (nat_eq size 8))
+    || ((nat_eq type 5 && not (nat_eq size 4))
+    || ((nat_eq type 6 && not (nat_eq size 2))
+    || (nat_eq type 7 && not (nat_eq size 1)))))
 
 -- the value is a string without a zero byte, or with one in front of its last byte
 abbrev pub is_unended : ℕ → List ℕ → Bool
@@ -59,20 +65,25 @@ tests_of place bytes =
 abbrev pub is_nested : ℕ → Bool
 is_nested type = nat_eq type 1 || nat_eq type 2
 
--- Bytes of a list that begins at this place of the whole, where at most so many arrays and tables stand within one
--- another, have this first fault: that of the attribute in front, at last that it nests too deep; or where it has none of
--- its own, the first fault inside it; or where it is spelled, the first fault behind it.
+-- Bytes of a list that begins at this place of the whole, where at most so many arrays and tables
+-- stand within one another, have this first fault: that of the attribute in front, at last that it
+-- nests too deep; or where it has none of its own, the first fault inside it; or where it is
+-- spelled, the first fault behind it.
 pub data IsFirstFault : ℕ → ℕ → List ℕ → BlobError → Type 0 where
   front : (levels place : ℕ) (bytes : List ℕ) (error : BlobError)
-      → 0 < length bytes → first_held (tests_of place bytes) ≡ Some error → IsFirstFault levels place bytes error
+      → 0 < length bytes → first_held (tests_of place bytes) ≡ Some error
+      → IsFirstFault levels place bytes error
   deep : (levels place : ℕ) (bytes : List ℕ) (error : BlobError)
-      → IsWhole bytes → IsTrue (is_nested (type_in bytes)) → levels ≡ 0 → error ≡ Deep place → IsFirstFault levels place bytes error
+      → IsWhole bytes → IsTrue (is_nested (type_in bytes)) → levels ≡ 0 → error ≡ Deep place
+      → IsFirstFault levels place bytes error
   inside : (levels fewer place : ℕ) (bytes : List ℕ) (error : BlobError)
       → IsWhole bytes → IsTrue (is_nested (type_in bytes)) → levels ≡ suc fewer
-      → IsFirstFault fewer (place + value_place bytes) (value_in bytes) error → IsFirstFault levels place bytes error
+      → IsFirstFault fewer (place + value_place bytes) (value_in bytes) error
+      → IsFirstFault levels place bytes error
   later : (levels place : ℕ) (bytes : List ℕ) (error : BlobError) (value : Blob)
       → IsWhole bytes → SpellsValue levels (type_in bytes) (value_in bytes) value
-      → IsFirstFault levels (place + padded (length_in bytes)) (behind bytes) error → IsFirstFault levels place bytes error
+      → IsFirstFault levels (place + padded (length_in bytes)) (behind bytes) error
+      → IsFirstFault levels place bytes error
 
 -- the first fault of bytes that are no blob
 abbrev pub IsBlobFault : List ℕ → BlobError → Type 0

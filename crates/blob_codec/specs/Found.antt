@@ -36,15 +36,19 @@ pub record HasParts (bytes : List ℕ) (parts : Parts) : Type 0 where
   pub size_is : parts.size ≡ padded (length_in bytes)
   pub behind_is : parts.behind.now ≡ behind bytes
 
--- attributes inside a value, or the fault of a value that holds them: `place` is that of its attribute, `inner` its own
+-- attributes inside a value, or the fault of a value that holds them: `place` is that of its
+-- attribute, `inner` its own
 pub data IsInnerFault (levels place inner : ℕ) (bytes : List ℕ) (error : BlobError) : Type 0 where
   too_deep : levels ≡ 0 → error ≡ Deep place → IsInnerFault levels place inner bytes error
-  of_inner : (fewer : ℕ) → levels ≡ suc fewer → IsFirstFault fewer inner bytes error → IsInnerFault levels place inner bytes error
+  of_inner : (fewer : ℕ) → levels ≡ suc fewer → IsFirstFault fewer inner bytes error
+      → IsInnerFault levels place inner bytes error
 
 -- the fault of a value: that of the tests, or of a value that holds attributes
 pub data IsValueFault (levels place inner type : ℕ) (bytes : List ℕ) (error : BlobError) : Type 0 where
-  of_tests : first_held (value_tests place type bytes) ≡ Some error → IsValueFault levels place inner type bytes error
-  of_nested : IsTrue (is_nested type) → IsInnerFault levels place inner bytes error → IsValueFault levels place inner type bytes error
+  of_tests : first_held (value_tests place type bytes) ≡ Some error
+      → IsValueFault levels place inner type bytes error
+  of_nested : IsTrue (is_nested type) → IsInnerFault levels place inner bytes error
+      → IsValueFault levels place inner type bytes error
 
 -- one level deeper the bytes spell the attributes
 pub record SpellsDeeper (levels : ℕ) (bytes : List ℕ) (attrs : List Attr) : Type 0 where
@@ -52,9 +56,11 @@ pub record SpellsDeeper (levels : ℕ) (bytes : List ℕ) (attrs : List Attr) : 
   pub level : levels ≡ suc fewer
   pub spelled : Spells fewer bytes attrs
 
--- the attributes are spelled in front of a rest that begins at `at`: whatever it spells follows them, and its fault is
--- that of the whole
+-- the attributes are spelled in front of a rest that begins at `at`: whatever it spells follows
+-- them, and its fault is that of the whole
 pub record SoFar (levels place at : ℕ) (bytes rest : List ℕ) (attrs : List Attr) : Type 0 where
   pub room : at + length rest < 2 ^ 64
-  pub sound : (others : List Attr) → Spells levels rest others → Spells levels bytes (attrs ++ others)
-  pub bad : (error : BlobError) → IsFirstFault levels at rest error → IsFirstFault levels place bytes error
+  pub sound : (others : List Attr) → Spells levels rest others
+      → Spells levels bytes (attrs ++ others)
+  pub bad : (error : BlobError) → IsFirstFault levels at rest error
+      → IsFirstFault levels place bytes error

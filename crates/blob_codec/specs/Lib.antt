@@ -10,3 +10,5 @@ pub mod Blob
 pub mod Fault
 -- what the reader finds
 pub mod Found
+-- the text that JSON gives bytes
+pub mod AsText

@@ -6,14 +6,15 @@ use plane_io::Memory;
 use std::alloc::{AllocError, AllocFailed};
 use thiserror::Error;
 
-/// Why bytes were not read as a blob: the first fault with the place of its attribute's first byte, or want of memory.
+/// Why bytes were not read as a blob: the first fault with the place of its attribute's first byte,
+/// or want of memory.
 #[derive(Clone, Copy, Debug, PartialEq, Eq, Error)]
 pub enum BlobError {
     /// Fewer than four bytes are left, or the attribute with its padding passes the end.
     #[error("the attribute at {at} is cut short")]
     Short { at: usize },
-    /// The length is below 4, the name does not end within the attribute at its zero byte, or the value has another size
-    /// than its type.
+    /// The length is below 4, the name does not end within the attribute at its zero byte, or the
+    /// value has another size than its type.
     #[error("the attribute at {at} has a bad length")]
     BadLength { at: usize },
     /// The attribute is not one of the message bus, or has an unknown type.
@@ -34,8 +35,8 @@ pub enum BlobError {
 }
 
 impl BlobError {
-    /// The number of the kind of error: 40 for `Short`, 41 for `BadLength`, 42 for `BadType`, 43 for `Double`, 44 for
-    /// `NoNul`, 45 for `Deep`, 8 for `Memory`.
+    /// The number of the kind of error: 40 for `Short`, 41 for `BadLength`, 42 for `BadType`, 43
+    /// for `Double`, 44 for `NoNul`, 45 for `Deep`, 8 for `Memory`.
     pub fn number(&self) -> u8
         ensures { result ≡ number_of self.now }
     {

@@ -1,6 +1,7 @@
 //! Blobs, the typed attribute lists of OpenWrt's message bus (libubox's blobmsg), read and written.
 #![tactic(auto)]
 
+mod as_text;
 mod attribute;
 mod blob;
 mod blob_error;
@@ -10,6 +11,7 @@ mod leaf;
 mod nul;
 mod read;
 
+pub use as_text::json_text;
 pub use blob::{Attr, Blob, MOST_LEVELS};
 pub use blob_error::BlobError;
 pub use copy::copy_attrs;

@@ -12,22 +12,25 @@ use plane_io::Text;
 use sqlite_items::Items;
 use std::alloc::Global;
 
-/// Reads a blob: a list of attributes, each with a name and a typed value, and padded to a multiple of 4 bytes.
+/// Reads a blob: a list of attributes, each with a name and a typed value, and padded to a multiple
+/// of 4 bytes.
 ///
-/// An attribute is a number of four bytes, the highest byte first, and data. The number is a set bit, seven bits of type,
-/// and 24 bits of length: that of the whole without padding. The data are the length of the name in two bytes, the name,
-/// a zero byte, padding to a multiple of 4, and the value. Padding may hold any bytes, and is there behind the last
-/// attribute too. The type is 0 for nothing, 1 for an array, 2 for a table, 3 for a string with a zero byte at its end
-/// alone, 4 to 7 for signed numbers of 8, 4, 2 and 1 bytes, the highest byte first, and 8 for a double.
+/// An attribute is a number of four bytes, the highest byte first, and data. The number is a set
+/// bit, seven bits of type, and 24 bits of length: that of the whole without padding. The data are
+/// the length of the name in two bytes, the name, a zero byte, padding to a multiple of 4, and the
+/// value. Padding may hold any bytes, and is there behind the last attribute too. The type is 0 for
+/// nothing, 1 for an array, 2 for a table, 3 for a string with a zero byte at its end alone, 4 to 7
+/// for signed numbers of 8, 4, 2 and 1 bytes, the highest byte first, and 8 for a double.
 ///
 /// # Errors
 ///
-/// The first fault, with the place of its attribute's first byte. Attributes are tested from front to back, each before
-/// those inside it, by these tests in their order. `Short`: it passes the end. `BadLength`: its length is below 4.
-/// `BadType`: the first bit is not set, or the type is above 8. `Double`: the type is 8. `BadLength`: the name leaves no
-/// room, or its first zero byte is not behind it; or the value has another size than its type. `NoNul`: a string's first
-/// zero byte is not its last. `Deep`: it is an array or a table within 32 others. `Memory` where there was not enough
-/// memory.
+/// The first fault, with the place of its attribute's first byte. Attributes are tested from front
+/// to back, each before those inside it, by these tests in their order. `Short`: it passes the end.
+/// `BadLength`: its length is below 4. `BadType`: the first bit is not set, or the type is above 8.
+/// `Double`: the type is 8. `BadLength`: the name leaves no room, or its first zero byte is not
+/// behind it; or the value has another size than its type. `NoNul`: a string's first zero byte is
+/// not its last. `Deep`: it is an array or a table within 32 others. `Memory` where there was not
+/// enough memory.
 pub fn read_blob(alloc: Global, bytes: &[u8]) -> Result<Items<Attr>, BlobError>
     ensures found { IfOk result (λ attrs. SpellsBlob bytes.now attrs) }
     ensures only { IfOk result (λ attrs.
