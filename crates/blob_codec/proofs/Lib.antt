@@ -4,3 +4,4 @@ pub mod LawLemmas
 pub mod ReadLemmas
 pub mod Examples
 pub mod AsTextLemmas
+pub mod TotalLemmas

@@ -53,19 +53,19 @@ unknown_false : (bytes : List ℕ) → flag_in bytes ≡ 1 → type_in bytes ≤
 unknown_false bytes h g = or_false (not (nat_eq (flag_in bytes) 1)) _ (not_false _ (eq_true _ _ h)) (lt_false _ _ g)
 
 -- the tests behind each test
-abbrev after_double : ℕ → List ℕ → List Test
+abbrev pub after_double : ℕ → List ℕ → List Test
 after_double place bytes = record { holds = is_misnamed bytes; fault = BadLength place } ∷ value_tests place (type_in bytes) (value_in bytes)
 
-abbrev after_unknown : ℕ → List ℕ → List Test
+abbrev pub after_unknown : ℕ → List ℕ → List Test
 after_unknown place bytes = record { holds = nat_eq (type_in bytes) 8; fault = Double place } ∷ after_double place bytes
 
-abbrev after_small : ℕ → List ℕ → List Test
+abbrev pub after_small : ℕ → List ℕ → List Test
 after_small place bytes = record { holds = is_unknown bytes; fault = BadType place } ∷ after_unknown place bytes
 
-abbrev after_cut : ℕ → List ℕ → List Test
+abbrev pub after_cut : ℕ → List ℕ → List Test
 after_cut place bytes = record { holds = nat_lt (length_in bytes) 4; fault = BadLength place } ∷ after_small place bytes
 
-abbrev after_size : ℕ → ℕ → List ℕ → List Test
+abbrev pub after_size : ℕ → ℕ → List ℕ → List Test
 after_size place type bytes = record { holds = is_unended type bytes; fault = NoNul place } ∷ []
 
 pub word_cut : (place : ℕ) (bytes : List ℕ) → length bytes < 4 → first_held (tests_of place bytes) ≡ Some (Short place)
@@ -184,7 +184,7 @@ nested_at place type bytes e = tests_at place type 1 bytes e (no_test place 1 by
 table_at : (place : ℕ) (type : ℕ) (bytes : List ℕ) → (type ≡ 2 → first_held (value_tests place type bytes) ≡ None)
 table_at place type bytes e = tests_at place type 2 bytes e (no_test place 2 bytes refl refl)
 
-nested_cases : (type : ℕ) → is_nested type ≡ true → (P : Type 0) → (type ≡ 1 → P) → (type ≡ 2 → P) → P
+pub nested_cases : (type : ℕ) → is_nested type ≡ true → (P : Type 0) → (type ≡ 1 → P) → (type ≡ 2 → P) → P
 nested_cases type h P one two =
     elim (nat_eq type 1) as (λ b. nat_eq type 1 ≡ b → P) [
       | true ↦ (λ e. one (let q : nat_eq type 1 ≡ true = e in grind (arith, nat_tests)))

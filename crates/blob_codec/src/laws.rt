@@ -1,4 +1,4 @@
-ghost use Rattle.std.specs.Prelude.{◌≡◌, List, ℕ};
+ghost use Rattle.std.specs.Prelude.{◌≡◌, ◌⊎◌, List, ℕ};
 ghost use Rattle.blob_codec.specs.declared.blob.Attr.{Attr};
 ghost use Rattle.blob_codec.specs.declared.blob_error.BlobError.{BlobError};
 ghost use Rattle.blob_codec.specs.Blob.{SpellsBlob};
@@ -20,4 +20,11 @@ pub fn one_fault()
 pub fn no_reading_with_fault()
     ensures { (bytes : List ℕ) (error : BlobError) (attrs : List Attr) → IsBlobFault bytes error →
         SpellsBlob bytes attrs → ⊥ }
+{}
+
+/// Bytes are a blob or have a first fault: so they are a blob exactly where they have no fault.
+pub fn reading_or_fault()
+    ensures { (bytes : List ℕ) →
+        ((attrs : List Attr) × SpellsBlob bytes attrs)
+        ⊎ ((error : BlobError) × IsBlobFault bytes error) }
 {}

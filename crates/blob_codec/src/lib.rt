@@ -15,5 +15,5 @@ pub use as_text::json_text;
 pub use blob::{Attr, Blob, MOST_LEVELS};
 pub use blob_error::BlobError;
 pub use copy::copy_attrs;
-pub use laws::{no_reading_with_fault, one_fault, one_reading};
+pub use laws::{no_reading_with_fault, one_fault, one_reading, reading_or_fault};
 pub use read::read_blob;
