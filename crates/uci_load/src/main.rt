@@ -10,7 +10,7 @@ use plane_real::StdSource;
 use std::alloc::Global;
 use std::process::ExitCode;
 use std::rt::Env;
-use std::{env, io};
+use std::{env, io, mem};
 use uci_text::read_commands;
 use uci_tree::{TreeError, read_package};
 
@@ -38,7 +38,13 @@ impl Part {
         requires { length text.now < 2 ^ 32 - 1 }
     {
         match self {
-            Part::Commands => Ok(read_commands(alloc, text)?.as_slice().len()),
+            Part::Commands => {
+                let commands = read_commands(alloc, text)?;
+                let count = commands.as_slice().len();
+                // The program ends now: what it holds need not be given back piece by piece.
+                mem::forget(commands);
+                Ok(count)
+            }
             Part::Sections => Ok(
                 read_package(alloc, b"network", text)?
                     .sections

@@ -1,13 +1,16 @@
 -- The options that are there, by slots.
-use Rattle.std.proofs.Common.{ℕ, zero, suc, ◌≡◌, ◌≢◌, ◌<◌, ◌↔◌, ◌⊎◌, inl, inr, Bool, true, false, cond, List, [], ◌∷◌, ◌++◌, length, get_or, set, Option, Some, None, bytes_eq, refl, sym, ap, subst, ◌∙◌, arith, ⊎_elim}
+use Rattle.std.proofs.Common.{ℕ, zero, suc, ◌≡◌, ◌≢◌, ◌<◌, ◌≤◌, ◌+◌, ◌↔◌, ◌⊎◌, inl, inr, Bool, true, false, cond, List, [], ◌∷◌, ◌++◌, length, get_or, set, take, Option, Some, None, bytes_eq, refl, sym, ap, subst, ◌∙◌, arith, ⊎_elim}
 use Rattle.std.specs.Ordering.{nat_cmp}
 use Rattle.std.specs.Cmp.Lexicographic.{slice_cmp, texts_ties}
 use Rattle.std.specs.BTreeMap.{BTreeMap, get, is_at}
+use Rattle.std.specs.Prelude.{IfNone}
+use Rattle.std.proofs.lemmas.Bool.{cases_lt}
 use Rattle.std.proofs.lemmas.Slice.Eq.{bytes_eq-Decides}
 use Rattle.uci_tree.specs.declared.package.Value.{Value}
 use Rattle.uci_tree.specs.declared.package.Opt.{Opt}
 use Rattle.uci_tree.specs.Fold.{put, without}
-use Rattle.uci_tree.specs.Slots.{kept, value_of, Holds, HoldsAt, HasSlots}
+use Rattle.uci_tree.specs.declared.options.TheConstants.{SCANNED}
+use Rattle.uci_tree.specs.Slots.{kept, value_of, Holds, HoldsAt, AreApart, HasLaterSlots, HasSlots, Notes, Noted}
 
 -- tests of names
 refuted : (b : Bool) → (b ≡ true → ⊥) → b ≡ false
@@ -29,7 +32,7 @@ is_other : (a b : List ℕ) → a ≢ b → bytes_eq a b ≡ false
 is_other a b n = refuted (bytes_eq a b) (λ e. n ((bytes_eq-Decides a b).0 e))
 
 -- where a slot has a name
-held_within : (name : List ℕ) (slots : List (Option Opt)) (place : ℕ) → HoldsAt name slots place → place < length slots
+pub held_within : (name : List ℕ) (slots : List (Option Opt)) (place : ℕ) → HoldsAt name slots place → place < length slots
 held_within name [] place h = absurd h
 held_within name (slot ∷ slots) zero h = omega arith
 held_within name (slot ∷ slots) (suc place) h = let g : place < length slots = held_within name slots place h in omega arith
@@ -52,11 +55,12 @@ written_held name other value (slot ∷ slots) zero (suc at) h = (λ g. g, λ g.
 written_held name other value (slot ∷ slots) (suc place) zero h = (λ g. g, λ g. g)
 written_held name other value (slot ∷ slots) (suc place) (suc at) h = written_held name other value slots place at h
 
-pub written_slots : (places : BTreeMap (List ℕ) ℕ) (slots : List (Option Opt)) (name : List ℕ) (value : Value) (place : ℕ) → HasSlots places slots → get (slice_cmp nat_cmp) places name ≡ Some place → HasSlots places (set slots place (Some (record { name = name; value = value })))
-written_slots places slots name value place h e other at =
-    let there : HoldsAt name slots place = (h name place).0 e in
-    let same = written_held name other value slots place at there in
-    (λ g. same.0 ((h other at).0 g), λ g. (h other at).1 (same.1 g))
+pub written_slots : (places : BTreeMap (List ℕ) ℕ) (slots : List (Option Opt)) (name : List ℕ) (value : Value) (place : ℕ) → HasSlots places slots → HoldsAt name slots place → HasSlots places (set slots place (Some (record { name = name; value = value })))
+written_slots places slots name value place h there = record {
+  apart = λ other at also a b. h.apart other at also ((written_held name other value slots place at there).1 a) ((written_held name other value slots place also there).1 b);
+  later = λ other at. let same = written_held name other value slots place at there in
+      (λ e. let g = (h.later other at).0 e in (same.0 g.0, g.1), λ g. (h.later other at).1 (same.1 g.0, g.1));
+}
 
 -- a slot at the end
 push_keeps : (other : List ℕ) (slots : List (Option Opt)) (slot : Option Opt) (at : ℕ) → HoldsAt other slots at → HoldsAt other (slots ++ slot ∷ []) at
@@ -93,15 +97,10 @@ emptied_from other (slot ∷ slots) (suc place) zero h = (h, λ e. absurd (omega
 emptied_from other (slot ∷ slots) (suc place) (suc at) h = let g = emptied_from other slots place at h in (g.0, λ e. g.1 (omega (arith, e)))
 
 -- a name is noted or taken out
-Notes : BTreeMap (List ℕ) ℕ → BTreeMap (List ℕ) ℕ → List ℕ → Option ℕ → Type 0
-Notes old new name place = (other : List ℕ) → get (slice_cmp nat_cmp) new other ≡ cond (is_at (slice_cmp nat_cmp name) other) place (get (slice_cmp nat_cmp) old other)
-
 noted_here : (old new : BTreeMap (List ℕ) ℕ) (name other : List ℕ) (place : Option ℕ) → Notes old new name place → name ≡ other → get (slice_cmp nat_cmp) new other ≡ place
-unfolding Notes
 noted_here old new name other place h e = h other ∙ where_true (is_at (slice_cmp nat_cmp name) other) place (get (slice_cmp nat_cmp) old other) (sym (texts_ties name other) ∙ is_same name other e)
 
 noted_elsewhere : (old new : BTreeMap (List ℕ) ℕ) (name other : List ℕ) (place : Option ℕ) → Notes old new name place → name ≢ other → get (slice_cmp nat_cmp) new other ≡ get (slice_cmp nat_cmp) old other
-unfolding Notes
 noted_elsewhere old new name other place h n = h other ∙ where_false (is_at (slice_cmp nat_cmp name) other) place (get (slice_cmp nat_cmp) old other) (sym (texts_ties name other) ∙ is_other name other n)
 
 by_test : (a b : List ℕ) (t : Bool) → bytes_eq a b ≡ t → (a ≡ b) ⊎ (a ≢ b)
@@ -114,45 +113,138 @@ same_or_not a b = by_test a b (bytes_eq a b) refl
 no_place : (was : Option ℕ) (place : ℕ) → was ≡ None → was ≡ Some place → ⊥
 no_place was place e f = let g : None ≡ Some place = sym e ∙ f in cc
 
-pushed_by : (old new : BTreeMap (List ℕ) ℕ) (slots : List (Option Opt)) (name : List ℕ) (value : Value) → HasSlots old slots → get (slice_cmp nat_cmp) old name ≡ None → Notes old new name (Some (length slots)) → HasSlots new (slots ++ Some (record { name = name; value = value }) ∷ [])
-pushed_by old new slots name value h absent n other at =
+Absent : List ℕ → List (Option Opt) → Type 0
+Absent name slots = (at : ℕ) → HoldsAt name slots at → ⊥
+
+pushed_apart : (slots : List (Option Opt)) (name : List ℕ) (value : Value) → AreApart slots → Absent name slots → AreApart (slots ++ Some (record { name = name; value = value }) ∷ [])
+unfolding Absent
+pushed_apart slots name value h n other at also a b =
+    let slot : Option Opt = Some (record { name = name; value = value }) in
+    ⊎_elim
+    (λ old. ⊎_elim
+    (λ late. h other at also old late)
+    (λ last. absurd (n at (subst (λ (z : List ℕ). HoldsAt z slots at) (sym last.1) old)))
+    (push_from other slots slot also b))
+    (λ last. ⊎_elim
+    (λ late. absurd (n also (subst (λ (z : List ℕ). HoldsAt z slots also) (sym last.1) late)))
+    (λ end. last.0 ∙ sym end.0)
+    (push_from other slots slot also b))
+    (push_from other slots slot at a)
+
+pushed_first : (places : BTreeMap (List ℕ) ℕ) (slots : List (Option Opt)) (name : List ℕ) (value : Value) → HasLaterSlots places slots → length slots < SCANNED → HasLaterSlots places (slots ++ Some (record { name = name; value = value }) ∷ [])
+pushed_first places slots name value h few other at =
+    let slot : Option Opt = Some (record { name = name; value = value }) in (
+      λ e. let g = (h other at).0 e in (push_keeps other slots slot at g.0, g.1),
+      λ g. ⊎_elim
+          (λ old. (h other at).1 (old, g.1))
+          (λ last. absurd (omega (arith, last.0, few, g.1)))
+          (push_from other slots slot at g.0),
+    )
+
+pushed_later : (old new : BTreeMap (List ℕ) ℕ) (slots : List (Option Opt)) (name : List ℕ) (value : Value) → HasLaterSlots old slots → Absent name slots → SCANNED ≤ length slots → Notes old new name (Some (length slots)) → HasLaterSlots new (slots ++ Some (record { name = name; value = value }) ∷ [])
+unfolding Absent
+pushed_later old new slots name value h absent many n other at =
     let slot : Option Opt = Some (record { name = name; value = value }) in (
       λ e. ⊎_elim
           (λ same. let here : Some (length slots) ≡ Some at = sym (noted_here old new name other (Some (length slots)) n same) ∙ e in let last : length slots ≡ at = cc in
-          subst (λ (k : ℕ). HoldsAt other (slots ++ slot ∷ []) k) last (push_last other slots slot same))
-          (λ apart. push_keeps other slots slot at ((h other at).0 (sym (noted_elsewhere old new name other (Some (length slots)) n apart) ∙ e)))
+          (subst (λ (k : ℕ). HoldsAt other (slots ++ slot ∷ []) k) last (push_last other slots slot same), omega (arith, last, many)))
+          (λ apart. let g = (h other at).0 (sym (noted_elsewhere old new name other (Some (length slots)) n apart) ∙ e) in (push_keeps other slots slot at g.0, g.1))
           (same_or_not name other),
       λ g. ⊎_elim
-          (λ held. let apart : name ≢ other = λ same. no_place (get (slice_cmp nat_cmp) old name) at absent (ap (λ (z : List ℕ). get (slice_cmp nat_cmp) old z) same ∙ (h other at).1 held) in
-          noted_elsewhere old new name other (Some (length slots)) n apart ∙ (h other at).1 held)
+          (λ held. let apart : name ≢ other = λ same. absent at (subst (λ (z : List ℕ). HoldsAt z slots at) (sym same) held) in
+          noted_elsewhere old new name other (Some (length slots)) n apart ∙ (h other at).1 (held, g.1))
           (λ last. noted_here old new name other (Some (length slots)) n last.1 ∙ ap (λ (k : ℕ). Some k) (sym last.0))
-          (push_from other slots slot at g),
+          (push_from other slots slot at g.0),
     )
 
-one_place : (places : BTreeMap (List ℕ) ℕ) (slots : List (Option Opt)) (name : List ℕ) (at place : ℕ) → HasSlots places slots → HoldsAt name slots at → HoldsAt name slots place → at ≡ place
-one_place places slots name at place h a b = let e : Some at ≡ Some place = sym ((h name at).1 a) ∙ (h name place).1 b in cc
+pushed_by : (old new : BTreeMap (List ℕ) ℕ) (slots : List (Option Opt)) (name : List ℕ) (value : Value) → HasSlots old slots → Absent name slots → Noted old new name (length slots) → (length slots < SCANNED) ⊎ (SCANNED ≤ length slots) → HasSlots new (slots ++ Some (record { name = name; value = value }) ∷ [])
+pushed_by old new slots name value h absent n (inl few) = record {
+  apart = pushed_apart slots name value h.apart absent;
+  later = subst (λ (z : BTreeMap (List ℕ) ℕ). HasLaterSlots z (slots ++ Some (record { name = name; value = value }) ∷ [])) (sym (n.first few)) (pushed_first old slots name value h.later few);
+}
+pushed_by old new slots name value h absent n (inr many) = record {
+  apart = pushed_apart slots name value h.apart absent;
+  later = pushed_later old new slots name value h.later absent many (n.later many);
+}
 
-pub emptied_slots : (old new : BTreeMap (List ℕ) ℕ) (slots : List (Option Opt)) (name : List ℕ) (place : ℕ) → HasSlots old slots → get (slice_cmp nat_cmp) old name ≡ Some place → ((other : List ℕ) → get (slice_cmp nat_cmp) new other ≡ cond (is_at (slice_cmp nat_cmp name) other) None (get (slice_cmp nat_cmp) old other)) → HasSlots new (set slots place None)
-unfolding Notes
-emptied_slots old new slots name place h there n other at =
-    let held : HoldsAt name slots place = (h name place).0 there in (
-      λ e. ⊎_elim
-          (λ same. absurd (no_place (get (slice_cmp nat_cmp) new other) at (noted_here old new name other None n same) e))
-          (λ apart. let was : HoldsAt other slots at = (h other at).0 (sym (noted_elsewhere old new name other None n apart) ∙ e) in
-          emptied_keeps other slots place at (λ k. apart (held_name name other slots place held (subst (λ (z : ℕ). HoldsAt other slots z) k was))) was)
-          (same_or_not name other),
-      λ g. let was = emptied_from other slots place at g in
-          let apart : name ≢ other = λ same. was.1 (one_place old slots other at place h was.0 (subst (λ (z : List ℕ). HoldsAt z slots place) same held)) in
-          noted_elsewhere old new name other None n apart ∙ (h other at).1 was.0,
-    )
+few_or_many : (count most : ℕ) → (count < most) ⊎ (most ≤ count)
+few_or_many count most = cases_lt count most
 
-pub pushed_slots : (old new : BTreeMap (List ℕ) ℕ) (slots pushed : List (Option Opt)) (key name : List ℕ) (value : Value) (place : ℕ) → HasSlots old slots → get (slice_cmp nat_cmp) old name ≡ None → key ≡ name → place ≡ length slots → pushed ≡ slots ++ Some (record { name = name; value = value }) ∷ [] → ((other : List ℕ) → get (slice_cmp nat_cmp) new other ≡ cond (is_at (slice_cmp nat_cmp key) other) (Some place) (get (slice_cmp nat_cmp) old other)) → HasSlots new pushed
-unfolding Notes
-pushed_slots old new slots pushed key name value place h absent k p w n =
-    let P : ℕ → Type 0 = λ z. Notes old new name (Some z) in
-    let Q : List ℕ → Type 0 = λ z. Notes old new z (Some place) in
-    let R : List (Option Opt) → Type 0 = λ z. HasSlots new z in
-    subst R (sym w) (pushed_by old new slots name value h absent (subst P p (subst Q k n)))
+emptied_apart : (slots : List (Option Opt)) (place : ℕ) → AreApart slots → AreApart (set slots place None)
+emptied_apart slots place h other at also a b = h other at also (emptied_from other slots place at a).0 (emptied_from other slots place also b).0
+
+pub emptied_slots : (old new : BTreeMap (List ℕ) ℕ) (slots : List (Option Opt)) (name : List ℕ) (place : ℕ) → HasSlots old slots → HoldsAt name slots place → Notes old new name None → HasSlots new (set slots place None)
+emptied_slots old new slots name place h held n = record {
+  apart = emptied_apart slots place h.apart;
+  later = λ other at. (
+    λ e. ⊎_elim
+        (λ same. absurd (no_place (get (slice_cmp nat_cmp) new other) at (noted_here old new name other None n same) e))
+        (λ apart. let was = (h.later other at).0 (sym (noted_elsewhere old new name other None n apart) ∙ e) in
+        (emptied_keeps other slots place at (λ k. apart (held_name name other slots place held (subst (λ (z : ℕ). HoldsAt other slots z) k was.0))) was.0, was.1))
+        (same_or_not name other),
+    λ g. let was = emptied_from other slots place at g.0 in
+        let apart : name ≢ other = λ same. was.1 (h.apart other at place was.0 (subst (λ (z : List ℕ). HoldsAt z slots place) same held)) in
+        noted_elsewhere old new name other None n apart ∙ (h.later other at).1 (was.0, g.1),
+  );
+}
+
+pub pushed_slots : (old new : BTreeMap (List ℕ) ℕ) (slots pushed : List (Option Opt)) (name : List ℕ) (value : Value) (place : ℕ) → HasSlots old slots → ((at : ℕ) → HoldsAt name slots at → ⊥) → place ≡ length slots → pushed ≡ slots ++ Some (record { name = name; value = value }) ∷ [] → Noted old new name place → HasSlots new pushed
+unfolding Absent
+pushed_slots old new slots pushed name value place h absent p w n =
+    subst (λ (z : List (Option Opt)). HasSlots new z) (sym w) (pushed_by old new slots name value h absent (subst (λ (z : ℕ). Noted old new name z) p n) (few_or_many (length slots) SCANNED))
+
+-- a slot is looked for
+pub held_there : (name : List ℕ) (slots : List (Option Opt)) (place : ℕ) (other : Option Opt) → HoldsAt name slots place → Holds name (get_or slots place other)
+held_there name [] place other h = absurd h
+held_there name (slot ∷ slots) zero other h = h
+held_there name (slot ∷ slots) (suc place) other h = held_there name slots place other h
+
+pub holds_there : (name : List ℕ) (slots : List (Option Opt)) (place : ℕ) (other : Option Opt) → place < length slots → Holds name (get_or slots place other) → HoldsAt name slots place
+holds_there name [] place other l h = absurd (omega (arith, l))
+holds_there name (slot ∷ slots) zero other l h = h
+holds_there name (slot ∷ slots) (suc place) other l h = holds_there name slots place other (omega (arith, l)) h
+
+pub none_so_far : (name : List ℕ) (slots : List (Option Opt)) (place : ℕ) (other : Option Opt) → ((k : ℕ) → k < place → HoldsAt name slots k → ⊥) → (Holds name (get_or slots place other) → ⊥) → (k : ℕ) → k < place + 1 → HoldsAt name slots k → ⊥
+none_so_far name slots place other h n k l there = ⊎_elim
+    (λ early. h k early there)
+    (λ late. let same : k ≡ place = omega (arith, l, late) in
+    n (held_there name slots place other (subst (λ (z : ℕ). HoldsAt name slots z) same there)))
+    (cases_lt k place)
+
+front_held : (name : List ℕ) (slots : List (Option Opt)) (count place : ℕ) → HoldsAt name (take count slots) place → HoldsAt name slots place
+front_held name [] zero place h = h
+front_held name [] (suc count) place h = h
+front_held name (slot ∷ slots) zero place h = absurd h
+front_held name (slot ∷ slots) (suc count) zero h = h
+front_held name (slot ∷ slots) (suc count) (suc place) h = front_held name slots count place h
+
+held_in_front : (name : List ℕ) (slots : List (Option Opt)) (count place : ℕ) → place < count → HoldsAt name slots place → HoldsAt name (take count slots) place
+held_in_front name [] count place l h = absurd h
+held_in_front name (slot ∷ slots) zero place l h = absurd (omega (arith, l))
+held_in_front name (slot ∷ slots) (suc count) zero l h = h
+held_in_front name (slot ∷ slots) (suc count) (suc place) l h = held_in_front name slots count place (omega (arith, l)) h
+
+pub where_none : {P : Type 0} (place : Option ℕ) → (place ≡ None → P) → IfNone place P
+where_none None h = h refl
+where_none (Some place) h = tt
+
+pub found_first : (name : List ℕ) (slots first : List (Option Opt)) (count place : ℕ) → first ≡ take count slots → HoldsAt name first place → HoldsAt name slots place
+found_first name slots first count place f h = front_held name slots count place (subst (λ (z : List (Option Opt)). HoldsAt name z place) f h)
+
+pub found_later : (places : BTreeMap (List ℕ) ℕ) (slots : List (Option Opt)) (name : List ℕ) (place : ℕ) → HasSlots places slots → get (slice_cmp nat_cmp) places name ≡ Some place → HoldsAt name slots place
+found_later places slots name place h e = ((h.later name place).0 e).0
+
+early_or_late : (place count all first : ℕ) → place < all → (all ≤ count) ⊎ (first ≤ count) → (place < count) ⊎ (first ≤ place)
+early_or_late place count all first l (inl h) = inl (omega (arith, l, h))
+early_or_late place count all first l (inr h) = ⊎_elim (λ few. inl (omega (arith, few, h))) (λ many. inr many) (few_or_many place first)
+
+pub found_nowhere : (places : BTreeMap (List ℕ) ℕ) (slots first : List (Option Opt)) (name : List ℕ) (count : ℕ) → HasSlots places slots → first ≡ take count slots → (length slots ≤ count) ⊎ (SCANNED ≤ count) → ((place : ℕ) → HoldsAt name first place → ⊥) → get (slice_cmp nat_cmp) places name ≡ None → (place : ℕ) → HoldsAt name slots place → ⊥
+found_nowhere places slots first name count h f c n e place there =
+    let within = held_within name slots place there in
+    ⊎_elim
+    (λ early. n place (subst (λ (z : List (Option Opt)). HoldsAt name z place) (sym f) (held_in_front name slots count place early there)))
+    (λ late. no_place (get (slice_cmp nat_cmp) places name) place e ((h.later name place).1 (there, late)))
+    (early_or_late place count (length slots) SCANNED within c)
 
 -- an option that is put at the place of its name, or at the end
 option_from : List ℕ → Value → Opt
@@ -219,35 +311,25 @@ without_none name (None ∷ slots) n = without_none name slots (λ at. n (suc at
 without_none name (Some old ∷ slots) n = ap (λ (z : List Opt). old ∷ z) (without_none name slots (λ at. n (suc at))) ∙ sym (without_other name old (kept slots) (n zero))
 
 -- what the options become
-alone : (places : BTreeMap (List ℕ) ℕ) (slots : List (Option Opt)) (name : List ℕ) (place : ℕ) → HasSlots places slots → HoldsAt name slots place → Alone name slots place
+alone : (slots : List (Option Opt)) (name : List ℕ) (place : ℕ) → AreApart slots → HoldsAt name slots place → Alone name slots place
 unfolding Alone
-alone places slots name place h held at g = one_place places slots name at place h g held
+alone slots name place h held at g = h name at place g held
 
-absent : (places : BTreeMap (List ℕ) ℕ) (slots : List (Option Opt)) (name : List ℕ) → HasSlots places slots → get (slice_cmp nat_cmp) places name ≡ None → (at : ℕ) → HoldsAt name slots at → ⊥
-absent places slots name h n at g = no_place (get (slice_cmp nat_cmp) places name) at n ((h name at).1 g)
+pub put_in_slot : (slots : List (Option Opt)) (name : List ℕ) (change : Option Value → Value) (value : Value) (place : ℕ) (before other : Option Opt) → AreApart slots → HoldsAt name slots place → before ≡ get_or slots place other → value ≡ change (value_of before) → kept (set slots place (Some (record { name = name; value = value }))) ≡ put name change (kept slots)
+put_in_slot slots name change value place before other h held b v = put_written name change value slots place before other held (alone slots name place h held) b v
 
-pub slot_within : (places : BTreeMap (List ℕ) ℕ) (slots : List (Option Opt)) (name : List ℕ) (place : ℕ) → HasSlots places slots → get (slice_cmp nat_cmp) places name ≡ Some place → place < length slots
-slot_within places slots name place h e = held_within name slots place ((h name place).0 e)
+pub put_at_end : (slots pushed : List (Option Opt)) (name : List ℕ) (change : Option Value → Value) → ((at : ℕ) → HoldsAt name slots at → ⊥) → pushed ≡ slots ++ Some (record { name = name; value = change None }) ∷ [] → kept pushed ≡ put name change (kept slots)
+put_at_end slots pushed name change n w = ap (λ (z : List (Option Opt)). kept z) w ∙ put_pushed name change slots n
 
-pub put_in_slot : (places : BTreeMap (List ℕ) ℕ) (slots : List (Option Opt)) (name : List ℕ) (change : Option Value → Value) (value : Value) (place : ℕ) (before other : Option Opt) → HasSlots places slots → get (slice_cmp nat_cmp) places name ≡ Some place → before ≡ get_or slots place other → value ≡ change (value_of before) → kept (set slots place (Some (record { name = name; value = value }))) ≡ put name change (kept slots)
-put_in_slot places slots name change value place before other h e b v =
-    let held : HoldsAt name slots place = (h name place).0 e in
-    put_written name change value slots place before other held (alone places slots name place h held) b v
-
-pub put_at_end : (places : BTreeMap (List ℕ) ℕ) (slots pushed : List (Option Opt)) (name : List ℕ) (change : Option Value → Value) → HasSlots places slots → get (slice_cmp nat_cmp) places name ≡ None → pushed ≡ slots ++ Some (record { name = name; value = change None }) ∷ [] → kept pushed ≡ put name change (kept slots)
-put_at_end places slots pushed name change h n w = ap (λ (z : List (Option Opt)). kept z) w ∙ put_pushed name change slots (absent places slots name h n)
-
-pub put_anew : (places : BTreeMap (List ℕ) ℕ) (slots : List (Option Opt)) (name : List ℕ) (change : Option Value → Value) (value : Value) → HasSlots places slots → get (slice_cmp nat_cmp) places name ≡ None → value ≡ change None → put name (λ before. value) (kept slots) ≡ put name change (kept slots)
+pub put_anew : (slots : List (Option Opt)) (name : List ℕ) (change : Option Value → Value) (value : Value) → ((at : ℕ) → HoldsAt name slots at → ⊥) → value ≡ change None → put name (λ before. value) (kept slots) ≡ put name change (kept slots)
 unfolding option_from
-put_anew places slots name change value h n v =
-    sym (put_pushed name (λ before. value) slots (absent places slots name h n))
+put_anew slots name change value n v =
+    sym (put_pushed name (λ before. value) slots n)
     ∙ ap (λ (z : Value). kept (slots ++ Some (option_from name z) ∷ [])) v
-    ∙ put_pushed name change slots (absent places slots name h n)
+    ∙ put_pushed name change slots n
 
-pub without_slot : (places : BTreeMap (List ℕ) ℕ) (slots : List (Option Opt)) (name : List ℕ) (place : ℕ) → HasSlots places slots → get (slice_cmp nat_cmp) places name ≡ Some place → kept (set slots place None) ≡ without name (kept slots)
-without_slot places slots name place h e =
-    let held : HoldsAt name slots place = (h name place).0 e in
-    without_emptied name slots place held (alone places slots name place h held)
+pub without_slot : (slots : List (Option Opt)) (name : List ℕ) (place : ℕ) → AreApart slots → HoldsAt name slots place → kept (set slots place None) ≡ without name (kept slots)
+without_slot slots name place h held = without_emptied name slots place held (alone slots name place h held)
 
-pub without_absent : (places : BTreeMap (List ℕ) ℕ) (slots : List (Option Opt)) (name : List ℕ) → HasSlots places slots → get (slice_cmp nat_cmp) places name ≡ None → kept slots ≡ without name (kept slots)
-without_absent places slots name h n = without_none name slots (absent places slots name h n)
+pub without_absent : (slots : List (Option Opt)) (name : List ℕ) → ((at : ℕ) → HoldsAt name slots at → ⊥) → kept slots ≡ without name (kept slots)
+without_absent slots name n = without_none name slots n

@@ -1,12 +1,13 @@
 -- The options of a section while its commands are read, in slots.
-use Rattle.std.specs.Prelude.{ℕ, zero, suc, ◌≡◌, ◌↔◌, List, [], ◌∷◌, map, Option, Some, None}
+use Rattle.std.specs.Prelude.{ℕ, zero, suc, ◌≡◌, ◌≤◌, ◌<◌, ◌↔◌, if◌then◌else◌, List, [], ◌∷◌, map, Option, Some, None}
 use Rattle.std.specs.Ordering.{nat_cmp}
 use Rattle.std.specs.Cmp.Lexicographic.{slice_cmp}
-use Rattle.std.specs.BTreeMap.{BTreeMap, get}
+use Rattle.std.specs.BTreeMap.{BTreeMap, get, is_at}
 use Rattle.uci_tree.specs.declared.package.Value.{Value}
 use Rattle.uci_tree.specs.declared.package.Opt.{Opt}
 use Rattle.uci_tree.specs.declared.package.Section.{Section}
 use Rattle.uci_tree.specs.declared.options.Options.{Options}
+use Rattle.uci_tree.specs.declared.options.TheConstants.{SCANNED}
 use Rattle.uci_tree.specs.declared.draft_section.DraftSection.{DraftSection}
 
 -- the options in slots, in their order, without the empty slots
@@ -35,9 +36,34 @@ HoldsAt name [] place = ⊥
 HoldsAt name (slot ∷ slots) zero = Holds name slot
 HoldsAt name (slot ∷ slots) (suc place) = HoldsAt name slots place
 
--- the map has a name at a place exactly where the slot there has an option of the name; so no two slots have one name
-abbrev pub HasSlots : BTreeMap (List ℕ) ℕ → List (Option Opt) → Type 0
-HasSlots places slots = (name : List ℕ) (place : ℕ) → (get (slice_cmp nat_cmp) places name ≡ Some place) ↔ HoldsAt name slots place
+-- no two slots have an option of one name
+abbrev pub AreApart : List (Option Opt) → Type 0
+AreApart slots = (name : List ℕ) (place other : ℕ) → HoldsAt name slots place → HoldsAt name slots other → place ≡ other
+
+-- the map has a name at a place exactly where the slot there has an option of the name, and is none of the first, which are
+-- looked through one by one
+abbrev pub HasLaterSlots : BTreeMap (List ℕ) ℕ → List (Option Opt) → Type 0
+HasLaterSlots places slots =
+    (name : List ℕ) (place : ℕ) →
+    (get (slice_cmp nat_cmp) places name ≡ Some place)
+    ↔ (HoldsAt name slots place × (SCANNED ≤ place))
+
+-- slots with the map of the later ones
+pub record HasSlots (places : BTreeMap (List ℕ) ℕ) (slots : List (Option Opt)) : Type 0 where
+  pub apart : AreApart slots
+  pub later : HasLaterSlots places slots
+
+-- a name has this place in a map, or none, and every other name the place that it had
+abbrev pub Notes : BTreeMap (List ℕ) ℕ → BTreeMap (List ℕ) ℕ → List ℕ → Option ℕ → Type 0
+Notes old new name place =
+    (other : List ℕ) →
+    get (slice_cmp nat_cmp) new other
+    ≡ (if is_at (slice_cmp nat_cmp name) other then place else get (slice_cmp nat_cmp) old other)
+
+-- the place of a name is noted, but for the first places
+pub record Noted (old new : BTreeMap (List ℕ) ℕ) (name : List ℕ) (place : ℕ) : Type 0 where
+  pub first : place < SCANNED → new ≡ old
+  pub later : SCANNED ≤ place → Notes old new name (Some place)
 
 -- the places are those of the slots
 abbrev pub AreIndexed : Options → Type 0
