@@ -13,7 +13,7 @@ use Rattle.kern_model.specs.ObjectOrder.{Objects, object_cmp, set_of}
 use Rattle.kern_model.specs.Standing.{stands_on, gone}
 use Rattle.kern_model.specs.Kernel.{Devices, is_present, Exists, replaces, after_call}
 use Rattle.kern_model.specs.Admission.{Admits}
-use Rattle.kern_memory.specs.KernelState.{objects_after, left_standing, is_put}
+use Rattle.kern_memory.specs.KernelState.{KnownKernel, objects_after, left_standing, is_put, HasObjectRoom, HasRoomForAll}
 use Rattle.plane_words.specs.Distinct.{AreDistinct}
 use Rattle.kern_model.proofs.MemberLemmas.{here, there}
 use Rattle.kern_model.proofs.OrderLemmas.{objects_total, objects_apart}
@@ -95,3 +95,7 @@ room_after objects (Put o) calls most room =
 room_after objects (Take o mtu mac) calls most room =
     let fewer = no_more (λ old. not (eq_by_cmp object_cmp o old)) objects in
     omega arith
+
+pub room_for_first : (known : KnownKernel) (call : Call) (calls : List Call) → HasRoomForAll known (call ∷ calls) → HasObjectRoom known call
+room_for_first known (Put o) calls room needs = omega arith
+room_for_first known (Take o mtu mac) calls room needs = cc needs
