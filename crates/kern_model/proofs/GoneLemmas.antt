@@ -1,19 +1,13 @@
 -- What goes with a name: the least relation of names over names, and removing VLANs one by one.
-use Rattle.std.proofs.Common.{arith, ℕ, suc, ◌≡◌, ◌<◌, ◌≤◌, ◌+◌, ◌⊎◌, inl, inr, List, [], ◌∷◌, ◌++◌, Option, Some, None, true, false, Bool, cond, Contains, length, take, drop, get_or, add-one, drop-cons, refl, ap, sym, subst, ◌∙◌}
-use Rattle.std.specs.Prelude.{◌&&◌, ◌||◌, not, bytes_eq, nat_lt, filter, position}
-use Rattle.std.specs.List.{list_any, position_or_len}
-use Rattle.std.proofs.lemmas.List.Elements.{filter-append, filter_agree, Contains-append_left, Contains-append_right, Contains-append_cases}
-use Rattle.std.proofs.lemmas.List.{take-append-drop}
-use Rattle.kern_model.specs.declared.object.Mac.{Mac}
+use Rattle.std.proofs.Common.{ℕ, ◌≡◌, inl, inr, List, [], ◌∷◌, true, false, Bool, cond, Contains, refl, sym, subst}
+use Rattle.std.specs.Prelude.{filter}
 use Rattle.kern_model.specs.declared.object.LinkKind.TheVariants.{Vlan}
 use Rattle.kern_model.specs.declared.object.Object.{Object}
 use Rattle.kern_model.specs.declared.object.Object.TheVariants as object
-use Rattle.kern_model.specs.ObjectOrder.{Objects, Has, set_of}
-use Rattle.kern_model.specs.Standing.{Step, steps_of, lead_up, places_of, is_over, IsOver, stands_on}
-use Rattle.kern_model.specs.AdmissionTest.{is_at, is_vlan_over}
+use Rattle.kern_model.specs.ObjectOrder.{Objects, Has}
+use Rattle.kern_model.specs.Standing.{Step, steps_of, lead_up, is_over, IsOver}
 use Rattle.kern_model.proofs.MemberLemmas.{here, there, first_or_later, none_in_nil}
-use Rattle.kern_model.proofs.TestLemmas.{both, of_both, either, of_left, not_true, of_not, below_test, above_test, true_or_not, true_of_both_ways, bytes_same, same_bytes, from_any, of_any}
-use Rattle.kern_model.proofs.SetLemmas.{same_or_other, set_of_member, member_of_set}
+use Rattle.kern_model.proofs.TestLemmas.{both, either, bytes_same}
 use Rattle.kern_model.proofs.StandingLemmas.{IsVlanStep, step_has, over_itself, over_on, over_lower}
 
 -- the relation and its test
