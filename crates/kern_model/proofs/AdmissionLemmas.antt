@@ -18,7 +18,7 @@ use Rattle.kern_model.specs.ObjectOrder.{Has, set_of}
 use Rattle.kern_model.specs.Standing.{places_of}
 use Rattle.kern_model.specs.Kernel.{map_of, is_present, Exists, MayHappen, own_mtu, own_mac, name_of}
 use Rattle.kern_model.specs.Admission.{IsBridge, IsFiltering, HasLowerUp, MayBeMade, MasterMayBeSet, PortVlanMayBeSet, AdmitsPut, MayGoDown, AdmitsTake, CarriesOwn, Admits}
-use Rattle.kern_model.specs.Tests as test
+use Rattle.kern_model.specs.AdmissionTest as test
 use Rattle.kern_model.proofs.OrderLemmas.{objects_total}
 use Rattle.kern_model.proofs.SetLemmas.{set_of_member, member_of_set}
 use Rattle.kern_model.proofs.TestLemmas.{both, of_both, either, of_left, of_right, not_true, of_not, at_most, at_most_test, bytes_same, same_bytes, from_any, of_any}
@@ -126,7 +126,7 @@ module _ (devices : List (List ℕ × Device)) (objects : List Object) where
   not_one : (p : Object → Bool) → not (list_any p objects) ≡ true → (o : Object) → Has (set_of objects) o → p o ≡ true → ⊥
   not_one p h o member passes = not_true (list_any p objects) h (any_of p o member passes)
 
-  exists_to : (name : List ℕ) → test.exists devices objects name ≡ true → Exists (map_of devices) (set_of objects) name
+  pub exists_to : (name : List ℕ) → test.exists devices objects name ≡ true → Exists (map_of devices) (set_of objects) name
   exists_to name h = elim (either (is_present (map_of devices) name) _ h) as (λ _. Exists (map_of devices) (set_of objects) name) [
     | inl present ↦ inl present
     | inr any ↦
@@ -135,7 +135,7 @@ module _ (devices : List (List ℕ × Device)) (objects : List Object) where
         inr (link.0, subst (Has (set_of objects)) link.1 (set_of_member objects found.passing found.member))
   ]
 
-  exists_of : (name : List ℕ) → Exists (map_of devices) (set_of objects) name → test.exists devices objects name ≡ true
+  pub exists_of : (name : List ℕ) → Exists (map_of devices) (set_of objects) name → test.exists devices objects name ≡ true
   exists_of name e = elim e as (λ _. test.exists devices objects name ≡ true) [
     | inl present ↦ of_left (is_present (map_of devices) name) _ present
     | inr link ↦ of_right (is_present (map_of devices) name) _ (any_of (test.is_link_of name) (object.Link name link.0) link.1 (same_bytes name name refl))
@@ -283,7 +283,7 @@ module _ (devices : List (List ℕ × Device)) (objects : List Object) where
   take_of (object.Up name) h = none_of (test.needs_up objects name) (needs_none name h)
   take_of o h = refl
 
-  pub admitted_to : (c : Call) → test.is_admitted devices objects c ≡ true → Admits (map_of devices) (set_of objects) c
+  pub admitted_to : (c : Call) → test.call_passes devices objects c ≡ true → Admits (map_of devices) (set_of objects) c
   admitted_to (Put o) h = let parts = both (not (test.is_among objects o)) _ h in (λ held. not_true (test.is_among objects o) parts.0 (has_among o held), put_to o parts.1)
   admitted_to (Take o mtu mac) h =
       let a = both (test.is_among objects o) _ h in
@@ -292,19 +292,19 @@ module _ (devices : List (List ℕ × Device)) (objects : List Object) where
       let own : CarriesOwn (map_of devices) o mtu mac = record { mtu_own = (Decides-eqb mtu (own_mtu (map_of devices) (name_of o))).0 c.0; mac_own = let same = bytes_same mac.0 (own_mac (map_of devices) (name_of o)).0 c.1 in ap (λ (xs : List ℕ). record { 0 = xs }) same } in
       (among_has o a.0, take_to o b.0, own)
 
-  pub admitted_of : (c : Call) → Admits (map_of devices) (set_of objects) c → test.is_admitted devices objects c ≡ true
+  pub admitted_of : (c : Call) → Admits (map_of devices) (set_of objects) c → test.call_passes devices objects c ≡ true
   admitted_of (Put o) h = of_both (not (test.is_among objects o)) _ (of_not (test.is_among objects o) (λ held. h.0 (among_has o held))) (put_of o h.1)
   admitted_of (Take o mtu mac) h =
       let own = h.2 in
       of_both (test.is_among objects o) _ (has_among o h.0) (of_both (test.may_be_taken objects o) _ (take_of o h.1)
       (of_both (nat_eq mtu (own_mtu (map_of devices) (name_of o))) _ ((Decides-eqb mtu (own_mtu (map_of devices) (name_of o))).1 own.mtu_own) (same_bytes mac.0 (own_mac (map_of devices) (name_of o)).0 (ap (λ m. m.0) own.mac_own))))
 
-  pub happens_to : (e : DevEvent) → test.may_happen devices objects e ≡ true → MayHappen (map_of devices) (set_of objects) e
+  pub happens_to : (e : DevEvent) → test.event_passes devices objects e ≡ true → MayHappen (map_of devices) (set_of objects) e
   happens_to (event.Add name carrier mtu mac) h = λ e. not_true (test.exists devices objects name) h (exists_of name e)
   happens_to (event.Remove name) h = h
   happens_to (event.Carrier name on) h = h
 
-  pub happens_of : (e : DevEvent) → MayHappen (map_of devices) (set_of objects) e → test.may_happen devices objects e ≡ true
+  pub happens_of : (e : DevEvent) → MayHappen (map_of devices) (set_of objects) e → test.event_passes devices objects e ≡ true
   happens_of (event.Add name carrier mtu mac) h = of_not (test.exists devices objects name) (λ e. h (exists_to name e))
   happens_of (event.Remove name) h = h
   happens_of (event.Carrier name on) h = h

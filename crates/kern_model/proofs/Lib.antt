@@ -11,7 +11,6 @@ pub mod StandingLemmas
 pub mod FindLemmas
 pub mod AdmissionLemmas
 pub mod GoneLemmas
-pub mod KernelLemmas
 pub mod TouchLemmas
 pub mod AllowedLemmas
 pub mod LeadLemmas

@@ -1,11 +1,12 @@
 -- What a kernel holds, and what calls and events do. A kernel is a finite set of objects beside a
 -- finite map of its present devices.
-use Rattle.std.specs.Prelude.{ℕ, ◌≡◌, ◌⊎◌, List, ◌∷◌, [], ◌++◌, Bool, true, false, not, bytes_eq, Option, Some, None, replicate}
+use Rattle.std.specs.Prelude.{ℕ, ◌≡◌, ◌⊎◌, List, Bool, true, false, not, bytes_eq, Option, None, replicate}
 use Rattle.std.specs.Option.{option_map_or}
 use Rattle.std.specs.Ordering.{nat_cmp}
 use Rattle.std.specs.Cmp.Lexicographic.{slice_cmp}
 use Rattle.std.specs.FinSet as set
 use Rattle.std.specs.FinMap as map
+use Rattle.plane_words.specs.Growth.{Grows}
 use Rattle.kern_model.specs.declared.object.Device.{Device}
 use Rattle.kern_model.specs.declared.object.Mac.{Mac}
 use Rattle.kern_model.specs.declared.object.LinkKind.{LinkKind}
@@ -15,6 +16,7 @@ use Rattle.kern_model.specs.declared.object.Call.{Call}
 use Rattle.kern_model.specs.declared.object.Call.TheVariants.{Put, Take}
 use Rattle.kern_model.specs.declared.object.DevEvent.{DevEvent}
 use Rattle.kern_model.specs.declared.object.DevEvent.TheVariants as event
+use Rattle.kern_model.specs.declared.kernel.Asked.{Asked}
 use Rattle.kern_model.specs.ObjectOrder.{Objects, Has}
 use Rattle.kern_model.specs.Standing.{gone}
 
@@ -96,12 +98,6 @@ abbrev pub objects_after_event : Objects → DevEvent → Objects
 objects_after_event objects (event.Remove name) = gone objects name
 objects_after_event objects _ = objects
 
--- a list of the calls that were done, where it is kept, has one more at its end
-abbrev pub Logs : Option (List Call) → Option (List Call) → Call → Type 0
-Logs None new call = new ≡ None
-Logs (Some old) new call = new ≡ Some (old ++ call ∷ [])
-
--- the list of the calls that were done, where it is kept, has these more at its end
-abbrev pub LogsAll : Option (List Call) → Option (List Call) → List Call → Type 0
-LogsAll None new calls = new ≡ None
-LogsAll (Some old) new calls = new ≡ Some (old ++ calls)
+-- the list of all that was asked, where it is kept, has these more at its end, or is kept no longer
+abbrev pub Records : Option (List Asked) → Option (List Asked) → List Asked → Type 0
+Records old new items = (new ≡ None) ⊎ Grows old new items

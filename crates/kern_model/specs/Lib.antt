@@ -11,7 +11,7 @@ pub mod VlanName
 pub mod ObjectOrder
 -- what stands on a name, what goes with it, heights
 pub mod Standing
--- what exists, what calls and events do, own values
+-- what exists, what calls and events do, own values, what was asked
 pub mod Kernel
 -- what a kernel admits
 pub mod Admission
@@ -19,13 +19,11 @@ pub mod Admission
 pub mod Allowed
 -- which objects are touched, taken, replaced and put
 pub mod Touched
--- the tests of the kernel in memory
-pub mod Tests
+-- the tests by which lists of devices and objects are judged
+pub mod AdmissionTest
 -- lines of calls
 pub mod Line
 -- the order of calls; calls that are admitted each in its turn
 pub mod CallOrder
 -- the place of a call by its kind and line
-pub mod Place
--- a kernel in memory
-pub mod MemKernel
+pub mod CallPlace

@@ -1,25 +1,45 @@
 //! Whether a kernel admits a call, judged by the list of its present devices and that of its
 //! objects.
-ghost use Rattle.std.specs.Prelude.{◌≡◌, ◌||◌, bytes_eq};
+ghost use Rattle.std.specs.Prelude.{◌≡◌, ◌↔◌, ◌||◌, IsTrue, bytes_eq};
 ghost use Rattle.std.specs.List.{list_any};
 ghost use Rattle.std.specs.FinMap as map;
-ghost use Rattle.kern_model.specs.Kernel.{map_of, is_present, own_mtu, own_mac};
-ghost use Rattle.kern_model.specs.Tests.{is_link_of, is_bridge_of, is_filtering_of, is_vlan_with};
-ghost use Rattle.kern_model.specs.Tests.{is_master_of, is_vlan_on, is_pvid_on, is_vlan_of, is_at};
-ghost use Rattle.kern_model.specs.Tests.{is_among, lacks_lower, needs_up, exists, may_be_made};
-ghost use Rattle.kern_model.specs.Tests.{master_may_be_set, port_vlan_may_be_set, may_be_put};
-ghost use Rattle.kern_model.specs.Tests.{may_be_taken, is_admitted, may_happen};
+ghost use Rattle.kern_model.specs.ObjectOrder.{set_of};
+ghost use Rattle.kern_model.specs.Kernel.{map_of, is_present, own_mtu, own_mac, Exists, MayHappen};
+ghost use Rattle.kern_model.specs.Admission.{Admits};
+ghost use Rattle.kern_model.specs.AdmissionTest.{is_link_of, is_bridge_of, is_filtering_of, is_vlan_with};
+ghost use Rattle.kern_model.specs.AdmissionTest.{is_master_of, is_vlan_on, is_pvid_on, is_vlan_of, is_at};
+ghost use Rattle.kern_model.specs.AdmissionTest.{is_among, lacks_lower, needs_up, exists, may_be_made};
+ghost use Rattle.kern_model.specs.AdmissionTest.{master_may_be_set, port_vlan_may_be_set, may_be_put};
+ghost use Rattle.kern_model.specs.AdmissionTest.{may_be_taken, call_passes, event_passes};
 
 use crate::name::DevName;
 use crate::object::{Call, DevEvent, Device, LinkKind, Mac, Object};
 use crate::vlan_name::{LEAST_VLAN_ID, MOST_VLAN_ID};
 
-pub(crate) fn may_happen(
-    devices: &[(DevName, Device)],
-    objects: &[Object],
-    event: &DevEvent,
-) -> bool
-    ensures { result ≡ may_happen devices.now objects.now event.now }
+/// Whether a kernel of these devices and objects admits the call.
+pub fn admits(devices: &[(DevName, Device)], objects: &[Object], call: &Call) -> bool
+    ensures { IsTrue result ↔ Admits (map_of devices.now) (set_of objects.now) call.now }
+{
+    call_passes(devices, objects, call)
+}
+
+/// Whether the event may happen to a kernel of these devices and objects: a device that comes under
+/// a name that does not exist, or one that is present.
+pub fn may_happen(devices: &[(DevName, Device)], objects: &[Object], event: &DevEvent) -> bool
+    ensures { IsTrue result ↔ MayHappen (map_of devices.now) (set_of objects.now) event.now }
+{
+    event_passes(devices, objects, event)
+}
+
+/// Whether the name is that of a present device or of a link among the objects.
+pub fn name_exists(devices: &[(DevName, Device)], objects: &[Object], name: &DevName) -> bool
+    ensures { IsTrue result ↔ Exists (map_of devices.now) (set_of objects.now) name.now }
+{
+    exists(devices, objects, name)
+}
+
+fn event_passes(devices: &[(DevName, Device)], objects: &[Object], event: &DevEvent) -> bool
+    ensures { result ≡ event_passes devices.now objects.now event.now }
 {
     match event {
         DevEvent::Add { name, .. } => !exists(devices, objects, name),
@@ -28,8 +48,8 @@ pub(crate) fn may_happen(
     }
 }
 
-pub(crate) fn is_admitted(devices: &[(DevName, Device)], objects: &[Object], call: &Call) -> bool
-    ensures { result ≡ is_admitted devices.now objects.now call.now }
+fn call_passes(devices: &[(DevName, Device)], objects: &[Object], call: &Call) -> bool
+    ensures { result ≡ call_passes devices.now objects.now call.now }
 {
     match call {
         Call::Put(object) => { !is_among(objects, object) && may_be_put(devices, objects, object) }
@@ -241,13 +261,15 @@ fn needs_up(objects: &[Object], name: &DevName, held: &Object) -> bool
     }
 }
 
-fn is_present(devices: &[(DevName, Device)], name: &DevName) -> bool
+/// Whether a device of that name is present.
+pub fn is_present(devices: &[(DevName, Device)], name: &DevName) -> bool
     ensures { result ≡ is_present (map_of devices.now) name.now }
 {
-    find(devices, name).is_some()
+    find_device(devices, name).is_some()
 }
 
-pub(crate) fn find(devices: &[(DevName, Device)], name: &DevName) -> Option<Device>
+/// The present device of that name.
+pub fn find_device(devices: &[(DevName, Device)], name: &DevName) -> Option<Device>
     ensures { result ≡ map.get (map_of devices.now) name.now }
 {
     for (other, device) in devices {
@@ -262,12 +284,12 @@ pub(crate) fn find(devices: &[(DevName, Device)], name: &DevName) -> Option<Devi
 pub fn own_mtu(devices: &[(DevName, Device)], name: &DevName) -> u32
     ensures { result ≡ own_mtu (map_of devices.now) name.now }
 {
-    find(devices, name).map_or(1500, |device| device.mtu)
+    find_device(devices, name).map_or(1500, |device| device.mtu)
 }
 
 /// The hardware address of that name's own: that which a present device came with, else zeros.
 pub fn own_mac(devices: &[(DevName, Device)], name: &DevName) -> Mac
     ensures { result ≡ own_mac (map_of devices.now) name.now }
 {
-    find(devices, name).map_or(Mac([0; 6]), |device| device.mac)
+    find_device(devices, name).map_or(Mac([0; 6]), |device| device.mac)
 }

@@ -3,26 +3,24 @@
 #![tactic(auto)]
 
 mod admission;
-mod held;
 mod kernel;
 mod laws;
-mod mem_kernel;
 mod name;
 mod object;
 mod plan;
-mod present;
 mod print;
 mod rank;
 mod vlan_name;
 
-pub use admission::{is_among, own_mac, own_mtu};
-pub use kernel::Kernel;
+pub use admission::{
+    admits, find_device, is_among, is_present, may_happen, name_exists, own_mac, own_mtu,
+};
+pub use kernel::{Asked, Kernel};
 pub use laws::{
     admitted_calls_keep_allowed, calls_go_on_from_nothing, calls_lead_on, distinct_lines,
     events_keep_allowed, nothing_is_allowed, one_list_of_calls, over_is_by_vlans,
     vlans_are_one_higher,
 };
-pub use mem_kernel::MemKernel;
 pub use name::{DevName, read_name};
 pub use object::{Call, DevEvent, Device, LinkKind, Mac, Object, RouteObject};
 pub use plan::calls_from_nothing;

@@ -2,8 +2,8 @@ ghost use Rattle.std.specs.Prelude.{◌≡◌, ◌↔◌, IsTrue, false};
 ghost use Rattle.std.specs.Ordering.{eq_by_cmp};
 ghost use Rattle.kern_model.specs.ObjectOrder.{object_cmp};
 ghost use Rattle.kern_model.specs.Kernel.{object_of, name_of, replaces};
-ghost use Rattle.kern_model.specs.Tests.{is_link_of, is_bridge_of, is_vlan_with, is_vlan_over, is_at};
-ghost use Rattle.kern_model.specs.Tests.{is_master_of, is_filtering_of, is_vlan_on, is_pvid_on, is_vlan_of};
+ghost use Rattle.kern_model.specs.AdmissionTest.{is_link_of, is_bridge_of, is_vlan_with, is_vlan_over, is_at};
+ghost use Rattle.kern_model.specs.AdmissionTest.{is_master_of, is_filtering_of, is_vlan_on, is_pvid_on, is_vlan_of};
 
 use crate::name::DevName;
 use net_addr::{Addr, Cidr};
@@ -212,8 +212,8 @@ impl Object {
         }
     }
 
-    // As `same`, in the words of the order of objects.
-    pub(crate) fn is(&self, other: &Object) -> bool
+    /// As `same`, in the words of the order of objects.
+    pub fn is(&self, other: &Object) -> bool
         ensures { result ≡ eq_by_cmp object_cmp self.now other.now }
     {
         self.same(other)
@@ -236,8 +236,8 @@ impl Object {
         }
     }
 
-    // Whether this object may take the place of another.
-    pub(crate) fn is_value(&self) -> bool
+    /// Whether this object may take the place of another.
+    pub fn is_value(&self) -> bool
         ensures { (result ≡ false) → (old : _) → replaces self.now old ≡ false }
     {
         matches!(self, Object::Mtu { .. } | Object::Mac { .. })
@@ -259,7 +259,8 @@ impl Object {
         }
     }
 
-    pub(crate) fn is_link_of(&self, name: &DevName) -> bool
+    /// Whether the object is a link of that name.
+    pub fn is_link_of(&self, name: &DevName) -> bool
         ensures { result ≡ is_link_of name.now self.now }
     {
         match self {
@@ -296,7 +297,8 @@ impl Object {
         }
     }
 
-    pub(crate) fn is_vlan_over(&self, lower: &DevName) -> bool
+    /// Whether the object is a VLAN over that name.
+    pub fn is_vlan_over(&self, lower: &DevName) -> bool
         ensures { result ≡ is_vlan_over lower.now self.now }
     {
         match self {
@@ -368,9 +370,9 @@ impl Object {
         }
     }
 
-    // Whether the object is at that name: a VLAN at the name under it, a master at its port and at
-    // its bridge.
-    pub(crate) fn is_at(&self, name: &DevName) -> bool
+    /// Whether the object is at that name: a VLAN at the name under it, a master at its port and at
+    /// its bridge.
+    pub fn is_at(&self, name: &DevName) -> bool
         ensures { result ≡ is_at name.now self.now }
     {
         match self {

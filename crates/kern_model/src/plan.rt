@@ -5,7 +5,7 @@ ghost use Rattle.kern_model.specs.Line.{put_line, IsBroughtUp};
 ghost use Rattle.kern_model.specs.ObjectOrder.{set_of};
 ghost use Rattle.kern_model.specs.Kernel.{Devices};
 ghost use Rattle.kern_model.specs.CallOrder.{AreCalls};
-ghost use Rattle.kern_model.specs.Place.{place_of};
+ghost use Rattle.kern_model.specs.CallPlace.{place_of};
 
 use crate::object::{Call, LinkKind, Object};
 use crate::print::print_call;
@@ -15,7 +15,7 @@ use std::collections::BTreeMap;
 
 /// Where the call that puts an object stands among others: by kind, then by the bytes of its line.
 #[derive(Debug, PartialEq, Eq, PartialOrd, Ord, Drop)]
-pub(crate) struct Place {
+pub(crate) struct CallPlace {
     pub(crate) rank: u8,
     pub(crate) line: Text,
 }
@@ -40,13 +40,13 @@ pub fn calls_from_nothing(alloc: Global, objects: &[Object]) -> Result<Vec<Call>
     Ok(calls)
 }
 
-fn find_place(alloc: Global, object: &Object) -> Result<Place, Memory>
+fn find_place(alloc: Global, object: &Object) -> Result<CallPlace, Memory>
     ensures { IfOk result (λ place. place ≡ place_of object.now) }
 {
     let call = Call::Put(*object);
     let mut buffer = [0u8; 256];
     let size = print_call(&call, &mut buffer);
-    Ok(Place {
+    Ok(CallPlace {
         rank: call.rank(),
         line: Text::from_bytes(alloc, &buffer[..size])?,
     })

@@ -1,5 +1,6 @@
+use kern_memory::{KernelState, MemKernel};
 use kern_model::{
-    Call, DevEvent, DevName, Kernel, LinkKind, Mac, MemKernel, Object, RouteObject, print_call,
+    Asked, Call, DevEvent, DevName, Device, Kernel, LinkKind, Mac, Object, RouteObject, print_call,
     read_name,
 };
 use net_addr::{Addr, Cidr, read_cidr};
@@ -372,5 +373,124 @@ fn a_take_and_a_replacement_need_no_room(rt: HostRuntime) -> Result<(), Fail> {
     assert!(rt; kernel.environment(&event).is_ok());
     assert_eq!(rt; kernel.refused(), 0);
     assert_eq!(rt; kernel.objects(), [mtu(&rt, "eth0", 1281)].as_slice());
+    Ok(())
+}
+
+#[test]
+fn a_device_that_leaves_gives_its_place_back(rt: HostRuntime) -> Result<(), Fail> {
+    let mut kernel = MemKernel::with_room(rt.alloc(), 2)?;
+    add(&rt, &mut kernel, "eth0");
+    add(&rt, &mut kernel, "eth1");
+    for text in ["eth0", "eth1", "eth0"] {
+        let name = name(&rt, text);
+        for event in [
+            DevEvent::Carrier { name, on: false },
+            DevEvent::Remove { name },
+        ] {
+            assert!(rt; kernel.may_happen(&event), "{text}");
+            assert!(rt; kernel.environment(&event).is_ok(), "{text}");
+        }
+        add(&rt, &mut kernel, text);
+    }
+    assert_eq!(rt; kernel.refused(), 0);
+    assert!(rt; kernel.asked().is_empty());
+    Ok(())
+}
+
+#[test]
+fn what_was_asked_is_kept(rt: HostRuntime) -> Result<(), Fail> {
+    let alloc = rt.alloc();
+    let apply = Vec::from_slice(alloc, &[2])?;
+    let environment = Vec::from_slice(alloc, &[1])?;
+    let mut kernel = MemKernel::new(alloc, apply, environment);
+    let event = DevEvent::Add {
+        name: name(&rt, "eth0"),
+        carrier: true,
+        mtu: 1500,
+        mac: NO_MAC,
+    };
+    assert!(rt; kernel.may_happen(&event));
+    assert!(rt; kernel.environment(&event).is_err());
+    assert!(rt; kernel.may_happen(&event));
+    assert!(rt; kernel.environment(&event).is_ok());
+    let [first, second] = [up(&rt, "eth0"), address(&rt, "eth0", "10.0.0.1/24")];
+    for (object, done) in [(first, true), (second, false), (second, true)] {
+        let call = Call::Put(object);
+        assert!(rt; kernel.admits(&call));
+        assert_eq!(rt; kernel.apply(&call).is_ok(), done);
+    }
+    let asked = [
+        Asked::Event { event, done: false },
+        Asked::Event { event, done: true },
+        Asked::Call {
+            call: Call::Put(first),
+            done: true,
+        },
+        Asked::Call {
+            call: Call::Put(second),
+            done: false,
+        },
+        Asked::Call {
+            call: Call::Put(second),
+            done: true,
+        },
+    ];
+    assert_eq!(rt; kernel.asked(), asked.as_slice());
+    assert_eq!(rt; kernel.calls().len(), 2);
+    assert_eq!(rt; kernel.refused(), 0);
+    Ok(())
+}
+
+#[test]
+fn a_state_takes_calls_and_events(rt: HostRuntime) -> Result<(), Fail> {
+    let mut state = KernelState::new(rt.alloc());
+    let eth0 = name(&rt, "eth0");
+    let event = DevEvent::Add {
+        name: eth0,
+        carrier: true,
+        mtu: 9000,
+        mac: NO_MAC,
+    };
+    assert!(rt; state.may_happen(&event));
+    state.reserve_event(&event)?;
+    state.happen(&event);
+    assert_eq!(rt;
+        state.devices(),
+        [(
+            eth0,
+            Device {
+                carrier: true,
+                mtu: 9000,
+                mac: NO_MAC
+            }
+        )]
+        .as_slice()
+    );
+    assert_eq!(rt; state.own_mtu(&eth0), 9000);
+    assert_eq!(rt; state.own_mtu(&name(&rt, "eth1")), 1500);
+    let calls = [
+        Call::Put(up(&rt, "eth0")),
+        Call::Put(vlan(&rt, "v", "eth0", 5)),
+        Call::Put(mtu(&rt, "v", 1400)),
+        Call::Put(mtu(&rt, "v", 1300)),
+    ];
+    state.reserve(&calls)?;
+    for call in calls {
+        assert!(rt; state.admits(&call), "{call:?}");
+        assert!(rt; !state.holds(&call.object()), "{call:?}");
+        state.apply(&call);
+        assert!(rt; state.holds(&call.object()), "{call:?}");
+    }
+    assert_eq!(rt; state.objects().len(), 3);
+    let v = name(&rt, "v");
+    assert!(rt; state.exists(&v));
+    assert!(rt; !state.is_present(&v));
+    assert!(rt; state.link(&v).is_some());
+    assert!(rt; state.link(&eth0).is_none());
+    let event = DevEvent::Remove { name: eth0 };
+    assert!(rt; state.may_happen(&event));
+    state.happen(&event);
+    assert!(rt; state.objects().is_empty());
+    assert!(rt; state.devices().is_empty());
     Ok(())
 }

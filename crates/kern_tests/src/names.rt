@@ -1,6 +1,5 @@
-use kern_model::{
-    Call, DevName, MemKernel, Object, calls_from_nothing, read_name, read_plain_name,
-};
+use kern_memory::MemKernel;
+use kern_model::{Call, DevName, Object, calls_from_nothing, read_name, read_plain_name};
 use std::process::Abort;
 use std::test::Fail;
 

@@ -1,7 +1,7 @@
 //! `plane`: carries a command out over the real devices of the process and a kernel that is a model.
 #![tactic(auto)]
 
-use kern_model::MemKernel;
+use kern_memory::MemKernel;
 use plane_main::{lack_memory, plane};
 use plane_real::{StdSink, StdSource};
 use std::io::ErrorKind;

@@ -1,5 +1,5 @@
 -- Devices that come one after the other.
-use Rattle.std.proofs.Common.{arith, ℕ, zero, suc, ◌≡◌, ◌≢◌, ◌<◌, ◌≤◌, ◌+◌, ◌⊎◌, inl, inr, List, [], ◌∷◌, ◌++◌, take, drop, length, get_or, true, false, Bool, Some, refl, ap, sym, subst, ◌∙◌, Contains, cond, filter, add-zero, append-nil, length-append}
+use Rattle.std.proofs.Common.{arith, ℕ, zero, suc, ◌≡◌, ◌≢◌, ◌<◌, ◌≤◌, ◌+◌, ◌⊎◌, inl, inr, List, [], ◌∷◌, ◌++◌, take, drop, length, get_or, true, false, Bool, Option, Some, map as mapped, refl, ap, sym, subst, ◌∙◌, Contains, cond, filter, add-zero, append-nil, length-append}
 use Rattle.std.specs.Prelude.{◌||◌, not, is_some}
 use Rattle.std.proofs.lemmas.List.{take_more, take-append-drop}
 use Rattle.std.specs.Ordering.{nat_cmp, eq_by_cmp, is_eq}
@@ -14,12 +14,15 @@ use Rattle.std.proofs.lemmas.Map.Lookups.{exact_bytes}
 use Rattle.kern_model.specs.declared.object.Device.{Device}
 use Rattle.kern_model.specs.declared.object.Object.TheVariants as object
 use Rattle.kern_model.specs.ObjectOrder.{Objects, Has}
-use Rattle.kern_model.specs.Kernel.{Devices, is_present, Exists, after_event}
+use Rattle.kern_model.specs.declared.kernel.Asked.{Asked}
+use Rattle.kern_model.specs.declared.kernel.Asked.TheVariants as asked
+use Rattle.kern_model.specs.Kernel.{Devices, is_present, Exists, after_event, Records}
 use Rattle.kern_model.proofs.MemberLemmas.{first_or_later, none_in_nil, here, there}
 use Rattle.kern_model.proofs.SetLemmas.{none_in_empty}
 use Rattle.plane_words.specs.Distinct.{AreDistinct}
 use Rattle.plane_main.specs.Wanted.{with_devices, comes}
-use Rattle.plane_main.specs.BringUp.{Came, CameInFront, absent_count}
+use Rattle.plane_main.specs.BringUp.{Came, CameInFront, additions, absent_count}
+use Rattle.plane_main.proofs.SettleLemmas.{records_more}
 
 -- nothing is present at first
 pub none_present : (name : List ℕ) → is_present map.empty name ≡ false
@@ -91,6 +94,21 @@ count_one_more p xs x = ap length (filter-append p xs (x ∷ [])) ∙ length-app
     one true = refl
     one false = refl
 
+-- what was asked of the devices, one more among them
+map_agrees : {X Y : Type 0} (f g : X → Y) → (xs : List X) → ((x : X) → Contains xs x → f x ≡ g x) → mapped f xs ≡ mapped g xs
+map_agrees f g [] h = refl
+map_agrees f g (x ∷ xs) h = ap (λ y. y ∷ mapped f xs) (h x (here x xs)) ∙ ap (λ ys. g x ∷ ys) (map_agrees f g xs (λ y m. h y (there x xs y m)))
+
+map_one_more : {X Y : Type 0} (f : X → Y) → (xs : List X) (x : X) → mapped f (xs ++ x ∷ []) ≡ mapped f xs ++ f x ∷ []
+map_one_more f [] x = refl
+map_one_more f (y ∷ ys) x = ap (λ zs. f y ∷ zs) (map_one_more f ys x)
+
+additions_more : (names : List (List ℕ)) (name : List ℕ) (before after : Devices) (done : Bool) → ((q : List ℕ) → Contains names q → is_present after q ≡ is_present before q) → is_present after name ≡ done → additions after (names ++ name ∷ []) ≡ additions before names ++ asked.Event (comes name) done ∷ []
+additions_more names name before after done same is =
+    map_one_more (λ n. asked.Event (comes n) (is_present after n)) names name
+    ∙ ap (λ b. additions after names ++ asked.Event (comes name) b ∷ []) is
+    ∙ ap (λ xs. xs ++ asked.Event (comes name) done ∷ []) (map_agrees (λ n. asked.Event (comes n) (is_present after n)) (λ n. asked.Event (comes n) (is_present before n)) names (λ q m. ap (λ b. asked.Event (comes q) b) (same q m)))
+
 -- nothing came at first
 pub came_none : (devices : Devices) (faults : ℕ) → devices ≡ map.empty → Came [] devices faults faults
 came_none devices faults bare = record { present = bare; absent = omega arith }
@@ -142,11 +160,27 @@ module _ (names : List (List ℕ)) (index : ℕ) (name : List ℕ) (distinct : A
       (λ q member. ap (λ d. is_present d q) did ∙ others_stay before (take index names) name q _ new member)
       did later came)
 
+  pub asked_next : (before after : Devices) (first between now : Option (List Asked)) → after ≡ after_event before (comes name) → Records first between (additions before (take index names)) → Records between now (asked.Event (comes name) true ∷ []) → Records first now (additions after (take (index + 1) names))
+  asked_next before after first between now did so_far more =
+      let new : Contains (take index names) name → ⊥ = not_before names index name distinct inside is in
+      subst (Records first now) (sym (ap (additions after) one_more ∙ additions_more (take index names) name before after true
+      (λ q member. ap (λ d. is_present d q) did ∙ others_stay before (take index names) name q _ new member)
+      (ap (λ d. is_present d name) did ∙ now_there before name _)))
+      (records_more first between now (additions before (take index names)) (asked.Event (comes name) true ∷ []) so_far more)
+
+  pub asked_in_vain : (before after : Devices) (first between now : Option (List Asked)) → after ≡ before → is_present before name ≡ false → Records first between (additions before (take index names)) → Records between now (asked.Event (comes name) false ∷ []) → Records first now (additions after (take (index + 1) names))
+  asked_in_vain before after first between now did absent so_far more =
+      subst (Records first now) (sym (ap (additions after) one_more ∙ additions_more (take index names) name before after false
+      (λ q member. ap (λ d. is_present d q) did)
+      (ap (λ d. is_present d name) did ∙ absent)))
+      (records_more first between now (additions before (take index names)) (asked.Event (comes name) false ∷ []) so_far more)
+
   -- it came, and the others were not tried
-  pub came_in_front : (before after : Devices) (first between now : ℕ) → after ≡ after_event before (comes name) → between ≤ now → Came (take index names) before first between → CameInFront names after first now
-  came_in_front before after first between now did later came = record {
+  pub came_in_front : (before after : Devices) (asked_first asked_between asked_now : Option (List Asked)) (first between now : ℕ) → after ≡ after_event before (comes name) → between ≤ now → Came (take index names) before first between → Records asked_first asked_between (additions before (take index names)) → Records asked_between asked_now (asked.Event (comes name) true ∷ []) → CameInFront names after asked_first asked_now first now
+  came_in_front before after asked_first asked_between asked_now first between now did later came so_far more = record {
     front = take (index + 1) names;
     back = drop (index + 1) names;
     parts = sym (take-append-drop (index + 1) names);
     came = came_next before after first between now did later came;
+    asked = asked_next before after asked_first asked_between asked_now did so_far more;
   }

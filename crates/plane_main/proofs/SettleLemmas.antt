@@ -1,12 +1,14 @@
 -- Calls that are made one after the other.
-use Rattle.std.proofs.Common.{◌≡◌, List, [], ◌∷◌, ◌++◌, Option, Some, None, refl, ap, sym, subst, ◌∙◌, append_assoc, append-nil}
+use Rattle.std.proofs.Common.{ℕ, ◌≡◌, inl, inr, List, [], ◌∷◌, ◌++◌, Option, Some, None, map, length, refl, ap, sym, subst, ◌∙◌, append_assoc, append-nil}
+use Rattle.plane_words.specs.Causes.{Rose}
 use Rattle.plane_words.specs.Growth.{Grows, GrowsByFront}
 use Rattle.kern_model.specs.declared.object.Call.{Call}
+use Rattle.kern_model.specs.declared.kernel.Asked.{Asked}
 use Rattle.kern_model.specs.ObjectOrder.{Objects}
-use Rattle.kern_model.specs.Kernel.{Logs, after_call}
+use Rattle.kern_model.specs.Kernel.{Records, after_call}
 use Rattle.kern_model.specs.CallOrder.{after_calls}
 use Rattle.plane_main.specs.Outside.{Outside}
-use Rattle.plane_main.specs.Settle.{Made, Settled, SettledInPart, lines_of, whole_line}
+use Rattle.plane_main.specs.Settle.{Made, Settled, SettledAlone, StopsAtCall, StopsAtLine, lines_of, whole_line, done_call, failed_call}
 
 after_one_more : (objects : Objects) (made : List Call) (call : Call) → after_calls objects (made ++ call ∷ []) ≡ after_call (after_calls objects made) call
 after_one_more objects [] call = refl
@@ -26,67 +28,91 @@ pub grows_none : {X : Type 0} → (held : Option (List X)) → Grows held held [
 grows_none None = refl
 grows_none (Some l) = ap Some (sym (append-nil l))
 
-logged_one : (log log' : Option (List Call)) (call : Call) → Logs log log' call → Grows log log' (call ∷ [])
-logged_one None log' call h = h
-logged_one (Some l) log' call h = h
+-- what was asked, where it is told
+pub records_none : (asked : Option (List Asked)) → Records asked asked []
+records_none asked = inr (grows_none asked)
 
-pub nothing_settled : (calls : List Call) (before : Outside) → Settled calls calls before before
-nothing_settled calls before = record { made = []; parts = refl; done = record { held = refl; logged = grows_none before.calls }; printed = grows_none before.out }
+pub records_more : (old between new : Option (List Asked)) (xs ys : List Asked) → Records old between xs → Records between new ys → Records old new (xs ++ ys)
+records_more old between new xs ys p (inl ended) = inl ended
+records_more old between new xs ys (inl ended) (inr q) = inl (subst (λ l. Grows l new ys) ended q)
+records_more old between new xs ys (inr p) (inr q) = inr (grows_more old between new xs ys p q)
+
+done_one_more : (made : List Call) (call : Call) → map done_call (made ++ call ∷ []) ≡ map done_call made ++ done_call call ∷ []
+done_one_more [] call = refl
+done_one_more (c ∷ made) call = ap (λ asked. done_call c ∷ asked) (done_one_more made call)
+
+pub nothing_settled : (calls : List Call) (before : Outside) → SettledAlone calls calls before before
+nothing_settled calls before = record {
+  settled = record { made = []; parts = refl; done = record { held = refl; logged = grows_none before.calls }; printed = grows_none before.out };
+  asked = records_none before.asked;
+}
 
 -- what began at another moment with the same objects, calls and output
-module _ (calls rest : List Call) (before between after : Outside) (objects : between.objects ≡ before.objects) (log : between.calls ≡ before.calls) (out : between.out ≡ before.out) where
-  made_from : (made : List Call) → Made made between after → Made made before after
+module _ (before between after : Outside) (objects : between.objects ≡ before.objects) (log : between.calls ≡ before.calls) (out : between.out ≡ before.out) where
+  pub made_from : (made : List Call) → Made made between after → Made made before after
   made_from made m = record {
     held = m.held ∙ ap (λ o. after_calls o made) objects;
     logged = subst (λ l. Grows l after.calls made) log m.logged;
   }
 
-  pub settled_from : Settled calls rest between after → Settled calls rest before after
-  settled_from s = record {
-    made = s.made;
-    parts = s.parts;
-    done = made_from s.made s.done;
-    printed = subst (λ o. Grows o after.out (lines_of s.made)) out s.printed;
-  }
-
-  pub settled_in_part_from : SettledInPart calls rest between after → SettledInPart calls rest before after
-  settled_in_part_from s = record {
-    earlier = s.earlier;
-    last = s.last;
-    parts = s.parts;
-    done = made_from (s.earlier ++ s.last ∷ []) s.done;
-    front = s.front;
-    back = s.back;
-    line = s.line;
-    printed = subst (λ o. Grows o after.out (lines_of s.earlier ++ s.front)) out s.printed;
-  }
+  pub printed_from : (lines : List ℕ) → Grows between.out after.out lines → Grows before.out after.out lines
+  printed_from lines grows = subst (λ o. Grows o after.out lines) out grows
 
 module _ (calls rest : List Call) (call : Call) (before between after : Outside) where
-  made_more : (s : Settled calls (call ∷ rest) before between) → after.objects ≡ after_call between.objects call → Logs between.calls after.calls call → Made (s.made ++ call ∷ []) before after
+  made_more : (s : Settled calls (call ∷ rest) before between) → after.objects ≡ after_call between.objects call → Grows between.calls after.calls (call ∷ []) → Made (s.made ++ call ∷ []) before after
   made_more s did logged = record {
     held = did ∙ ap (λ o. after_call o call) s.done.held ∙ sym (after_one_more before.objects s.made call);
-    logged = grows_more before.calls between.calls after.calls s.made (call ∷ []) s.done.logged (logged_one between.calls after.calls call logged);
+    logged = grows_more before.calls between.calls after.calls s.made (call ∷ []) s.done.logged logged;
   }
 
   parts_more : (s : Settled calls (call ∷ rest) before between) → calls ≡ (s.made ++ call ∷ []) ++ rest
   parts_more s = s.parts ∙ sym (append_assoc s.made (call ∷ []) rest)
 
-  pub settled_more : Settled calls (call ∷ rest) before between → after.objects ≡ after_call between.objects call → Logs between.calls after.calls call → Grows between.out after.out (whole_line call) → Settled calls rest before after
-  settled_more s did logged written = record {
-    made = s.made ++ call ∷ [];
-    parts = parts_more s;
-    done = made_more s did logged;
-    printed = subst (Grows before.out after.out) (sym (lines_of_one_more s.made call)) (grows_more before.out between.out after.out (lines_of s.made) (whole_line call) s.printed written);
+  asked_more : (s : SettledAlone calls (call ∷ rest) before between) → Records between.asked after.asked (done_call call ∷ []) → Records before.asked after.asked (map done_call (s.settled.made ++ call ∷ []))
+  asked_more s asked = subst (Records before.asked after.asked) (sym (done_one_more s.settled.made call)) (records_more before.asked between.asked after.asked (map done_call s.settled.made) (done_call call ∷ []) s.asked asked)
+
+  -- the next call was made, and its line written
+  pub settled_more : SettledAlone calls (call ∷ rest) before between → after.objects ≡ after_call between.objects call → Grows between.calls after.calls (call ∷ []) → Records between.asked after.asked (done_call call ∷ []) → Grows between.out after.out (whole_line call) → SettledAlone calls rest before after
+  settled_more s did logged asked written = record {
+    settled = record {
+      made = s.settled.made ++ call ∷ [];
+      parts = parts_more s.settled;
+      done = made_more s.settled did logged;
+      printed = subst (Grows before.out after.out) (sym (lines_of_one_more s.settled.made call)) (grows_more before.out between.out after.out (lines_of s.settled.made) (whole_line call) s.settled.printed written);
+    };
+    asked = asked_more s asked;
   }
 
-  pub settled_in_part : Settled calls (call ∷ rest) before between → after.objects ≡ after_call between.objects call → Logs between.calls after.calls call → GrowsByFront between.out after.out (whole_line call) → SettledInPart calls rest before after
-  settled_in_part s did logged written = record {
-    earlier = s.made;
-    last = call;
-    parts = s.parts;
-    done = made_more s did logged;
-    front = written.front;
-    back = written.back;
-    line = written.parts;
-    printed = grows_more before.out between.out after.out (lines_of s.made) written.front s.printed written.grows;
+  -- it was made, and its line not written
+  pub stops_at_line : SettledAlone calls (call ∷ rest) before between → after.objects ≡ after_call between.objects call → Grows between.calls after.calls (call ∷ []) → Records between.asked after.asked (done_call call ∷ []) → GrowsByFront between.out after.out (whole_line call) → Rose before.out_faults after.out_faults → StopsAtLine calls before after
+  stops_at_line s did logged asked written rose = record {
+    rest = rest;
+    settled = record {
+      earlier = s.settled.made;
+      last = call;
+      parts = s.settled.parts;
+      done = made_more s.settled did logged;
+      front = written.front;
+      back = written.back;
+      line = written.parts;
+      printed = grows_more before.out between.out after.out (lines_of s.settled.made) written.front s.settled.printed written.grows;
+    };
+    asked = asked_more s asked;
+    cause = rose;
+  }
+
+  -- it failed
+  pub stops_at_call : (left : ℕ) → length (call ∷ rest) ≡ left → SettledAlone calls (call ∷ rest) before between → after.objects ≡ between.objects → after.calls ≡ between.calls → after.out ≡ between.out → Records between.asked after.asked (failed_call call ∷ []) → Rose before.kernel_faults after.kernel_faults → StopsAtCall calls left before after
+  stops_at_call left count s held logged out asked rose = record {
+    failed = call;
+    others = rest;
+    count = count;
+    settled = record {
+      made = s.settled.made;
+      parts = s.settled.parts;
+      done = record { held = held ∙ s.settled.done.held; logged = subst (λ l. Grows before.calls l s.settled.made) (sym logged) s.settled.done.logged };
+      printed = subst (λ o. Grows before.out o (lines_of s.settled.made)) (sym out) s.settled.printed;
+    };
+    asked = records_more before.asked between.asked after.asked (map done_call s.settled.made) (failed_call call ∷ []) s.asked asked;
+    cause = rose;
   }

@@ -25,6 +25,7 @@ use Rattle.plane_main.specs.Start.{IsRead, AreRead, IsUnreadable, IsNotBuilt, Re
 use Rattle.plane_main.proofs.InterfaceLemmas.{network_one}
 use Rattle.plane_main.proofs.CountLemmas.{some_due}
 use Rattle.plane_main.proofs.DeviceLemmas.{came_none}
+use Rattle.plane_main.proofs.SettleLemmas.{records_none}
 
 interface_sound : (section : Section) (interface : Interface) → IsInterface section interface → IsSound interface
 interface_sound section interface s = (s.plain.named, subst IsCidr (sym s.cidr) (s.octets, s.within))
@@ -41,7 +42,7 @@ nothing_lacked names before bare = record {
   out = refl;
   objects = refl;
   calls = refl;
-  came = record { front = []; back = names; parts = refl; came = came_none before.devices before.kernel_faults bare };
+  came = record { front = []; back = names; parts = refl; came = came_none before.devices before.kernel_faults bare; asked = records_none before.asked };
 }
 
 module _ (devices : List (List ℕ)) (input : Input) (before after : Outside) where
@@ -178,8 +179,7 @@ module _ (devices : List (List ℕ)) (input : Input) (before after : Outside) wh
     due_start ending.Done cause whole = (λ failed. absurd failed, λ due. absurd (due (cause.did.held ∙ same_wanted cause.interfaces cause.read)))
     due_start (ending.KernelFailed left) cause whole =
         let count = cause.did.count in
-        let some = cause.did.some in
-        (λ failed none. some_due after.devices after.objects (wanted cause.interfaces after.devices) cause.did.rest cause.did.due (omega arith) (none ∙ sym (same_wanted cause.interfaces cause.read)), λ due. tt)
+        (λ failed none. some_due after.devices after.objects (wanted cause.interfaces after.devices) (cause.did.failed ∷ cause.did.others) cause.did.due (omega arith) (none ∙ sym (same_wanted cause.interfaces cause.read)), λ due. tt)
     due_start ending.WriteFailed cause whole = absurd (whole tt)
     due_start ending.ReadFailed cause whole = absurd (whole tt)
     due_start ending.OutOfMemory cause whole = absurd (whole tt)

@@ -6,6 +6,7 @@ use Rattle.plane_io.specs.declared.source.Source.{Ghosts as SourceMembers}
 use Rattle.plane_io.specs.declared.sink.Sink.{Ghosts as SinkMembers}
 use Rattle.kern_model.specs.declared.kernel.Kernel.{Ghosts as KernelMembers}
 use Rattle.kern_model.specs.declared.object.Call.{Call}
+use Rattle.kern_model.specs.declared.kernel.Asked.{Asked}
 use Rattle.kern_model.specs.ObjectOrder.{Objects}
 use Rattle.kern_model.specs.Kernel.{Devices}
 
@@ -22,6 +23,7 @@ pub record Outside : Type 0 where
   pub devices : Devices
   pub objects : Objects
   pub calls : Option (List Call)
+  pub asked : Option (List Asked)
   pub out_faults : ℕ
   pub kernel_faults : ℕ
 
@@ -41,6 +43,7 @@ outside_of sink kernel out state = record {
   devices = kernel.devices state;
   objects = kernel.objects state;
   calls = kernel.calls state;
+  asked = kernel.asked state;
   out_faults = sink.faults out;
   kernel_faults = kernel.faults state;
 }

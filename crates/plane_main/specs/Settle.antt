@@ -1,9 +1,12 @@
 -- How far a settling came: the calls that were made, what they made the kernel hold, and their lines.
-use Rattle.std.specs.Prelude.{ℕ, ◌≡◌, ◌<◌, List, [], ◌∷◌, ◌++◌, codes, length}
+use Rattle.std.specs.Prelude.{ℕ, ◌≡◌, List, [], ◌∷◌, ◌++◌, map, codes, length, true, false}
 use Rattle.std.specs.List.{flat_map}
 use Rattle.plane_words.specs.Causes.{Rose}
 use Rattle.plane_words.specs.Growth.{Grows}
 use Rattle.kern_model.specs.declared.object.Call.{Call}
+use Rattle.kern_model.specs.declared.kernel.Asked.{Asked}
+use Rattle.kern_model.specs.declared.kernel.Asked.TheVariants as asked
+use Rattle.kern_model.specs.Kernel.{Records}
 use Rattle.kern_model.specs.CallOrder.{after_calls}
 use Rattle.kern_model.specs.Line.{line_of}
 use Rattle.plane_main.specs.declared.ending.Ending.{Ending}
@@ -17,6 +20,13 @@ whole_line call = line_of call ++ codes "\n"
 -- the lines of the calls
 abbrev pub lines_of : List Call → List ℕ
 lines_of calls = flat_map whole_line calls
+
+-- a call that was asked for, and was done or failed
+abbrev pub done_call : Call → Asked
+done_call call = asked.Call call true
+
+abbrev pub failed_call : Call → Asked
+failed_call call = asked.Call call false
 
 -- these calls were made, and the kernel holds what they made
 pub record Made (made : List Call) (before after : Outside) : Type 0 where
@@ -41,23 +51,30 @@ pub record SettledInPart (calls rest : List Call) (before after : Outside) : Typ
   pub line : whole_line last ≡ front ++ back
   pub printed : Grows before.out after.out (lines_of earlier ++ front)
 
--- a call failed, and so many were left, the failed one among them
-pub record StopsAtCall (calls : List Call) (left : ℕ) (before after : Outside) : Type 0 where
-  pub rest : List Call
-  pub count : length rest ≡ left
-  pub some : 0 < left
+-- all calls but the rest were made, and nothing else was asked of the kernel
+pub record SettledAlone (calls rest : List Call) (before after : Outside) : Type 0 where
   pub settled : Settled calls rest before after
+  pub asked : Records before.asked after.asked (map done_call settled.made)
+
+-- a call failed, and so many were left, the failed one first among them; it was asked for once
+pub record StopsAtCall (calls : List Call) (left : ℕ) (before after : Outside) : Type 0 where
+  pub failed : Call
+  pub others : List Call
+  pub count : length (failed ∷ others) ≡ left
+  pub settled : Settled calls (failed ∷ others) before after
+  pub asked : Records before.asked after.asked (map done_call settled.made ++ failed_call failed ∷ [])
   pub cause : Rose before.kernel_faults after.kernel_faults
 
 -- a line was not written, or not wholly
 pub record StopsAtLine (calls : List Call) (before after : Outside) : Type 0 where
   pub rest : List Call
   pub settled : SettledInPart calls rest before after
+  pub asked : Records before.asked after.asked (map done_call (settled.earlier ++ settled.last ∷ []))
   pub cause : Rose before.out_faults after.out_faults
 
 -- the endings of a settling
 abbrev pub SettleEnds : List Call → Outside → Outside → Ending → Type 0
-SettleEnds calls before after ending.Done = Settled calls [] before after
+SettleEnds calls before after ending.Done = SettledAlone calls [] before after
 SettleEnds calls before after (ending.KernelFailed left) = StopsAtCall calls left before after
 SettleEnds calls before after ending.WriteFailed = StopsAtLine calls before after
 SettleEnds calls before after _ = ⊥

@@ -3,12 +3,12 @@ ghost use Rattle.std.specs.FinSet as set;
 ghost use Rattle.std.specs.Ordering.{nat_cmp};
 ghost use Rattle.std.specs.Cmp.Lexicographic.{slice_cmp};
 ghost use Rattle.std.specs.BTreeSet.{contains};
-ghost use Rattle.kern_model.specs.Kernel.{Devices, is_present};
+ghost use Rattle.kern_model.specs.Kernel.{Devices, is_present, Records};
 ghost use Rattle.kern_model.specs.CallOrder.{AreCalls};
 ghost use Rattle.plane_words.specs.Distinct.{AreDistinct};
 ghost use Rattle.plane_main.specs.Wanted.{all_objects_of, wanted};
 ghost use Rattle.plane_main.specs.Outside.{IsBare};
-ghost use Rattle.plane_main.specs.BringUp.{AreSound, Came, CameInFront};
+ghost use Rattle.plane_main.specs.BringUp.{AreSound, Came, CameInFront, additions};
 
 use crate::interface::Interface;
 use kern_model::{Call, DevEvent, DevName, Kernel, LinkKind, Mac, Object, calls_from_nothing};
@@ -32,8 +32,10 @@ pub fn add_devices<K: Kernel>(
         contains (slice_cmp nat_cmp) present name ≡ is_present (K.devices kernel.new) name) }
     ensures came { OnOk result (Came names.now
         (K.devices kernel.new) (K.faults kernel.old) (K.faults kernel.new)) }
-    ensures memory { OnErr result (CameInFront names.now
-        (K.devices kernel.new) (K.faults kernel.old) (K.faults kernel.new)) }
+    ensures asked { OnOk result (Records (K.asked kernel.old) (K.asked kernel.new)
+        (additions (K.devices kernel.new) names.now)) }
+    ensures memory { OnErr result (CameInFront names.now (K.devices kernel.new)
+        (K.asked kernel.old) (K.asked kernel.new) (K.faults kernel.old) (K.faults kernel.new)) }
     ensures objects { K.objects kernel.new ≡ set.empty }
     ensures calls { K.calls kernel.new ≡ K.calls kernel.old }
     ensures later { K.faults kernel.old ≤ K.faults kernel.new }

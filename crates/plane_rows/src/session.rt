@@ -1,4 +1,4 @@
-use kern_model::MemKernel;
+use kern_memory::MemKernel;
 use plane_io::{MemSink, MemSource};
 use plane_main::plane;
 use std::alloc::Global;

@@ -1,5 +1,5 @@
 use Rattle.std.proofs.Common.{sym, ap, ◌∙◌}
-use Rattle.kern_model.specs.Tests.{may_be_put}
+use Rattle.kern_model.specs.AdmissionTest.{may_be_put}
 use Rattle.kern_model.proofs.admission.may_be_put.Goals as goal
 
 pub returns-in-Master : goal.returns-in-Master

@@ -4,7 +4,7 @@ use Rattle.std.specs.FinSet as set
 use Rattle.std.proofs.lemmas.List.{take_more, take_all}
 use Rattle.kern_model.specs.declared.object.Call.TheVariants.{Put}
 use Rattle.kern_model.specs.Line.{IsBroughtUp}
-use Rattle.kern_model.specs.Place.{place_cmp}
+use Rattle.kern_model.specs.CallPlace.{place_cmp}
 use Rattle.kern_model.specs.ObjectOrder.{set_of}
 use Rattle.kern_model.specs.CallOrder.{AreCalls}
 use Rattle.kern_model.proofs.MemberLemmas.{member_of_all}

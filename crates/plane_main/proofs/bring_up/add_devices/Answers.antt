@@ -10,7 +10,8 @@ use Rattle.std.proofs.lemmas.List.Elements.{Contains-append_left, Contains-push}
 use Rattle.kern_model.specs.Kernel.{is_present, after_event}
 use Rattle.plane_main.specs.Wanted.{comes}
 use Rattle.plane_main.specs.BringUp.{Came}
-use Rattle.plane_main.proofs.DeviceLemmas.{none_present, may_come, not_before, present_after, same_name, either, added, came_none, came_not, came_next, came_in_front, one_more, false_of_not}
+use Rattle.plane_main.proofs.DeviceLemmas.{none_present, may_come, not_before, present_after, same_name, either, added, came_none, came_not, came_next, came_in_front, one_more, asked_next, asked_in_vain, false_of_not}
+use Rattle.plane_main.proofs.SettleLemmas.{records_none}
 use Rattle.plane_main.proofs.bring_up.add_devices.Goals as goal
 
 pub loop-name-init : goal.loop-name-init
@@ -22,6 +23,7 @@ loop-name-init g c =
       later = omega arith;
       present = λ q. ap (list_any (is_at (slice_cmp nat_cmp q))) c.new-present.ensures.empty ∙ sym (absent q);
       only = λ q h. cc (h, absent q);
+      asked = records_none (g.K.Kernel.asked c.args.kernel.now);
       came = came_none (g.K.Kernel.devices c.args.kernel.now) (g.K.Kernel.faults c.args.kernel.now) c.requires.bare.1;
     }
 
@@ -49,12 +51,13 @@ loop-name-preserved g c =
         | inl same ↦ subst (λ xs. Contains xs q) (sym more) (subst (Contains (take index names ++ name ∷ [])) (sym (same_name q name same)) (Contains-push (take index names) name))
         | inr before ↦ subst (λ xs. Contains xs q) (sym more) (Contains-append_left (take index names) (name ∷ []) q (c.loop-name.invariant.only q before))
       ];
+      asked = asked_next names index name c.requires.distinct (omega arith) (sym c.name-item.is) before after (g.K.Kernel.asked c.args.kernel.now) (g.K.Kernel.asked c.loop-name.kernel) (g.K.Kernel.asked c.environment.new.self) did c.loop-name.invariant.asked c.in-Ok.ensures.asked;
       came = came_next names index name c.requires.distinct (omega arith) (sym c.name-item.is) before after (g.K.Kernel.faults c.args.kernel.now) (g.K.Kernel.faults c.loop-name.kernel) (g.K.Kernel.faults c.environment.new.self) did c.environment.ensures.cause.later c.loop-name.invariant.came;
     }
 
 pub returns-in_default-insert-clause-memory : goal.returns-in_default-insert-clause-memory
 returns-in_default-insert-clause-memory g c =
-    came_in_front c.args.names.now c.loop-name.name-index c.name-item.result c.requires.distinct (omega arith) (sym c.name-item.is) (g.K.Kernel.devices c.loop-name.kernel) (g.K.Kernel.devices c.environment.new.self) (g.K.Kernel.faults c.args.kernel.now) (g.K.Kernel.faults c.loop-name.kernel) (g.K.Kernel.faults c.environment.new.self) c.in-Ok.ensures.did c.environment.ensures.cause.later c.loop-name.invariant.came
+    came_in_front c.args.names.now c.loop-name.name-index c.name-item.result c.requires.distinct (omega arith) (sym c.name-item.is) (g.K.Kernel.devices c.loop-name.kernel) (g.K.Kernel.devices c.environment.new.self) (g.K.Kernel.asked c.args.kernel.now) (g.K.Kernel.asked c.loop-name.kernel) (g.K.Kernel.asked c.environment.new.self) (g.K.Kernel.faults c.args.kernel.now) (g.K.Kernel.faults c.loop-name.kernel) (g.K.Kernel.faults c.environment.new.self) c.in-Ok.ensures.did c.environment.ensures.cause.later c.loop-name.invariant.came c.loop-name.invariant.asked c.in-Ok.ensures.asked
 
 pub loop-name-preserved-in_default : goal.loop-name-preserved-in_default
 loop-name-preserved-in_default g c =
@@ -73,6 +76,7 @@ loop-name-preserved-in_default g c =
       later = let later = c.environment.ensures.cause.later in let so_far = c.loop-name.invariant.later in omega arith;
       present = λ q. c.loop-name.invariant.present q ∙ ap (λ d. is_present d q) (sym did);
       only = λ q h. subst (λ xs. Contains xs q) (sym more) (Contains-append_left (take index names) (name ∷ []) q (c.loop-name.invariant.only q (ap (λ d. is_present d q) (sym did) ∙ h)));
+      asked = asked_in_vain names index name c.requires.distinct (omega arith) (sym c.name-item.is) before after (g.K.Kernel.asked c.args.kernel.now) (g.K.Kernel.asked c.loop-name.kernel) (g.K.Kernel.asked c.environment.new.self) did absent c.loop-name.invariant.asked c.in_default.ensures.asked;
       came = subst (λ xs. Came xs after (g.K.Kernel.faults c.args.kernel.now) (g.K.Kernel.faults c.environment.new.self)) (sym more)
           (came_not (take index names) name before after (g.K.Kernel.faults c.args.kernel.now) (g.K.Kernel.faults c.loop-name.kernel) (g.K.Kernel.faults c.environment.new.self)
           absent did c.in_default.ensures.cause.failed c.loop-name.invariant.came);

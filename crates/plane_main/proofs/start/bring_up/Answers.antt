@@ -28,6 +28,7 @@ returns-clause-cause g c =
     (record {
       bare = c.requires.bare.0;
       came = c.in-Ok.ensures.came;
+      asked = c.in-Ok.ensures.asked;
       objects = c.add_devices.ensures.objects;
       calls_made = c.add_devices.ensures.calls;
       out = refl;

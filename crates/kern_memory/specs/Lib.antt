@@ -1,0 +1,8 @@
+-- What is known of a kernel, and a kernel in memory.
+
+-- the held objects and the present devices, as lists
+pub mod KernelState
+-- a list that is kept or not
+pub mod Log
+-- a kernel in memory
+pub mod MemKernel

@@ -1,0 +1,348 @@
+ghost use Rattle.std.specs.Prelude.{◌≡◌, ◌≤◌, ◌⊎◌, ◌↔◌, ◌+◌, [], ◌∷◌, Some, None, IsTrue, is_ok, OnOk, OnErr, IfOk, Contains, unwrap_or, length};
+ghost use Rattle.plane_words.specs.Causes.{HasCause, next_count};
+ghost use Rattle.plane_words.specs.Distinct.{AreDistinct};
+ghost use Rattle.plane_words.specs.Growth.{Grows};
+ghost use Rattle.kern_model.specs.Kernel.{after_call, MayHappen, after_event, objects_after_event, Records};
+ghost use Rattle.kern_model.specs.Admission.{Admits};
+ghost use Rattle.kern_memory.specs.KernelState.{objects_after, device_count_after, HasObjectRoom, LacksObjectRoom};
+ghost use Rattle.kern_memory.specs.Log.{IsFull, HasRoom};
+ghost use Rattle.kern_memory.specs.MemKernel.{objects_of, devices_of, IsFullForCall, IsFullForEvent, FailedBy};
+
+use crate::kernel_state::KernelState;
+use crate::log::Log;
+use kern_model::{Asked, Call, DevEvent, Kernel, LinkKind, Object};
+use plane_io::{Failed, Memory};
+use std::alloc::Global;
+use std::marker::Model;
+
+/// A kernel in memory. A call fails where its number stands in the list of its kind, or where the
+/// kernel cannot grow; then nothing changes.
+#[derive(Debug, Drop)]
+pub struct MemKernel {
+    state: KernelState,
+    calls: Log<Call>,
+    asked: Log<Asked>,
+    failing_apply: Vec<u64>,
+    failing_environment: Vec<u64>,
+    applied: u64,
+    happened: u64,
+    faults: u64,
+    refused: u64,
+}
+
+impl Model for MemKernel {
+    ghost use Rattle.kern_memory.specs.MemKernel.{KernelInMemory};
+
+    ghost Value = { KernelInMemory };
+
+    ghost view = { λ kernel. record {
+      state = kernel.state;
+      calls = kernel.calls;
+      asked = kernel.asked;
+      failing_apply = kernel.failing_apply.items;
+      failing_environment = kernel.failing_environment.items;
+      applied = kernel.applied;
+      happened = kernel.happened;
+      faults = kernel.faults;
+      refused = kernel.refused;
+    } };
+}
+
+impl MemKernel {
+    /// A kernel without objects and devices, whose calls with these numbers fail. It keeps the lists
+    /// of what it did and of all that was asked of it.
+    pub fn new(alloc: Global, failing_apply: Vec<u64>, failing_environment: Vec<u64>) -> MemKernel
+        ensures empty { (result.state.objects ≡ []) × (result.state.devices ≡ []) }
+        ensures calls { result.calls.items ≡ Some [] }
+        ensures asked { result.asked.items ≡ Some [] }
+        ensures lists { (result.failing_apply ≡ failing_apply.items)
+            × (result.failing_environment ≡ failing_environment.items) }
+        ensures counts { (result.applied ≡ 0) × (result.happened ≡ 0) × (result.faults ≡ 0)
+            × (result.refused ≡ 0) }
+    {
+        MemKernel {
+            state: KernelState::new(alloc),
+            calls: Log::kept(alloc),
+            asked: Log::kept(alloc),
+            failing_apply,
+            failing_environment,
+            applied: 0,
+            happened: 0,
+            faults: 0,
+            refused: 0,
+        }
+    }
+
+    /// A kernel without objects and devices, with room for `count` devices, objects and done calls.
+    /// Within it no call and no event fails, whatever their order.
+    pub fn with_room(alloc: Global, count: usize) -> Result<MemKernel, Memory>
+        ensures empty { IfOk result (λ kernel.
+            (kernel.state.objects ≡ []) × (kernel.state.devices ≡ [])) }
+        ensures calls { IfOk result (λ kernel. kernel.calls.items ≡ Some []) }
+        ensures asked { IfOk result (λ kernel. kernel.asked.items ≡ None) }
+        ensures lists { IfOk result (λ kernel. (kernel.failing_apply ≡ [])
+            × (kernel.failing_environment ≡ [])) }
+        ensures counts { IfOk result (λ kernel. (kernel.applied ≡ 0) × (kernel.happened ≡ 0)
+            × (kernel.faults ≡ 0) × (kernel.refused ≡ 0)) }
+        ensures room { IfOk result (λ kernel. (count ≤ kernel.state.most_objects)
+            × (count ≤ kernel.state.most_devices) × (count ≤ kernel.calls.most)) }
+    {
+        Ok(MemKernel {
+            state: KernelState::with_room(alloc, count)?,
+            calls: Log::with_room(alloc, count)?,
+            asked: Log::unkept(alloc),
+            failing_apply: Vec::new(alloc),
+            failing_environment: Vec::new(alloc),
+            applied: 0,
+            happened: 0,
+            faults: 0,
+            refused: 0,
+        })
+    }
+
+    /// A kernel without objects and devices that keeps no lists and whose calls are not made to
+    /// fail. It fails at no take, and at a put or an event only where it cannot grow.
+    pub fn unlogged(alloc: Global) -> MemKernel
+        ensures empty { (result.state.objects ≡ []) × (result.state.devices ≡ []) }
+        ensures calls { result.calls.items ≡ None }
+        ensures asked { result.asked.items ≡ None }
+        ensures lists { (result.failing_apply ≡ []) × (result.failing_environment ≡ []) }
+        ensures counts { (result.applied ≡ 0) × (result.happened ≡ 0) × (result.faults ≡ 0)
+            × (result.refused ≡ 0) }
+    {
+        MemKernel {
+            state: KernelState::new(alloc),
+            calls: Log::unkept(alloc),
+            asked: Log::unkept(alloc),
+            failing_apply: Vec::new(alloc),
+            failing_environment: Vec::new(alloc),
+            applied: 0,
+            happened: 0,
+            faults: 0,
+            refused: 0,
+        }
+    }
+
+    /// The objects, in no stated order, each once.
+    pub fn objects(&self) -> &[Object]
+        ensures objects { result.now ≡ self.now.state.objects }
+        ensures once { AreDistinct result.now }
+    {
+        self.state.objects()
+    }
+
+    /// The calls of `apply` that were done, in order. Of a kernel that keeps no list this is empty.
+    pub fn calls(&self) -> &[Call]
+        ensures { result.now ≡ unwrap_or self.now.calls.items [] }
+    {
+        self.calls.as_slice()
+    }
+
+    /// All that was asked, calls and events in order. Of a kernel that keeps no list this is empty.
+    pub fn asked(&self) -> &[Asked]
+        ensures { result.now ≡ unwrap_or self.now.asked.items [] }
+    {
+        self.asked.as_slice()
+    }
+
+    /// Whether the kernel admits the call.
+    pub fn admits(&self, call: &Call) -> bool
+        ensures { IsTrue result ↔ Admits (devices_of self.now) (objects_of self.now) call.now }
+    {
+        self.state.admits(call)
+    }
+
+    /// Whether the event may happen: a device that comes under a name that does not exist, or one
+    /// that is present.
+    pub fn may_happen(&self, event: &DevEvent) -> bool
+        ensures { IsTrue result
+            ↔ MayHappen (devices_of self.now) (objects_of self.now) event.now }
+    {
+        self.state.may_happen(event)
+    }
+
+    /// How many growths were refused for want of memory.
+    pub fn refused(&self) -> u64
+        ensures { result ≡ self.now.refused }
+    {
+        self.refused
+    }
+}
+
+impl Kernel for MemKernel {
+    ghost objects = { objects_of };
+
+    ghost devices = { devices_of };
+
+    ghost calls = { λ kernel. kernel.calls.items };
+
+    ghost asked = { λ kernel. kernel.asked.items };
+
+    ghost faults = { λ kernel. kernel.faults };
+
+    fn apply(&mut self, call: &Call) -> Result<(), Failed>
+        requires { Admits (devices_of self.old) (objects_of self.old) call.now }
+        ensures did { OnOk result (objects_of self.new
+            ≡ after_call (objects_of self.old) call.now) }
+        ensures logged { OnOk result
+            (Grows self.old.calls.items self.new.calls.items (call.now ∷ [])) }
+        ensures err { OnErr result ((objects_of self.new ≡ objects_of self.old)
+            × (self.new.calls.items ≡ self.old.calls.items)) }
+        ensures asked { Records self.old.asked.items self.new.asked.items
+            (Asked.Call call.now (is_ok result) ∷ []) }
+        ensures devices { devices_of self.new ≡ devices_of self.old }
+        ensures cause { HasCause self.old.faults self.new.faults result }
+
+        // What is put stands after the others, once. A call fails exactly where its number is in
+        // the list, or a list that it makes longer is full and cannot grow.
+        ensures changed { OnOk result
+            (self.new.state.objects ≡ objects_after self.old.state.objects call.now) }
+        ensures number { (self.new.applied ≡ next_count self.old.applied)
+            × (self.new.happened ≡ self.old.happened) }
+        ensures lists { (self.new.failing_apply ≡ self.old.failing_apply)
+            × (self.new.failing_environment ≡ self.old.failing_environment) }
+        ensures fails { OnErr result (FailedBy
+            (Contains self.old.failing_apply self.new.applied) (IsFullForCall self.old call.now)
+            self.old.refused self.new.refused) }
+        ensures one_fault { OnErr result (self.new.faults ≡ next_count self.old.faults) }
+        ensures passes { OnOk result ((¬ (Contains self.old.failing_apply self.new.applied))
+            × (self.new.refused ≡ self.old.refused)) }
+        ensures faultless { OnOk result (self.new.faults ≡ self.old.faults) }
+
+        // What was asked is kept until a growth of its list is refused.
+        ensures kept { self.new.asked.items ≡ None → (self.old.asked.items ≡ None)
+            ⊎ IsFull self.old.asked.items self.old.asked.most }
+
+        // No list loses room.
+        ensures most { (self.old.state.most_objects ≤ self.new.state.most_objects)
+            × (self.old.state.most_devices ≤ self.new.state.most_devices)
+            × (self.old.calls.most ≤ self.new.calls.most) }
+        ensures same_devices { self.new.state.devices ≡ self.old.state.devices }
+    {
+        // What is below is proved only where a local names the enums within.
+        let _named: Option<(DevEvent, Object, LinkKind)> = None;
+        self.applied = self.applied.saturating_add(1);
+        let Ok(()) = self.asked.make_room() else {
+            self.asked.stop();
+            self.refused = self.refused.saturating_add(1);
+            self.faults = self.faults.saturating_add(1);
+            return Err(Failed);
+        };
+        if self.failing_apply.contains(&self.applied) {
+            self.asked.push(Asked::Call {
+                call: *call,
+                done: false,
+            });
+            self.faults = self.faults.saturating_add(1);
+            return Err(Failed);
+        }
+        let Ok(()) = reserve_call(&mut self.state, &mut self.calls, call) else {
+            self.asked.push(Asked::Call {
+                call: *call,
+                done: false,
+            });
+            self.refused = self.refused.saturating_add(1);
+            self.faults = self.faults.saturating_add(1);
+            return Err(Failed);
+        };
+        self.state.apply(call);
+        self.calls.push(*call);
+        self.asked.push(Asked::Call {
+            call: *call,
+            done: true,
+        });
+        Ok(())
+    }
+
+    fn environment(&mut self, event: &DevEvent) -> Result<(), Failed>
+        requires { MayHappen (devices_of self.old) (objects_of self.old) event.now }
+        ensures did { OnOk result (devices_of self.new
+            ≡ after_event (devices_of self.old) event.now) }
+        ensures stayed { OnOk result (objects_of self.new
+            ≡ objects_after_event (objects_of self.old) event.now) }
+        ensures err { OnErr result ((devices_of self.new ≡ devices_of self.old)
+            × (objects_of self.new ≡ objects_of self.old)) }
+        ensures calls { self.new.calls.items ≡ self.old.calls.items }
+        ensures asked { Records self.old.asked.items self.new.asked.items
+            (Asked.Event event.now (is_ok result) ∷ []) }
+        ensures cause { HasCause self.old.faults self.new.faults result }
+
+        // A call fails exactly where its number is in the list, or a list that it makes longer is
+        // full and cannot grow.
+        ensures number { (self.new.happened ≡ next_count self.old.happened)
+            × (self.new.applied ≡ self.old.applied) }
+        ensures lists { (self.new.failing_apply ≡ self.old.failing_apply)
+            × (self.new.failing_environment ≡ self.old.failing_environment) }
+        ensures fails { OnErr result (FailedBy
+            (Contains self.old.failing_environment self.new.happened)
+            (IsFullForEvent self.old event.now) self.old.refused self.new.refused) }
+        ensures one_fault { OnErr result (self.new.faults ≡ next_count self.old.faults) }
+        ensures passes { OnOk result ((¬ (Contains self.old.failing_environment self.new.happened))
+            × (self.new.refused ≡ self.old.refused)) }
+        ensures faultless { OnOk result (self.new.faults ≡ self.old.faults) }
+
+        // What was asked is kept until a growth of its list is refused.
+        ensures kept { self.new.asked.items ≡ None → (self.old.asked.items ≡ None)
+            ⊎ IsFull self.old.asked.items self.old.asked.most }
+
+        // No list loses room. Only a device that comes takes a place, and one that leaves gives it
+        // back.
+        ensures most { (self.old.state.most_objects ≤ self.new.state.most_objects)
+            × (self.old.state.most_devices ≤ self.new.state.most_devices)
+            × (self.old.calls.most ≤ self.new.calls.most) }
+        ensures count { OnOk result (length self.new.state.devices
+            ≤ device_count_after (length self.old.state.devices) event.now) }
+        ensures fewer { length self.new.state.objects ≤ length self.old.state.objects }
+    {
+        // What is below is proved only where a local names the enums within.
+        let _named: Option<(Call, Object, LinkKind)> = None;
+        self.happened = self.happened.saturating_add(1);
+        let Ok(()) = self.asked.make_room() else {
+            self.asked.stop();
+            self.refused = self.refused.saturating_add(1);
+            self.faults = self.faults.saturating_add(1);
+            return Err(Failed);
+        };
+        if self.failing_environment.contains(&self.happened) {
+            self.asked.push(Asked::Event {
+                event: *event,
+                done: false,
+            });
+            self.faults = self.faults.saturating_add(1);
+            return Err(Failed);
+        }
+        let Ok(()) = self.state.reserve_event(event) else {
+            self.asked.push(Asked::Event {
+                event: *event,
+                done: false,
+            });
+            self.refused = self.refused.saturating_add(1);
+            self.faults = self.faults.saturating_add(1);
+            return Err(Failed);
+        };
+        self.state.happen(event);
+        self.asked.push(Asked::Event {
+            event: *event,
+            done: true,
+        });
+        Ok(())
+    }
+}
+
+// Takes room for the call among those that were done, and for what it puts.
+fn reserve_call(state: &mut KernelState, calls: &mut Log<Call>, call: &Call) -> Result<(), Memory>
+    ensures lists { (state.new.objects ≡ state.old.objects)
+        × (state.new.devices ≡ state.old.devices) × (calls.new.items ≡ calls.old.items) }
+    ensures room { OnOk result (HasObjectRoom state.new call.now
+        × HasRoom calls.new.items calls.new.most) }
+    ensures full { OnErr result (IsFull calls.old.items calls.old.most
+        ⊎ LacksObjectRoom state.old call.now) }
+    ensures most { (state.old.most_objects ≤ state.new.most_objects)
+        × (state.new.most_devices ≡ state.old.most_devices)
+        × (calls.old.most ≤ calls.new.most) }
+{
+    let Ok(()) = calls.make_room() else {
+        return Err(Memory);
+    };
+    state.reserve_call(call)
+}
