@@ -1,10 +1,9 @@
 -- The listed calls are the calls.
-use Rattle.std.proofs.Common.{◌≡◌, inl, inr, List, ◌++◌, map, true, Contains, refl, ap, sym, subst, ◌∙◌}
+use Rattle.std.proofs.Common.{◌≡◌, List, map, true, Contains, subst}
 use Rattle.std.specs.FinSet as set
 use Rattle.std.proofs.lemmas.List.Elements.{Contains-append_left, Contains-append_right}
 use Rattle.plane_words.proofs.OrderLemmas.{one_list}
 use Rattle.plane_words.proofs.OrderedLemmas.{ordered_lists}
-use Rattle.kern_model.specs.declared.object.Object.{Object}
 use Rattle.kern_model.specs.declared.object.Call.{Call}
 use Rattle.kern_model.specs.declared.object.Call.TheVariants.{Put, Take}
 use Rattle.kern_model.specs.ObjectOrder.{Objects}

@@ -2,8 +2,12 @@
 #![tactic(auto)]
 
 mod between;
+mod form;
+mod index;
 mod laws;
+mod line;
 mod looked_up;
+mod present;
 
 pub use between::calls_between;
 pub use laws::{
