@@ -19,7 +19,6 @@ use Rattle.kern_model.specs.declared.object.Call.{Call}
 use Rattle.kern_model.specs.declared.object.Call.TheVariants.{Put, Take}
 use Rattle.kern_model.specs.ObjectOrder.{Objects, Has, set_of, call_key}
 use Rattle.kern_model.specs.Kernel.{Devices}
-use Rattle.kern_model.specs.Allowed.{AreAllowed}
 use Rattle.kern_model.specs.Touched.{is_call}
 use Rattle.kern_model.specs.Line.{line_of}
 use Rattle.kern_model.specs.CallOrder.{call_cmp, AreCalls, height_of, height_place, rank}
@@ -31,10 +30,8 @@ use Rattle.kern_model.proofs.SetLemmas.{member_of_set}
 use Rattle.kern_model.proofs.TouchLemmas.{taken_held, put_wanted}
 use Rattle.kern_model.proofs.LeadLemmas.{taken_call, carries, is_own}
 use Rattle.kern_calls.specs.declared.between.CallPlace.{CallPlace}
-use Rattle.kern_calls.specs.declared.index.Index.{Index}
 use Rattle.kern_calls.specs.Calls.{own_take}
-use Rattle.kern_calls.specs.Index.{IsSide, AreSides, AreAllowedSides}
-use Rattle.kern_calls.specs.Between.{height_number, place_of, place_cmp, IsFit, HoldsCalls}
+use Rattle.kern_calls.specs.Between.{IsAllowed, height_number, place_of, place_cmp, IsFit, HoldsCalls}
 use Rattle.kern_calls.proofs.AlikeLemmas.{left_alike}
 use Rattle.kern_calls.proofs.GoOnLemmas.{low_enough}
 
@@ -58,15 +55,15 @@ places_apart a b h =
 at_place : (p q : CallPlace) → is_at (place_cmp p) q ≡ true → p ≡ q
 at_place p q h = places_apart p q ((Equal-is (place_cmp p q)).0 h)
 
-module _ (devices : Devices) (most : ℕ) (held wanted : Objects) (from : AreAllowed devices held) (to : AreAllowed devices wanted) where
+module _ (devices : Devices) (most : ℕ) (held wanted : Objects) (from : IsAllowed held) (to : IsAllowed wanted) where
   -- two calls are at two places
   one_at_place : (a b : Call) → is_call devices held wanted a ≡ true → is_call devices held wanted b ≡ true → IsFit a → IsFit b → place_of most held wanted a ≡ place_of most held wanted b → a ≡ b
   one_at_place (Put a) (Put b) p q f g same =
-      ap Put (one_of_put_line devices wanted a b to (put_wanted held wanted a p) (put_wanted held wanted b q) (object_of_line a b f g (ap (λ x. x.line) same)))
+      ap Put (one_of_put_line to.0 wanted a b to.1 (put_wanted held wanted a p) (put_wanted held wanted b q) (object_of_line a b f g (ap (λ x. x.line) same)))
   one_at_place (Put a) (Take b n y) p q f g same = let level = ap (λ x. x.rank) same in absurd (omega arith)
   one_at_place (Take a m x) (Put b) p q f g same = let level = ap (λ z. z.rank) same in absurd (omega arith)
   one_at_place (Take a m x) (Take b n y) p q f g same =
-      let one = one_of_take_line devices held a b from (taken_held held wanted a (taken_call devices held wanted a m x p)) (taken_held held wanted b (taken_call devices held wanted b n y q)) (taken_of_line a b m n x y f.0 g.0 f.1 g.1 (ap (λ z. z.line) same)) in
+      let one = one_of_take_line from.0 held a b from.1 (taken_held held wanted a (taken_call devices held wanted a m x p)) (taken_held held wanted b (taken_call devices held wanted b n y q)) (taken_of_line a b m n x y f.0 g.0 f.1 g.1 (ap (λ z. z.line) same)) in
       sym (is_own devices held wanted a m x (carries devices held wanted a m x p)) ∙ ap (own_take devices) one ∙ is_own devices held wanted b n y (carries devices held wanted b n y q)
 
   pub holds_more : (old new : CallPlace → Option Call) (done : List Call) (place : CallPlace) (c : Call) → place ≡ place_of most held wanted c → is_call devices held wanted c ≡ true → IsFit c → ((q : CallPlace) → new q ≡ cond (is_at (place_cmp place) q) (Some c) (old q)) → HoldsCalls devices most held wanted old done → HoldsCalls devices most held wanted new (done ++ c ∷ [])
@@ -186,13 +183,3 @@ calls_of_map devices most s t held wanted from to size m ordered holds = record 
         let had : Has (set_of held) o = subst (λ x. Has x o) from (taken_held s t o (taken_call devices s t o mtu mac due)) in
         Contains-append_left (map (own_take devices) held) (map Put wanted) (Take o mtu mac)
         (subst (Contains (map (own_take devices) held)) own (map_member (own_take devices) held o (member_of_set held o had)))
-
-module _ (devices : Devices) (held wanted : Index) (sides : AreAllowedSides devices held wanted) where
-  pub held_side : IsSide held
-  held_side = record { is = sides.from; allowed = (devices, sides.held_allowed) }
-
-  pub wanted_side : IsSide wanted
-  wanted_side = record { is = sides.to; allowed = (devices, sides.wanted_allowed) }
-
-  pub held_sides : AreSides held wanted
-  held_sides = record { from = sides.from; to = sides.to; allowed = (devices, sides.held_allowed) }

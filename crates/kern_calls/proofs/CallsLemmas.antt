@@ -12,7 +12,7 @@ use Rattle.kern_model.specs.Touched.{is_call}
 use Rattle.kern_model.specs.CallOrder.{AreCalls}
 use Rattle.kern_model.proofs.OrderLemmas.{calls_total, calls_apart}
 use Rattle.kern_model.proofs.MemberLemmas.{map_member}
-use Rattle.kern_model.proofs.SetLemmas.{item_of_set}
+use Rattle.kern_model.proofs.SetLemmas.{item_of_set, none_in_empty}
 use Rattle.kern_model.proofs.TouchLemmas.{taken_held, put_wanted}
 use Rattle.kern_model.proofs.LeadLemmas.{taken_call, carries, is_own}
 use Rattle.kern_calls.specs.Calls.{own_take, candidates, calls}
@@ -40,3 +40,15 @@ module _ (devices : Devices) (held wanted : Objects) where
 
   pub no_other_calls : (xs : List Call) → AreCalls devices held wanted xs → xs ≡ calls devices held wanted
   no_other_calls xs are = one_list (calls_total held wanted) (is_call devices held wanted) xs (calls devices held wanted) (calls_apart held wanted) are are_the_calls
+
+-- nothing is taken from nothing
+call_alike : (devices others : Devices) (wanted : Objects) (c : Call) → is_call devices set.empty wanted c ≡ true → is_call others set.empty wanted c ≡ true
+call_alike devices others wanted (Put o) h = h
+call_alike devices others wanted (Take o mtu mac) h = absurd (none_in_empty o (taken_held set.empty wanted o (taken_call devices set.empty wanted o mtu mac h)))
+
+pub alike_from_nothing : (devices others : Devices) (wanted : Objects) (xs : List Call) → AreCalls devices set.empty wanted xs → AreCalls others set.empty wanted xs
+alike_from_nothing devices others wanted xs are = record {
+  sorted = are.sorted;
+  sound = λ c member. call_alike devices others wanted c (are.sound c member);
+  complete = λ c due. are.complete c (call_alike others devices wanted c due);
+}

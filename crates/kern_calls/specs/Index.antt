@@ -6,8 +6,6 @@ use Rattle.std.specs.BTreeMap.{get}
 use Rattle.kern_model.specs.declared.object.Object.{Object}
 use Rattle.kern_model.specs.ObjectOrder.{Objects, set_of}
 use Rattle.kern_model.specs.Line.{take_line, IsPrintable}
-use Rattle.kern_model.specs.Kernel.{Devices}
-use Rattle.kern_model.specs.Allowed.{AreAllowed}
 use Rattle.kern_calls.specs.declared.index.Index.{Index}
 use Rattle.kern_calls.specs.Between.{IsAllowed}
 
@@ -39,15 +37,7 @@ pub record IsSide (index : Index) : Type 0 where
   pub is : IsIndex index
   pub allowed : IsAllowed (objects_in index)
 
--- the indexes of what is held and of what is wanted, where what is held is allowed
+-- the indexes of what is held and of what is wanted
 pub record AreSides (held wanted : Index) : Type 0 where
-  pub from : IsIndex held
-  pub to : IsIndex wanted
-  pub allowed : IsAllowed (objects_in held)
-
--- such indexes, where both sets are allowed beside these present devices
-pub record AreAllowedSides (devices : Devices) (held wanted : Index) : Type 0 where
-  pub from : IsIndex held
-  pub to : IsIndex wanted
-  pub held_allowed : AreAllowed devices (objects_in held)
-  pub wanted_allowed : AreAllowed devices (objects_in wanted)
+  pub from : IsSide held
+  pub to : IsSide wanted

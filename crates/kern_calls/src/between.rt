@@ -3,12 +3,11 @@ ghost use Rattle.std.specs.Prelude.{◌≡◌, ◌≤◌, ◌++◌, IfOk, OnOk, 
 ghost use Rattle.std.specs.BTreeMap.{get};
 ghost use Rattle.kern_model.specs.ObjectOrder.{set_of};
 ghost use Rattle.kern_model.specs.Kernel.{map_of};
-ghost use Rattle.kern_model.specs.Allowed.{AreAllowed};
 ghost use Rattle.kern_model.specs.Line.{line_of};
 ghost use Rattle.kern_model.specs.CallOrder.{rank, AreCalls};
 ghost use Rattle.kern_calls.specs.Calls.{own_take};
-ghost use Rattle.kern_calls.specs.Index.{objects_in, AreAllowedSides};
-ghost use Rattle.kern_calls.specs.Between.{place_cmp, IsFit, HoldsCalls};
+ghost use Rattle.kern_calls.specs.Index.{objects_in, AreSides};
+ghost use Rattle.kern_calls.specs.Between.{IsAllowed, place_cmp, IsFit, HoldsCalls};
 
 use crate::form::call_has_form;
 use crate::index::Index;
@@ -40,8 +39,8 @@ pub fn calls_between(
     held: &[Object],
     wanted: &[Object],
 ) -> Result<Vec<Call>, Memory>
-    ensures { IfOk result (λ calls. AreAllowed (map_of devices.now) (set_of held.now)
-        → AreAllowed (map_of devices.now) (set_of wanted.now)
+    ensures { IfOk result (λ calls. IsAllowed (set_of held.now)
+        → IsAllowed (set_of wanted.now)
         → AreCalls (map_of devices.now) (set_of held.now) (set_of wanted.now) calls.items) }
 {
     let present = by_name(alloc, devices)?;
@@ -65,7 +64,7 @@ fn add_takes(
     by_place: &mut BTreeMap<CallPlace, Call>,
 ) -> Result<(), Memory>
     requires empty { (q : _) → get place_cmp by_place.old q ≡ None }
-    ensures { OnOk result (AreAllowedSides (map_of present.now.entries) from.now to.now
+    ensures { OnOk result (AreSides from.now to.now
         → objects_in from.now ≡ set_of held.now → HoldsCalls (map_of present.now.entries) from.now.count
         (objects_in from.now) (objects_in to.now) (get place_cmp by_place.new)
         (map (own_take (map_of present.now.entries)) held.now)) }
@@ -92,7 +91,7 @@ fn add_puts(
     to: &Index,
     by_place: &mut BTreeMap<CallPlace, Call>,
 ) -> Result<(), Memory>
-    ensures { OnOk result (AreAllowedSides (map_of present.now.entries) from.now to.now
+    ensures { OnOk result (AreSides from.now to.now
         → objects_in to.now ≡ set_of wanted.now → (takes : _) → HoldsCalls (map_of present.now.entries)
         from.now.count (objects_in from.now) (objects_in to.now) (get place_cmp by_place.old) takes
         → HoldsCalls (map_of present.now.entries) from.now.count (objects_in from.now)

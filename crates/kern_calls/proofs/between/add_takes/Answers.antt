@@ -16,7 +16,7 @@ use Rattle.kern_model.proofs.LeadLemmas.{call_of_taken}
 use Rattle.kern_calls.specs.Index.{objects_in}
 use Rattle.kern_calls.specs.Calls.{own_take}
 use Rattle.kern_calls.specs.Between.{place_of, place_cmp, IsFit, HoldsCalls}
-use Rattle.kern_calls.proofs.BetweenLemmas.{holds_more, holds_past, held_sides, held_side}
+use Rattle.kern_calls.proofs.BetweenLemmas.{holds_more, holds_past}
 use Rattle.kern_calls.proofs.between.add_takes.Goals as goal
 use Rattle.kern_calls.proofs.between.add_takes.Goals.{then-is_taken+in_ok-insert, else-is_taken}
 
@@ -39,7 +39,7 @@ loop-object-preserved c sides same_held =
     let o : Object = c.object-item.result in
     let done : List Call = map (own_take devices) (take c.loop-object.object-index held) in
     let had : Has s o = subst (λ x. Has x o) (sym same_held) (set_of_member held o (c.loop-object.object-index, c.loop-object-test.true, sym c.object-item.is)) in
-    let decided : c.is_taken.result ≡ is_taken s t o = c.is_taken.ensures (held_sides devices c.args.from.now c.args.to.now sides) had in
+    let decided : c.is_taken.result ≡ is_taken s t o = c.is_taken.ensures sides had in
     let more : map (own_take devices) (take (c.loop-object.object-index + 1) held) ≡ done ++ own_take devices o ∷ [] = map_more (own_take devices) held c.loop-object.object-index o c.loop-object-test.true ∙ ap (λ x. done ++ own_take devices x ∷ []) (sym c.object-item.is) in
     subst (HoldsCalls devices most s t (get place_cmp c.if-is_taken.by_place)) (sym more) (elim c.if-is_taken.branch [
       | then-is_taken+in_ok-insert w ↦
@@ -48,11 +48,11 @@ loop-object-preserved c sides same_held =
           let mac : w.own_mac.result ≡ own_mac devices (name_of o) = w.own_mac.ensures ∙ ap (own_mac devices) w.name-name.ensures in
           let same : Take o w.own_mtu.result w.own_mac.result ≡ own_take devices o = cc (mtu, mac) in
           let ranks = w.place_of-place.ensures.rank ∙ ap rank same in
-          let heights = w.place_of-place.ensures.height ∙ ap (λ n. most - n) (w.height_of.ensures.value (held_side devices c.args.from.now c.args.to.now sides)) in
+          let heights = w.place_of-place.ensures.height ∙ ap (λ n. most - n) (w.height_of.ensures.value sides.from) in
           let lines = w.place_of-place.ensures.line ∙ ap line_of same in
           let placed : w.place_of-place.result ≡ place_of most s t (own_take devices o) = λ i. record { rank = ranks i; height = heights i; line = lines i } in
           subst (λ m. HoldsCalls devices most s t (get place_cmp m) (done ++ own_take devices o ∷ [])) (sym w.by_place-is)
-          (holds_more devices most s t sides.held_allowed sides.wanted_allowed (get place_cmp c.loop-object.by_place) (get place_cmp w.insert.new.self) done w.place_of-place.result (own_take devices o) placed
+          (holds_more devices most s t sides.from.allowed sides.to.allowed (get place_cmp c.loop-object.by_place) (get place_cmp w.insert.new.self) done w.place_of-place.result (own_take devices o) placed
           (call_of_taken devices s t o taken)
           (subst IsFit same w.place_of-place.ensures.fit)
           (λ q. w.in_ok-insert.ensures.updates.0 q ∙ ap (λ x. cond (is_at (place_cmp w.place_of-place.result) q) (Some x) (get place_cmp c.loop-object.by_place q)) same)
@@ -60,7 +60,7 @@ loop-object-preserved c sides same_held =
       | else-is_taken w ↦
           let idle : is_taken s t o ≡ false = sym decided ∙ w.if-is_taken.false in
           subst (λ m. HoldsCalls devices most s t (get place_cmp m) (done ++ own_take devices o ∷ [])) (sym w.by_place-is)
-          (holds_past devices most s t sides.held_allowed sides.wanted_allowed (get place_cmp c.loop-object.by_place) done (own_take devices o)
+          (holds_past devices most s t sides.from.allowed sides.to.allowed (get place_cmp c.loop-object.by_place) done (own_take devices o)
           (ap (λ b. b && (nat_eq (own_mtu devices (name_of o)) (own_mtu devices (name_of o)) && bytes_eq (own_mac devices (name_of o)).0 (own_mac devices (name_of o)).0)) idle)
           (c.loop-object.invariant sides same_held))
     ])

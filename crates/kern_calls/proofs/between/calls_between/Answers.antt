@@ -2,10 +2,10 @@ use Rattle.std.proofs.Common.{◌≡◌, ◌++◌, List, map, ap, sym, subst, �
 use Rattle.kern_model.specs.declared.object.Call.{Call}
 use Rattle.kern_model.specs.ObjectOrder.{Objects, set_of}
 use Rattle.kern_model.specs.Kernel.{Devices, map_of}
-use Rattle.kern_model.specs.Allowed.{AreAllowed}
 use Rattle.kern_model.specs.CallOrder.{AreCalls}
 use Rattle.kern_calls.specs.Calls.{own_take}
-use Rattle.kern_calls.specs.Index.{objects_in, AreAllowedSides}
+use Rattle.kern_calls.specs.Between.{IsAllowed}
+use Rattle.kern_calls.specs.Index.{objects_in, AreSides}
 use Rattle.kern_calls.proofs.BetweenLemmas.{calls_of_map}
 use Rattle.kern_calls.proofs.DownLemmas.{few_in_index}
 use Rattle.kern_calls.proofs.between.calls_between.Goals as goal
@@ -16,14 +16,12 @@ returns c held_allowed wanted_allowed =
     let same_devices : devices ≡ map_of c.args.devices.now = c.in_ok-present.ensures in
     let s : Objects = objects_in c.in_ok-from.from in
     let t : Objects = objects_in c.in_ok-to.to in
-    let held_is : s ≡ set_of c.args.held.now = c.in_ok-from.ensures.objects (map_of c.args.devices.now, held_allowed) in
-    let wanted_is : t ≡ set_of c.args.wanted.now = c.in_ok-to.ensures.objects (map_of c.args.devices.now, wanted_allowed) in
-    let from = c.in_ok-from.ensures.index (map_of c.args.devices.now, held_allowed) in
-    let sides : AreAllowedSides devices c.in_ok-from.from c.in_ok-to.to = record {
-      from = from;
-      to = c.in_ok-to.ensures.index (map_of c.args.devices.now, wanted_allowed);
-      held_allowed = subst (λ d. AreAllowed d s) (sym same_devices) (subst (AreAllowed (map_of c.args.devices.now)) (sym held_is) held_allowed);
-      wanted_allowed = subst (λ d. AreAllowed d t) (sym same_devices) (subst (AreAllowed (map_of c.args.devices.now)) (sym wanted_is) wanted_allowed);
+    let held_is : s ≡ set_of c.args.held.now = c.in_ok-from.ensures.objects held_allowed in
+    let wanted_is : t ≡ set_of c.args.wanted.now = c.in_ok-to.ensures.objects wanted_allowed in
+    let from = c.in_ok-from.ensures.index held_allowed in
+    let sides : AreSides c.in_ok-from.from c.in_ok-to.to = record {
+      from = record { is = from; allowed = subst IsAllowed (sym held_is) held_allowed };
+      to = record { is = c.in_ok-to.ensures.index wanted_allowed; allowed = subst IsAllowed (sym wanted_is) wanted_allowed };
     } in
     let gives = c.into_iter-call-iterator.ensures.into_iter_gives in
     let ends : c.loop-call.calls.items ≡ map (λ e. e.1) c.add_puts.new.by_place.entries =

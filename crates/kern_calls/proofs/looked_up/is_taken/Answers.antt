@@ -11,7 +11,7 @@ use Rattle.kern_calls.proofs.looked_up.is_taken.Goals as goal
 pub returns-then-not-has : goal.returns-then-not-has
 returns-then-not-has c sides had =
     let off : is_on_taken (objects_in c.args.held.now) (objects_in c.args.wanted.now) c.args.object.now ≡ false = sym (c.is_on_taken.ensures sides) ∙ c.if-is_on_taken.false in
-    let out : set.contains (objects_in c.args.wanted.now) c.args.object.now ≡ false = sym (c.has.ensures sides.to) ∙ c.if-not-has.true in
-    ap not (c.has_replacer.ensures sides.to)
+    let out : set.contains (objects_in c.args.wanted.now) c.args.object.now ≡ false = sym (c.has.ensures sides.to.is) ∙ c.if-not-has.true in
+    ap not (c.has_replacer.ensures sides.to.is)
     ∙ ap (λ b. not b && not (list_any (λ other. replaces other c.args.object.now) (listed c.args.wanted.now))) (sym out)
     ∙ taken_by_tests (objects_in c.args.held.now) (listed c.args.wanted.now) c.args.object.now off had
