@@ -4,6 +4,8 @@
 #[cfg(test)]
 mod addresses;
 #[cfg(test)]
+mod calls;
+#[cfg(test)]
 mod kernel;
 #[cfg(test)]
 mod lines;
