@@ -8,9 +8,9 @@ use std::alloc::Global;
 use std::process::Abort;
 use std::test::Fail;
 
-const NO_MAC: Mac = Mac([0; 6]);
+pub(crate) const NO_MAC: Mac = Mac([0; 6]);
 
-const ETH0: Device = Device {
+const DEVICE: Device = Device {
     carrier: true,
     mtu: 1500,
     mac: NO_MAC,
@@ -116,11 +116,11 @@ const STACKED_ANEW: [&str; 13] = [
     "addr add 10.0.6.1/24 dev eth0.5.6",
 ];
 
-fn name(rt: &impl Abort, text: &str) -> DevName {
+pub(crate) fn name(rt: &impl Abort, text: &str) -> DevName {
     read_name(text.as_bytes()).expect(rt, "a device name")
 }
 
-fn bridge(rt: &impl Abort, text: &str, filtering: bool) -> Object {
+pub(crate) fn bridge(rt: &impl Abort, text: &str, filtering: bool) -> Object {
     Object::Link {
         name: name(rt, text),
         kind: LinkKind::Bridge {
@@ -130,7 +130,7 @@ fn bridge(rt: &impl Abort, text: &str, filtering: bool) -> Object {
     }
 }
 
-fn vlan(rt: &impl Abort, text: &str, lower: &str, id: u16) -> Object {
+pub(crate) fn vlan(rt: &impl Abort, text: &str, lower: &str, id: u16) -> Object {
     Object::Link {
         name: name(rt, text),
         kind: LinkKind::Vlan {
@@ -141,14 +141,14 @@ fn vlan(rt: &impl Abort, text: &str, lower: &str, id: u16) -> Object {
     }
 }
 
-fn mtu(rt: &impl Abort, text: &str, mtu: u32) -> Object {
+pub(crate) fn mtu(rt: &impl Abort, text: &str, mtu: u32) -> Object {
     Object::Mtu {
         name: name(rt, text),
         mtu,
     }
 }
 
-fn master(rt: &impl Abort, port: &str, bridge: &str) -> Object {
+pub(crate) fn master(rt: &impl Abort, port: &str, bridge: &str) -> Object {
     Object::Master {
         port: name(rt, port),
         bridge: name(rt, bridge),
@@ -165,13 +165,13 @@ fn port_vlan(rt: &impl Abort, port: &str, is_plain: bool) -> Object {
     }
 }
 
-fn up(rt: &impl Abort, text: &str) -> Object {
+pub(crate) fn up(rt: &impl Abort, text: &str) -> Object {
     Object::Up {
         name: name(rt, text),
     }
 }
 
-fn address(rt: &impl Abort, dev: &str, text: &str) -> Object {
+pub(crate) fn address(rt: &impl Abort, dev: &str, text: &str) -> Object {
     Object::Address {
         dev: name(rt, dev),
         cidr: read_cidr(text.as_bytes()).ok().expect(rt, "a prefix"),
@@ -180,27 +180,27 @@ fn address(rt: &impl Abort, dev: &str, text: &str) -> Object {
 
 // A kernel in memory, the list of its devices, and what it is to hold.
 #[derive(Drop)]
-struct Network {
-    kernel: MemKernel,
+pub(crate) struct Network {
+    pub(crate) kernel: MemKernel,
     devices: Vec<(DevName, Device)>,
     held: Vec<Object>,
 }
 
 impl Network {
-    fn new(rt: &impl Abort, alloc: Global, names: &[&str]) -> Result<Network, Fail> {
+    pub(crate) fn new(rt: &impl Abort, alloc: Global, names: &[&str]) -> Result<Network, Fail> {
         let mut kernel = MemKernel::new(alloc, Vec::new(alloc), Vec::new(alloc));
         let mut devices = Vec::new(alloc);
         for text in names {
             let name = name(rt, text);
             let event = DevEvent::Add {
                 name,
-                carrier: ETH0.carrier,
-                mtu: ETH0.mtu,
-                mac: ETH0.mac,
+                carrier: DEVICE.carrier,
+                mtu: DEVICE.mtu,
+                mac: DEVICE.mac,
             };
             assert!(rt; kernel.may_happen(&event), "{text}");
             assert!(rt; kernel.environment(&event).is_ok(), "{text}");
-            devices.push((name, ETH0))?;
+            devices.push((name, DEVICE))?;
         }
         Ok(Network {
             kernel,
@@ -209,7 +209,7 @@ impl Network {
         })
     }
 
-    // Makes the calls to what is wanted, each of which is admitted in its turn, and has this line.
+    // Makes the calls to what is wanted, which have these lines.
     fn settle(
         &mut self,
         rt: &impl Abort,
@@ -218,10 +218,24 @@ impl Network {
         lines: &[&str],
     ) -> Result<(), Fail> {
         let calls = calls_between(alloc, &self.devices, &self.held, wanted)?;
-        for (call, line) in calls.iter().zip(lines) {
-            make(rt, &mut self.kernel, call, line);
-        }
         assert_eq!(rt; calls.len(), lines.len());
+        for (call, line) in calls.iter().zip(lines) {
+            expect_line(rt, call, line);
+        }
+        self.reach(rt, alloc, wanted)
+    }
+
+    // Makes the calls to what is wanted, each of which is admitted in its turn.
+    pub(crate) fn reach(
+        &mut self,
+        rt: &impl Abort,
+        alloc: Global,
+        wanted: &[Object],
+    ) -> Result<(), Fail> {
+        for call in &calls_between(alloc, &self.devices, &self.held, wanted)? {
+            assert!(rt; self.kernel.admits(call), "{call:?}");
+            assert!(rt; self.kernel.apply(call).is_ok(), "{call:?}");
+        }
         assert_eq!(rt; self.kernel.objects().len(), wanted.len());
         for object in wanted {
             assert!(rt;
@@ -234,12 +248,10 @@ impl Network {
     }
 }
 
-fn make(rt: &impl Abort, kernel: &mut MemKernel, call: &Call, line: &str) {
+fn expect_line(rt: &impl Abort, call: &Call, line: &str) {
     let mut into = [0u8; 256];
     let size = print_call(call, &mut into);
     assert_eq!(rt; &into[..size], line.as_bytes());
-    assert!(rt; kernel.admits(call), "{line}");
-    assert!(rt; kernel.apply(call).is_ok(), "{line}");
 }
 
 #[test]

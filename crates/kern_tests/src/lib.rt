@@ -11,3 +11,5 @@ mod kernel;
 mod lines;
 #[cfg(test)]
 mod names;
+#[cfg(test)]
+mod random_calls;
