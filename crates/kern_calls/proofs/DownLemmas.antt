@@ -1,5 +1,5 @@
 -- A name's height, and whether it falls, by the link of that name and its lower name.
-use Rattle.std.proofs.Common.{arith, ℕ, ◌≡◌, ◌≤◌, ◌+◌, ◌⊎◌, inl, inr, List, [], ◌∷◌, Option, true, false, Bool, cond, Contains, length, refl, ap, sym, subst, ◌∙◌}
+use Rattle.std.proofs.Common.{arith, ℕ, ◌≡◌, ◌≤◌, ◌+◌, inl, inr, List, [], ◌∷◌, Option, true, false, Bool, cond, length, ap, sym, subst, ◌∙◌}
 use Rattle.std.specs.FinSet as set
 use Rattle.kern_model.specs.declared.object.Mac.{Mac}
 use Rattle.kern_model.specs.declared.object.LinkKind.{LinkKind}
@@ -10,12 +10,13 @@ use Rattle.kern_model.specs.ObjectOrder.{Objects, Has, set_of, object_cmp}
 use Rattle.kern_model.specs.Standing.{height, is_over}
 use Rattle.kern_model.specs.Touched.{falls}
 use Rattle.kern_model.proofs.OrderLemmas.{objects_total}
-use Rattle.kern_model.proofs.TestLemmas.{true_of_both_ways, false_of_not, true_or_not}
-use Rattle.kern_model.proofs.SetLemmas.{none_in_empty}
+use Rattle.kern_model.proofs.TestLemmas.{true_of_both_ways, false_of_not}
 use Rattle.kern_model.proofs.StandingLemmas.{height_within, over_itself, over_lower, over_cases}
 use Rattle.kern_model.proofs.AllowedLemmas.{one_link, one_higher, lowest}
 use Rattle.kern_model.proofs.TouchLemmas.{falls_of, falls_with, falls_above}
+use Rattle.kern_calls.specs.declared.index.Index.{Index}
 use Rattle.kern_calls.specs.Between.{IsAllowed}
+use Rattle.kern_calls.specs.Index.{listed, objects_in, IsIndex}
 
 -- a set of a list is no larger than the list
 insert_size : (s : Objects) (o : Object) → set.len (set.insert s o) ≤ set.len s + 1
@@ -65,6 +66,11 @@ module _ (held wanted : Objects) (allowed : IsAllowed held) where
         | inr v ↦ let one = one_link allowed.0 held allowed.1 name (Vlan v.lower v.id v.mac) (Bridge mac filtering) v.held h in cc one
       ])
 
+  -- a name that is no VLAN stands where its link is wanted
+  pub stands_low : (name : List ℕ) (kind : LinkKind) → Has held (object.Link name kind) → Has wanted (object.Link name kind) → height held name ≡ 0 → falls held wanted name ≡ false
+  stands_low name (Bridge mac filtering) h is low = stands_on_bridge name mac filtering h is
+  stands_low name (Vlan lower id mac) h is low = let up = higher_by_one held allowed name lower id mac h in absurd (omega arith)
+
   pub falls_by_lower : (name lower : List ℕ) (id : ℕ) (mac : Option Mac) → Has held (object.Link name (Vlan lower id mac)) → Has wanted (object.Link name (Vlan lower id mac)) → falls held wanted name ≡ falls held wanted lower
   falls_by_lower name lower id mac h is = true_of_both_ways (falls held wanted name) (falls held wanted lower)
       (λ down.
@@ -79,3 +85,10 @@ module _ (held wanted : Objects) (allowed : IsAllowed held) where
             falls_of held wanted lower f.base f.kind f.had f.unwanted (subst (λ n. is_over held f.base n ≡ true) below v.over)
       ])
       (λ down. falls_above held wanted lower name down (over_lower held name lower id mac h))
+
+-- a name is no higher than an index has objects
+pub low_in_index : (index : Index) → IsIndex index → (name : List ℕ) → height (objects_in index) name ≤ index.count
+low_in_index index is name = let short = short_height (listed index) name in let counted = is.counted in omega arith
+
+pub few_in_index : (index : Index) → IsIndex index → set.len (objects_in index) ≤ index.count
+few_in_index index is = let size = set_size (listed index) in let counted = is.counted in omega arith

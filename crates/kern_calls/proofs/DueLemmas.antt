@@ -1,5 +1,5 @@
 -- Which held objects are taken and which wanted ones put, by shorter tests.
-use Rattle.std.proofs.Common.{◌≡◌, inl, inr, List, true, false, Bool, Contains, sym, subst, ◌∙◌}
+use Rattle.std.proofs.Common.{◌≡◌, inl, inr, List, true, false}
 use Rattle.std.specs.Prelude.{◌&&◌, not}
 use Rattle.std.specs.List.{list_any}
 use Rattle.std.specs.FinSet as set
@@ -9,7 +9,7 @@ use Rattle.kern_model.specs.Kernel.{replaces}
 use Rattle.kern_model.specs.Touched.{is_on_taken, is_taken, is_put}
 use Rattle.kern_model.proofs.TestLemmas.{both, of_both, not_true, of_not, true_of_both_ways, from_any, of_any}
 use Rattle.kern_model.proofs.SetLemmas.{set_of_member, member_of_set}
-use Rattle.kern_model.proofs.TouchLemmas.{touched_held, touched_wanted, touched_on, touched_cases, replaced_by, taken_touched, taken_not_replaced, taken_of, taken_on, put_of, put_touched}
+use Rattle.kern_model.proofs.TouchLemmas.{touched_held, touched_wanted, touched_cases, replaced_by, taken_touched, taken_not_replaced, taken_of, put_of, put_touched}
 use Rattle.kern_calls.proofs.GoOnLemmas.{is_replaced_of_all}
 
 module _ (held : Objects) (wanted : List Object) (o : Object) (off : is_on_taken held (set_of wanted) o ≡ false) where

@@ -1,12 +1,12 @@
 -- After a front of the calls, the others are the calls from what is then held.
-use Rattle.std.proofs.Common.{arith, ℕ, ◌≡◌, ◌≤◌, ◌-◌, ◌⊎◌, inl, inr, List, [], ◌∷◌, ◌++◌, Option, true, Bool, Contains, refl, ap, sym, subst, ◌∙◌}
+use Rattle.std.proofs.Common.{arith, ℕ, ◌≡◌, ◌≤◌, ◌-◌, ◌⊎◌, inl, inr, List, [], ◌∷◌, ◌++◌, true, Contains, refl, ap, sym, subst, ◌∙◌}
 use Rattle.std.specs.Prelude.{⊤, not}
 use Rattle.std.specs.Ordering.{nat_cmp}
 use Rattle.std.specs.declared.cmp.Ordering.TheVariants.{Less}
 use Rattle.std.specs.List.{AllByRecursion}
 use Rattle.std.specs.Cmp.{tied_itself}
 use Rattle.std.specs.FinSet as set
-use Rattle.std.proofs.lemmas.List.Elements.{Contains-append_right, Contains-append_cases}
+use Rattle.std.proofs.lemmas.List.Elements.{Contains-append_cases}
 use Rattle.kern_model.specs.declared.object.Mac.{Mac}
 use Rattle.kern_model.specs.declared.object.LinkKind.{LinkKind}
 use Rattle.kern_model.specs.declared.object.LinkKind.TheVariants.{Bridge, Vlan}
@@ -15,21 +15,21 @@ use Rattle.kern_model.specs.declared.object.Object.TheVariants as object
 use Rattle.kern_model.specs.declared.object.Call.{Call}
 use Rattle.kern_model.specs.declared.object.Call.TheVariants.{Put, Take}
 use Rattle.kern_model.specs.ObjectOrder.{Objects, Has}
-use Rattle.kern_model.specs.Standing.{places_of, is_over, IsOver, is_vlan_under, height}
+use Rattle.kern_model.specs.Standing.{places_of, IsOver, is_vlan_under, height}
 use Rattle.kern_model.specs.Kernel.{Devices, replaces}
 use Rattle.kern_model.specs.Allowed.{AreAllowed}
 use Rattle.kern_model.specs.Touched.{falls, is_on_taken, is_touched, is_replaced, is_taken, is_put, is_call}
 use Rattle.kern_model.specs.CallOrder.{rank, height_of, height_place, call_cmp, AreCalls, after_calls}
 use Rattle.kern_model.proofs.OrderLemmas.{calls_total, rank_rises, place_rises}
-use Rattle.kern_model.proofs.MemberLemmas.{here, there, first_or_later, none_in_nil, all_members, member_of_all}
+use Rattle.kern_model.proofs.MemberLemmas.{here, none_in_nil, member_of_all}
 use Rattle.kern_model.proofs.SetLemmas.{has_retained, of_retained, same_members, item_of_set}
-use Rattle.kern_model.proofs.TestLemmas.{both, of_both, not_true, of_not, true_or_not, from_any, of_any}
-use Rattle.kern_model.proofs.StandingLemmas.{over_lower, over_on, over_cases, higher, height_within}
+use Rattle.kern_model.proofs.TestLemmas.{of_both, of_not, true_or_not, from_any, of_any}
+use Rattle.kern_model.proofs.StandingLemmas.{over_cases, higher, height_within}
 use Rattle.kern_model.proofs.GoneLemmas.{is_over_of_test, test_of_is_over, over_more}
 use Rattle.kern_model.proofs.AllowedLemmas.{one_link}
 use Rattle.kern_model.proofs.KeepLemmas.{only_one}
-use Rattle.kern_model.proofs.TouchLemmas.{IsReplaceable, replaceable, falls_with, falls_of, on_taken_at, touched_held, touched_wanted, touched_on, touched_cases, replaced_by, taken_held, taken_touched, taken_not_replaced, taken_of, taken_on, put_wanted, put_of, put_touched}
-use Rattle.kern_model.proofs.LeadLemmas.{own_take, IsPut, PutsAreLeft, TakesAreLeft, IsStillReplaced, AtTake, at_first, after_take, after_puts, puts_are_left, all_puts, first_before, taken_call, carries, is_own, call_of_taken}
+use Rattle.kern_model.proofs.TouchLemmas.{replaceable, falls_with, falls_of, on_taken_at, touched_held, touched_wanted, touched_on, touched_cases, replaced_by, taken_held, taken_touched, taken_not_replaced, taken_of, taken_on, put_wanted, put_of, put_touched}
+use Rattle.kern_model.proofs.LeadLemmas.{own_take, IsPut, PutsAreLeft, TakesAreLeft, AtTake, at_first, after_take, after_puts, puts_are_left, all_puts, first_before, taken_call, carries, is_own, call_of_taken}
 use Rattle.kern_calls.proofs.AlikeLemmas.{left_alike, less_alike, resorted, front_less}
 
 -- where puts are left alone, or takes too

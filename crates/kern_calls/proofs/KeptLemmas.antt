@@ -1,12 +1,10 @@
 -- What the calls leave alone, what falls, and what grounds VLANs.
 use Rattle.std.proofs.Common.{arith, ℕ, ◌≡◌, ◌≤◌, ◌<◌, ◌++◌, inl, inr, List, [], ◌∷◌, Option, true, false, Bool, cond, Contains, length, filter, refl, ap, sym, subst, ◌∙◌}
-use Rattle.std.specs.Prelude.{◌↔◌}
 use Rattle.std.specs.declared.cmp.Ordering.TheVariants.{Less}
 use Rattle.std.specs.List.Sorted.{IsStrictlySortedBy}
 use Rattle.std.specs.Cmp.{tied_itself}
 use Rattle.std.specs.FinSet as set
 use Rattle.kern_model.specs.declared.object.Mac.{Mac}
-use Rattle.kern_model.specs.declared.object.LinkKind.{LinkKind}
 use Rattle.kern_model.specs.declared.object.LinkKind.TheVariants.{Vlan}
 use Rattle.kern_model.specs.declared.object.Object.{Object}
 use Rattle.kern_model.specs.declared.object.Object.TheVariants as object
@@ -15,14 +13,14 @@ use Rattle.kern_model.specs.declared.object.Call.TheVariants.{Put, Take}
 use Rattle.kern_model.specs.ObjectOrder.{Objects, Has, object_cmp}
 use Rattle.kern_model.specs.Standing.{places_of, is_over, IsOver}
 use Rattle.kern_model.specs.Kernel.{Devices, object_of, after_call}
-use Rattle.kern_model.specs.Touched.{falls, is_on_taken, is_touched, is_taken, is_put, is_call}
-use Rattle.kern_model.specs.CallOrder.{call_cmp, AreCalls, AreAdmitted, after_calls}
+use Rattle.kern_model.specs.Touched.{falls, is_touched, is_call}
+use Rattle.kern_model.specs.CallOrder.{call_cmp, AreAdmitted, after_calls}
 use Rattle.kern_model.proofs.OrderLemmas.{objects_total, calls_total}
-use Rattle.kern_model.proofs.MemberLemmas.{here, there, first_or_later, none_in_nil, member_of_all}
+use Rattle.kern_model.proofs.MemberLemmas.{here, there, member_of_all}
 use Rattle.kern_model.proofs.SetLemmas.{same_object, same_members, none_in_empty}
 use Rattle.kern_model.proofs.TestLemmas.{both, of_both, not_true, of_not, from_any}
 use Rattle.kern_model.proofs.GoneLemmas.{is_over_of_test, test_of_is_over}
-use Rattle.kern_model.proofs.TouchLemmas.{falls_with, falls_above, link_falls, taken_unwanted, touched_cases, taken_held, taken_touched, put_touched}
+use Rattle.kern_model.proofs.TouchLemmas.{falls_with, falls_above, link_falls, taken_unwanted, touched_cases, taken_touched, put_touched}
 use Rattle.kern_model.proofs.LeadLemmas.{own_take, taken_call, carries, is_own}
 use Rattle.kern_calls.specs.Kept.{IsOverTaken, IsOffTaken, IsWholePart}
 use Rattle.kern_calls.specs.Counted.{takes, puts}

@@ -7,3 +7,5 @@ pub mod LowerLemmas
 pub mod DownLemmas
 pub mod DueLemmas
 pub mod BetweenLemmas
+pub mod IndexLemmas
+pub mod PresentLemmas

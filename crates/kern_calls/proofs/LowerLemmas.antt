@@ -1,28 +1,25 @@
 -- The calls between sets without their addresses and routes.
-use Rattle.std.proofs.Common.{arith, ℕ, ◌≡◌, ◌-◌, ◌⊎◌, inl, inr, List, [], ◌∷◌, Bool, true, false, cond, Contains, filter, refl, ap, sym, subst, ◌∙◌}
+use Rattle.std.proofs.Common.{arith, ℕ, ◌≡◌, ◌-◌, inl, inr, List, [], ◌∷◌, Bool, true, false, cond, Contains, filter, refl, ap, subst, ◌∙◌}
 use Rattle.std.specs.Ordering.{nat_cmp}
 use Rattle.std.specs.declared.cmp.Ordering.{Ordering}
 use Rattle.std.specs.declared.cmp.Ordering.TheVariants.{Less}
-use Rattle.std.specs.List.{AllByRecursion}
 use Rattle.std.specs.List.Sorted.{IsStrictlySortedBy}
 use Rattle.std.specs.FinSet as set
-use Rattle.kern_model.specs.declared.object.Mac.{Mac}
-use Rattle.kern_model.specs.declared.object.LinkKind.{LinkKind}
 use Rattle.kern_model.specs.declared.object.Object.{Object}
 use Rattle.kern_model.specs.declared.object.Object.TheVariants as object
 use Rattle.kern_model.specs.declared.object.Call.{Call}
 use Rattle.kern_model.specs.declared.object.Call.TheVariants.{Put, Take}
 use Rattle.kern_model.specs.ObjectOrder.{Objects, Has}
-use Rattle.kern_model.specs.Standing.{places_of, is_over, IsOver}
+use Rattle.kern_model.specs.Standing.{places_of, is_over}
 use Rattle.kern_model.specs.Kernel.{Devices, replaces}
 use Rattle.kern_model.specs.Touched.{falls, is_on_taken, is_touched, is_taken, is_put, is_call}
 use Rattle.kern_model.specs.CallOrder.{rank, height_of, height_place, call_cmp, AreCalls}
-use Rattle.kern_model.proofs.MemberLemmas.{here, there, first_or_later, none_in_nil, all_members, member_of_all}
+use Rattle.kern_model.proofs.MemberLemmas.{here, there, first_or_later, all_members, member_of_all}
 use Rattle.kern_model.proofs.SetLemmas.{has_retained, of_retained}
 use Rattle.kern_model.proofs.TestLemmas.{true_or_not, from_any}
 use Rattle.kern_model.proofs.GoneLemmas.{is_over_of_test, test_of_is_over, over_more}
 use Rattle.kern_model.proofs.TouchLemmas.{falls_with, falls_of, on_taken_at, touched_held, touched_wanted, touched_on, touched_cases, replaced_by, taken_held, taken_touched, taken_not_replaced, taken_of, put_wanted, put_of, put_touched}
-use Rattle.kern_model.proofs.LeadLemmas.{own_take, taken_call, carries, is_own, call_of_taken}
+use Rattle.kern_model.proofs.LeadLemmas.{taken_call, carries, is_own, call_of_taken}
 use Rattle.kern_calls.specs.Lower.{is_lower, lower_part, is_lower_call}
 use Rattle.kern_calls.proofs.FilterLemmas.{from_filter, in_filter}
 use Rattle.kern_calls.proofs.AlikeLemmas.{left_alike, less_alike, resorted}

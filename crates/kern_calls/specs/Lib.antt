@@ -12,3 +12,5 @@ pub mod Lower
 pub mod Due
 -- what the program that computes the calls is asked, and where it places each
 pub mod Between
+-- objects by the lines that take them
+pub mod Index

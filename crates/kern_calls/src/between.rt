@@ -1,46 +1,54 @@
 //! The program that computes the calls between what is held and what is wanted.
-ghost use Rattle.std.specs.Prelude.{◌≡◌, ◌≤◌, ◌++◌, IfOk, OnOk, None, map, length};
-ghost use Rattle.std.specs.List.{AllByRecursion};
+ghost use Rattle.std.specs.Prelude.{◌≡◌, ◌≤◌, ◌++◌, IfOk, OnOk, None, map};
 ghost use Rattle.std.specs.BTreeMap.{get};
 ghost use Rattle.kern_model.specs.ObjectOrder.{set_of};
 ghost use Rattle.kern_model.specs.Kernel.{map_of};
-ghost use Rattle.kern_model.specs.Allowed.{AreAllowed};
-ghost use Rattle.kern_model.specs.Line.{line_of, IsPrintable};
+ghost use Rattle.kern_model.specs.Line.{line_of};
 ghost use Rattle.kern_model.specs.CallOrder.{rank, AreCalls};
 ghost use Rattle.kern_calls.specs.Calls.{own_take};
-ghost use Rattle.kern_calls.specs.Between.{place_cmp, HoldsCalls};
+ghost use Rattle.kern_calls.specs.Index.{objects_in, AreSides};
+ghost use Rattle.kern_calls.specs.Between.{IsAllowed, place_cmp, IsFit, HoldsCalls};
 
+use crate::form::call_has_form;
+use crate::index::Index;
+use crate::line::Line;
 use crate::looked_up::{height_of, is_put, is_taken};
-use kern_model::{Call, DevName, Device, LinkKind, Object, own_mac, own_mtu, print_call};
-use plane_io::{Memory, Text};
+use crate::present::{by_name, own_mac, own_mtu};
+use kern_model::{Call, DevName, Device, LinkKind, Object};
+use plane_io::Memory;
 use std::alloc::Global;
 use std::collections::BTreeMap;
 
 /// Where a call stands among others: by its rank, by its height, then by the bytes of its line.
 #[derive(Debug, PartialEq, Eq, PartialOrd, Ord, Drop)]
-pub(crate) struct Place {
+pub(crate) struct CallPlace {
     pub(crate) rank: u8,
     pub(crate) height: usize,
-    pub(crate) line: Text,
+    pub(crate) line: Line,
 }
 
-/// The calls between what is held and what is wanted beside these present devices, in their order.
+/// The calls between what is held and what is wanted beside these present devices, in their order. That holds where both sets
+/// are allowed; of other sets nothing is said.
+///
+/// # Errors
+///
+/// `Memory` where there is not enough of it.
 pub fn calls_between(
     alloc: Global,
     devices: &[(DevName, Device)],
     held: &[Object],
     wanted: &[Object],
 ) -> Result<Vec<Call>, Memory>
-    requires from { AreAllowed (map_of devices.now) (set_of held.now) }
-    requires to { AreAllowed (map_of devices.now) (set_of wanted.now) }
-    requires held_form { AllByRecursion IsPrintable held.now }
-    requires wanted_form { AllByRecursion IsPrintable wanted.now }
-    ensures { IfOk result (λ calls. AreCalls (map_of devices.now) (set_of held.now)
-        (set_of wanted.now) calls.items) }
+    ensures { IfOk result (λ calls. IsAllowed (set_of held.now)
+        → IsAllowed (set_of wanted.now)
+        → AreCalls (map_of devices.now) (set_of held.now) (set_of wanted.now) calls.items) }
 {
+    let present = by_name(alloc, devices)?;
+    let from = Index::of(alloc, held)?;
+    let to = Index::of(alloc, wanted)?;
     let mut by_place = BTreeMap::new(alloc);
-    add_takes(alloc, devices, held, wanted, &mut by_place)?;
-    add_puts(alloc, devices, held, wanted, &mut by_place)?;
+    add_takes(&present, held, &from, &to, &mut by_place)?;
+    add_puts(&present, wanted, &from, &to, &mut by_place)?;
     let mut calls = Vec::new(alloc);
     for (_, call) in by_place {
         calls.push(call)?;
@@ -49,29 +57,27 @@ pub fn calls_between(
 }
 
 fn add_takes(
-    alloc: Global,
-    devices: &[(DevName, Device)],
+    present: &BTreeMap<DevName, Device>,
     held: &[Object],
-    wanted: &[Object],
-    by_place: &mut BTreeMap<Place, Call>,
+    from: &Index,
+    to: &Index,
+    by_place: &mut BTreeMap<CallPlace, Call>,
 ) -> Result<(), Memory>
-    requires from { AreAllowed (map_of devices.now) (set_of held.now) }
-    requires to { AreAllowed (map_of devices.now) (set_of wanted.now) }
-    requires form { AllByRecursion IsPrintable held.now }
     requires empty { (q : _) → get place_cmp by_place.old q ≡ None }
-    ensures { OnOk result (HoldsCalls (map_of devices.now) (length held.now) (set_of held.now)
-        (set_of wanted.now) (get place_cmp by_place.new)
-        (map (own_take (map_of devices.now)) held.now)) }
+    ensures { OnOk result (AreSides from.now to.now
+        → objects_in from.now ≡ set_of held.now → HoldsCalls (map_of present.now.entries) from.now.count
+        (objects_in from.now) (objects_in to.now) (get place_cmp by_place.new)
+        (map (own_take (map_of present.now.entries)) held.now)) }
 {
     for object in held {
-        if is_taken(held, wanted, object) {
+        if is_taken(from, to, object) {
             let name = object.name();
             let call = Call::Take {
                 object: *object,
-                mtu: own_mtu(devices, &name),
-                mac: own_mac(devices, &name),
+                mtu: own_mtu(present, &name),
+                mac: own_mac(present, &name),
             };
-            let place = find_place(alloc, &call, held.len() - height_of(held, object))?;
+            let place = place_of(&call, from.count - height_of(from, object));
             by_place.insert(place, call)?;
         }
     }
@@ -79,42 +85,38 @@ fn add_takes(
 }
 
 fn add_puts(
-    alloc: Global,
-    devices: &[(DevName, Device)],
-    held: &[Object],
+    present: &BTreeMap<DevName, Device>,
     wanted: &[Object],
-    by_place: &mut BTreeMap<Place, Call>,
+    from: &Index,
+    to: &Index,
+    by_place: &mut BTreeMap<CallPlace, Call>,
 ) -> Result<(), Memory>
-    requires from { AreAllowed (map_of devices.now) (set_of held.now) }
-    requires to { AreAllowed (map_of devices.now) (set_of wanted.now) }
-    requires form { AllByRecursion IsPrintable wanted.now }
-    requires takes { HoldsCalls (map_of devices.now) (length held.now) (set_of held.now)
-        (set_of wanted.now) (get place_cmp by_place.old)
-        (map (own_take (map_of devices.now)) held.now) }
-    ensures { OnOk result (HoldsCalls (map_of devices.now) (length held.now) (set_of held.now)
-        (set_of wanted.now) (get place_cmp by_place.new)
-        (map (own_take (map_of devices.now)) held.now ++ map Call.Put wanted.now)) }
+    ensures { OnOk result (AreSides from.now to.now
+        → objects_in to.now ≡ set_of wanted.now → (takes : _) → HoldsCalls (map_of present.now.entries)
+        from.now.count (objects_in from.now) (objects_in to.now) (get place_cmp by_place.old) takes
+        → HoldsCalls (map_of present.now.entries) from.now.count (objects_in from.now)
+        (objects_in to.now) (get place_cmp by_place.new) (takes ++ map Call.Put wanted.now)) }
 {
     for object in wanted {
-        if is_put(held, wanted, object) {
+        if is_put(from, to, object) {
             let call = Call::Put(*object);
-            let place = find_place(alloc, &call, height_of(wanted, object))?;
+            let place = place_of(&call, height_of(to, object));
             by_place.insert(place, call)?;
         }
     }
     Ok(())
 }
 
-fn find_place(alloc: Global, call: &Call, height: usize) -> Result<Place, Memory>
-    ensures rank { IfOk result (λ place. place.rank ≡ rank call.now) }
-    ensures height { IfOk result (λ place. place.height ≡ height) }
-    ensures line { IfOk result (λ place. place.line ≡ line_of call.now) }
+fn place_of(call: &Call, height: usize) -> CallPlace
+    ensures rank { result.rank ≡ rank call.now }
+    ensures height { result.height ≡ height }
+    ensures line { result.line ≡ line_of call.now }
+    ensures fit { IsFit call.now }
 {
-    let mut buffer = [0u8; 256];
-    let size = print_call(call, &mut buffer);
-    Ok(Place {
+    call_has_form(call);
+    CallPlace {
         rank: call.rank(),
         height,
-        line: Text::from_bytes(alloc, &buffer[..size])?,
-    })
+        line: Line::of(call),
+    }
 }

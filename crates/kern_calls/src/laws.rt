@@ -1,5 +1,6 @@
 // Laws of the calls between two sets. Each body is empty, and the contract is the law.
 ghost use Rattle.std.specs.Prelude.{◌≡◌, ◌≤◌, ◌<◌, ◌↔◌, ◌++◌, ℕ, List, Option, Contains, length, filter, true, false};
+ghost use Rattle.std.specs.FinSet as set;
 ghost use Rattle.kern_model.specs.declared.object.Mac.{Mac};
 ghost use Rattle.kern_model.specs.declared.object.LinkKind.TheVariants.{Vlan};
 ghost use Rattle.kern_model.specs.declared.object.Object.{Object};
@@ -89,4 +90,10 @@ pub fn levels_ground_vlans()
         → Has objects (Link name (Vlan lower id mac)) → level lower < level name)
         → (name lower : List ℕ) (id : ℕ) (mac : Option Mac)
         → Has objects (Link name (Vlan lower id mac)) → is_over objects name lower ≡ true → ⊥ }
+{}
+
+/// From nothing the calls are the same beside any devices.
+pub fn calls_from_nothing_are_alike()
+    ensures { (devices others : Devices) (wanted : Objects) (calls : List Call)
+        → AreCalls devices set.empty wanted calls → AreCalls others set.empty wanted calls }
 {}

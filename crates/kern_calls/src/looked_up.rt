@@ -1,57 +1,89 @@
-//! What a list of objects tells of names: their links, their heights and whether they fall.
+//! What is looked up of objects: their links, their heights and whether they fall.
 ghost use Rattle.std.specs.Prelude.{◌≡◌, ◌≤◌, ℕ, List, Option, IfSome, IfNone, length};
 ghost use Rattle.std.specs.List.{list_any};
 ghost use Rattle.std.specs.FinSet as set;
 ghost use Rattle.kern_model.specs.declared.object.Mac.{Mac};
-ghost use Rattle.kern_model.specs.ObjectOrder.{Has, set_of};
+ghost use Rattle.kern_model.specs.ObjectOrder.{Has};
 ghost use Rattle.kern_model.specs.Kernel.{replaces};
 ghost use Rattle.kern_model.specs.Standing as standing;
 ghost use Rattle.kern_model.specs.Touched as touched;
 ghost use Rattle.kern_model.specs.CallOrder as order;
-ghost use Rattle.kern_calls.specs.Between.{IsAllowed};
+ghost use Rattle.kern_calls.specs.Index.{listed, objects_in, IsIndex, IsSide, AreSides};
 
-use kern_model::{DevName, LinkKind, Object, is_among};
+use crate::index::Index;
+use kern_model::{DevName, LinkKind, Object};
 
-// Whether the set of the objects has the object.
-pub(crate) fn has(objects: &[Object], object: &Object) -> bool
-    ensures { result ≡ set.contains (set_of objects.now) object.now }
+// Whether the objects have the object.
+pub(crate) fn has(objects: &Index, object: &Object) -> bool
+    ensures { IsIndex objects.now → result ≡ set.contains (objects_in objects.now) object.now }
 {
-    is_among(objects, object)
+    match objects.find(object) {
+        Some(found) => found.same(object),
+        None => false,
+    }
 }
 
 // The kind of the link of that name.
-fn link_of<'a>(objects: &'a [Object], name: &DevName) -> Option<&'a LinkKind>
-    ensures some { IfSome result (λ kind. Has (set_of objects.now) (Object.Link name.now kind.now)) }
-    ensures none { IfNone result ((kind : _)
-        → Has (set_of objects.now) (Object.Link name.now kind) → ⊥) }
+fn link_of<'a>(objects: &'a Index, name: &DevName) -> Option<&'a LinkKind>
+    ensures some { IfSome result (λ kind. IsIndex objects.now
+        → Has (objects_in objects.now) (Object.Link name.now kind.now)) }
+    ensures none { IfNone result (IsIndex objects.now → (kind : _)
+        → Has (objects_in objects.now) (Object.Link name.now kind) → ⊥) }
 {
-    for object in objects {
-        if let Object::Link { name: other, kind } = object {
-            if other.same(name) {
-                return Some(kind);
-            }
-        }
+    let named = Object::Link {
+        name: *name,
+        kind: LinkKind::Bridge {
+            mac: None,
+            filtering: false,
+        },
+    };
+    match objects.find(&named) {
+        Some(found) => match found {
+            Object::Link { kind, .. } => Some(kind),
+            _ => None,
+        },
+        None => None,
     }
-    None
 }
 
 /// How many VLANs the name is over, its own counted.
-pub(crate) fn height(objects: &[Object], name: &DevName) -> usize
-    requires { IsAllowed (set_of objects.now) }
-    ensures value { result ≡ standing.height (set_of objects.now) name.now }
-    ensures within { result ≤ length objects.now }
+pub(crate) fn height(objects: &Index, name: &DevName) -> usize
+    ensures value { IsSide objects.now
+        → result ≡ standing.height (objects_in objects.now) name.now }
+    ensures within { result ≤ objects.now.count }
 {
+    height_within(objects, name, objects.count)
+}
+
+// That height where it is no more than so many steps.
+fn height_within(objects: &Index, name: &DevName, steps: usize) -> usize
+    ensures value { IsSide objects.now → standing.height (objects_in objects.now) name.now ≤ steps
+        → result ≡ standing.height (objects_in objects.now) name.now }
+    ensures within { result ≤ steps }
+{
+    if steps == 0 {
+        return 0;
+    }
     match link_of(objects, name) {
-        Some(LinkKind::Vlan { lower, .. }) => height(objects, lower) + 1,
+        Some(LinkKind::Vlan { lower, .. }) => height_within(objects, lower, steps - 1) + 1,
         Some(LinkKind::Bridge { .. }) => 0,
         None => 0,
     }
 }
 
 /// Whether the name is that of a held link that is not wanted, or over one.
-pub(crate) fn falls(held: &[Object], wanted: &[Object], name: &DevName) -> bool
-    requires { IsAllowed (set_of held.now) }
-    ensures { result ≡ touched.falls (set_of held.now) (set_of wanted.now) name.now }
+pub(crate) fn falls(held: &Index, wanted: &Index, name: &DevName) -> bool
+    ensures { AreSides held.now wanted.now
+        → result ≡ touched.falls (objects_in held.now) (objects_in wanted.now) name.now }
+{
+    falls_within(held, wanted, name, held.count)
+}
+
+// Whether it does, where its height is no more than so many steps.
+fn falls_within(held: &Index, wanted: &Index, name: &DevName, steps: usize) -> bool
+    ensures { AreSides held.now wanted.now
+        → standing.height (objects_in held.now) name.now ≤ steps
+        → result ≡ touched.falls (objects_in held.now) (objects_in wanted.now) name.now }
 {
     let Some(kind) = link_of(held, name) else {
         return false;
@@ -63,16 +95,19 @@ pub(crate) fn falls(held: &[Object], wanted: &[Object], name: &DevName) -> bool
     if !has(wanted, &link) {
         return true;
     }
+    if steps == 0 {
+        return false;
+    }
     match kind {
         LinkKind::Bridge { .. } => false,
-        LinkKind::Vlan { lower, .. } => falls(held, wanted, lower),
+        LinkKind::Vlan { lower, .. } => falls_within(held, wanted, lower, steps - 1),
     }
 }
 
 /// Whether a place of the object falls.
-pub(crate) fn is_on_taken(held: &[Object], wanted: &[Object], object: &Object) -> bool
-    requires { IsAllowed (set_of held.now) }
-    ensures { result ≡ touched.is_on_taken (set_of held.now) (set_of wanted.now) object.now }
+pub(crate) fn is_on_taken(held: &Index, wanted: &Index, object: &Object) -> bool
+    ensures { AreSides held.now wanted.now → result
+        ≡ touched.is_on_taken (objects_in held.now) (objects_in wanted.now) object.now }
 {
     match object {
         Object::Link {
@@ -95,10 +130,10 @@ pub(crate) fn is_on_taken(held: &[Object], wanted: &[Object], object: &Object) -
 }
 
 /// The height of the name by which the calls of the object's kind are ordered.
-pub(crate) fn height_of(objects: &[Object], object: &Object) -> usize
-    requires { IsAllowed (set_of objects.now) }
-    ensures value { result ≡ order.height_of (set_of objects.now) object.now }
-    ensures within { result ≤ length objects.now }
+pub(crate) fn height_of(objects: &Index, object: &Object) -> usize
+    ensures value { IsSide objects.now
+        → result ≡ order.height_of (objects_in objects.now) object.now }
+    ensures within { result ≤ objects.now.count }
 {
     match object {
         Object::Link { name, .. } => height(objects, name),
@@ -108,10 +143,9 @@ pub(crate) fn height_of(objects: &[Object], object: &Object) -> usize
 }
 
 /// Whether a held object is taken.
-pub(crate) fn is_taken(held: &[Object], wanted: &[Object], object: &Object) -> bool
-    requires allowed { IsAllowed (set_of held.now) }
-    requires had { Has (set_of held.now) object.now }
-    ensures { result ≡ touched.is_taken (set_of held.now) (set_of wanted.now) object.now }
+pub(crate) fn is_taken(held: &Index, wanted: &Index, object: &Object) -> bool
+    ensures { AreSides held.now wanted.now → Has (objects_in held.now) object.now
+        → result ≡ touched.is_taken (objects_in held.now) (objects_in wanted.now) object.now }
 {
     if is_on_taken(held, wanted, object) {
         return true;
@@ -119,20 +153,20 @@ pub(crate) fn is_taken(held: &[Object], wanted: &[Object], object: &Object) -> b
     !has(wanted, object) && !has_replacer(wanted, object)
 }
 
-fn has_replacer(wanted: &[Object], object: &Object) -> bool
-    ensures { result ≡ list_any (λ other. replaces other object.now) wanted.now }
+fn has_replacer(wanted: &Index, object: &Object) -> bool
+    ensures { IsIndex wanted.now
+        → result ≡ list_any (λ other. replaces other object.now) (listed wanted.now) }
 {
-    wanted.iter().any(|other| other.replaces(object))
+    match wanted.find(object) {
+        Some(other) => other.replaces(object),
+        None => false,
+    }
 }
 
 /// Whether a wanted object is put.
-pub(crate) fn is_put(held: &[Object], wanted: &[Object], object: &Object) -> bool
-    requires allowed { IsAllowed (set_of held.now) }
-    requires wanted_too { Has (set_of wanted.now) object.now }
-    ensures { result ≡ touched.is_put (set_of held.now) (set_of wanted.now) object.now }
+pub(crate) fn is_put(held: &Index, wanted: &Index, object: &Object) -> bool
+    ensures { AreSides held.now wanted.now → Has (objects_in wanted.now) object.now
+        → result ≡ touched.is_put (objects_in held.now) (objects_in wanted.now) object.now }
 {
-    if is_on_taken(held, wanted, object) {
-        return true;
-    }
-    !has(held, object)
+    is_on_taken(held, wanted, object) || !has(held, object)
 }

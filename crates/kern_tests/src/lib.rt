@@ -4,8 +4,12 @@
 #[cfg(test)]
 mod addresses;
 #[cfg(test)]
+mod calls;
+#[cfg(test)]
 mod kernel;
 #[cfg(test)]
 mod lines;
 #[cfg(test)]
 mod names;
+#[cfg(test)]
+mod random_calls;

@@ -1,5 +1,6 @@
+use kern_calls::calls_between;
 use kern_memory::MemKernel;
-use kern_model::{Call, DevName, Object, calls_from_nothing, read_name, read_plain_name};
+use kern_model::{Call, DevName, Object, read_name, read_plain_name};
 use std::process::Abort;
 use std::test::Fail;
 
@@ -100,7 +101,7 @@ fn calls_from_nothing_are_in_order(rt: HostRuntime) -> Result<(), Fail> {
         Object::Up { name: eth0 },
         Object::Up { name: lo },
     ];
-    let calls = calls_from_nothing(alloc, &objects)?;
+    let calls = calls_between(alloc, &[], &[], &objects)?;
     let wanted = [Object::Up { name: eth0 }, Object::Up { name: lo }];
     assert_eq!(rt; calls.len(), wanted.len());
     for (call, object) in calls.iter().zip(wanted) {

@@ -1,14 +1,15 @@
-use Rattle.std.proofs.Common.{take, map, length, ◌++◌}
+use Rattle.std.proofs.Common.{take, map, List, ◌++◌, ◌≡◌}
 use Rattle.std.specs.BTreeMap.{get}
+use Rattle.kern_model.specs.declared.object.Call.{Call}
 use Rattle.kern_model.specs.declared.object.Call.TheVariants.{Put}
 use Rattle.kern_model.specs.ObjectOrder.{set_of}
 use Rattle.kern_model.specs.Kernel.{map_of}
-use Rattle.kern_calls.specs.Calls.{own_take}
+use Rattle.kern_calls.specs.Index.{objects_in, AreSides}
 use Rattle.kern_calls.specs.Between.{place_cmp, HoldsCalls}
 use Rattle.kern_calls.proofs.between.add_puts.Given as goal
 
--- the map has the takes, and the puts among those of the objects so far
+-- the map has what it had, and the puts among those of the objects so far
 abbrev pub invariant-loop-object : goal.invariant-loop-object
 invariant-loop-object l =
-    HoldsCalls (map_of l.devices) (length l.held) (set_of l.held) (set_of l.wanted) (get place_cmp l.by_place)
-    (map (own_take (map_of l.devices)) l.held ++ map Put (take l.object-index l.wanted))
+    AreSides l.from l.to → objects_in l.to ≡ set_of l.wanted → (before : List Call) → HoldsCalls (map_of l.present.entries) l.from.count (objects_in l.from) (objects_in l.to) (get place_cmp l.initial.by_place) before
+    → HoldsCalls (map_of l.present.entries) l.from.count (objects_in l.from) (objects_in l.to) (get place_cmp l.by_place) (before ++ map Put (take l.object-index l.wanted))

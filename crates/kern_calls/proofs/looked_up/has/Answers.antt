@@ -1,7 +1,8 @@
-use Rattle.std.proofs.Common.{sym, ◌∙◌}
-use Rattle.std.specs.FinSet as set
-use Rattle.kern_model.proofs.OrderLemmas.{objects_total}
+use Rattle.kern_calls.proofs.IndexLemmas.{has_found, has_none}
 use Rattle.kern_calls.proofs.looked_up.has.Goals as goal
 
-pub returns : goal.returns
-returns c = c.is_among.ensures ∙ sym (set.contains-from_list objects_total c.args.objects.now c.args.object.now)
+pub returns-in-Some : goal.returns-in-Some
+returns-in-Some c is = has_found c.args.objects.now is c.args.object.now c.in-Some.found.now c.same.result c.in-Some.ensures.found c.same.ensures
+
+pub returns-in-None : goal.returns-in-None
+returns-in-None c is = has_none c.args.objects.now is c.args.object.now c.in-None.ensures.none
