@@ -1,4 +1,4 @@
-use plane_disk::{Disk, MemDisk, MemFile, are_disk_names, is_package_name};
+use plane_disk::{Disk, MemDisk, MemFile, are_disk_names, file_names, is_package_name};
 use plane_io::{Failed, Text};
 use std::alloc::Global;
 use std::process::Abort;
@@ -33,7 +33,7 @@ fn disk(
     fuse: Option<u64>,
 ) -> Result<MemDisk, Fail> {
     let files = files(alloc, &NAMES, &["00", "abcdef", "n", ""])?;
-    assert!(rt; are_disk_names(&files));
+    assert!(rt; are_disk_names(&file_names(alloc, &files)?));
     assert!(rt; files.len() == 4);
     Ok(MemDisk::new(alloc, files, Vec::from_slice(alloc, failing)?, fuse)?)
 }
@@ -77,10 +77,9 @@ fn names_of_disks(rt: HostRuntime) -> Result<(), Fail> {
         ([".plane-snapshot", ".plane-gates", "a", "b"], false),
         (["a", ".plane-snapshot", "b", "c"], false),
     ] {
-        let files = files(alloc, &names, &["", "", "", ""])?;
-        assert_eq!(rt; are_disk_names(&files), are, "{names:?}");
+        assert_eq!(rt; are_disk_names(&texts(alloc, &names)?), are, "{names:?}");
     }
-    assert!(rt; !are_disk_names(&files(alloc, &[".plane-gates"], &[""])?));
+    assert!(rt; !are_disk_names(&texts(alloc, &[".plane-gates"])?));
     assert!(rt; is_package_name(&[b'a'; 255]));
     assert!(rt; !is_package_name(&[b'a'; 256]));
     Ok(())
