@@ -2,9 +2,20 @@ use crate::{SystemClock, UnixHub, random_seed};
 use plane_io::Text;
 use plane_outside::{Clock, Hub, HubEvent};
 use std::alloc::Global;
+use std::fs;
 use std::io::{Read, Write};
+use std::net::Net;
 use std::os::unix::net::UnixStream;
+use std::rt::Files;
 use std::test::Fail;
+
+/// A hub at this path, for clients of the user `root` and the group `adm`.
+fn hub<R: Files + Net>(rt: &R, alloc: Global, path: &str) -> Result<UnixHub, Fail> {
+    let _ = fs::remove_file(rt, path);
+    let user = Text::from_bytes(alloc, b"root")?;
+    let group = Text::from_bytes(alloc, b"adm")?;
+    Ok(UnixHub::bind(rt, alloc, path, user, group)?)
+}
 
 /// What an event says, as a line.
 fn told(alloc: Global, event: &HubEvent) -> Result<Vec<u8>, Fail> {
@@ -29,9 +40,7 @@ fn told(alloc: Global, event: &HubEvent) -> Result<Vec<u8>, Fail> {
 #[test]
 fn a_peer_is_served(rt: HostRuntime) -> Result<(), Fail> {
     let alloc = rt.alloc();
-    let user = Text::from_bytes(alloc, b"root")?;
-    let group = Text::from_bytes(alloc, b"adm")?;
-    let mut hub = UnixHub::bind(&rt, alloc, "hub.sock", user, group)?;
+    let mut hub = hub(&rt, alloc, "hub.sock")?;
     assert_eq!(rt; told(alloc, &hub.next()?)?.as_slice(), b"".as_slice());
     let mut peer = UnixStream::connect(&rt, "hub.sock")?;
     assert_eq!(rt;
@@ -52,15 +61,14 @@ fn a_peer_is_served(rt: HostRuntime) -> Result<(), Fail> {
     drop(peer);
     assert_eq!(rt; told(alloc, &hub.next()?)?.as_slice(), b"closed".as_slice());
     assert_eq!(rt; told(alloc, &hub.next()?)?.as_slice(), b"".as_slice());
+    fs::remove_file(&rt, "hub.sock")?;
     Ok(())
 }
 
 #[test]
 fn a_peer_that_closed_is_no_fault(rt: HostRuntime) -> Result<(), Fail> {
     let alloc = rt.alloc();
-    let user = Text::from_bytes(alloc, b"root")?;
-    let group = Text::from_bytes(alloc, b"adm")?;
-    let mut hub = UnixHub::bind(&rt, alloc, "gone.sock", user, group)?;
+    let mut hub = hub(&rt, alloc, "gone.sock")?;
     let peer = UnixStream::connect(&rt, "gone.sock")?;
     assert_eq!(rt;
         told(alloc, &hub.next()?)?.as_slice(),
@@ -70,6 +78,23 @@ fn a_peer_that_closed_is_no_fault(rt: HostRuntime) -> Result<(), Fail> {
     assert_eq!(rt; hub.send(1, b"dropped"), Ok(()));
     assert_eq!(rt; told(alloc, &hub.next()?)?.as_slice(), b"closed".as_slice());
     assert_eq!(rt; told(alloc, &hub.next()?)?.as_slice(), b"".as_slice());
+    fs::remove_file(&rt, "gone.sock")?;
+    Ok(())
+}
+
+#[test]
+fn a_peer_that_takes_nothing_has_closed(rt: HostRuntime) -> Result<(), Fail> {
+    let alloc = rt.alloc();
+    let mut hub = hub(&rt, alloc, "slow.sock")?;
+    let _peer = UnixStream::connect(&rt, "slow.sock")?;
+    assert_eq!(rt;
+        told(alloc, &hub.next()?)?.as_slice(),
+        b"accepted root adm".as_slice()
+    );
+    let bytes = vec![in alloc; 7u8; 4_000_000]?;
+    assert_eq!(rt; hub.send(1, &bytes), Ok(()));
+    assert_eq!(rt; told(alloc, &hub.next()?)?.as_slice(), b"closed".as_slice());
+    fs::remove_file(&rt, "slow.sock")?;
     Ok(())
 }
 

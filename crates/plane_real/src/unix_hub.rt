@@ -1,6 +1,7 @@
-ghost use Rattle.std.specs.Prelude.{◌≡◌, ◌≤◌, length, None, IfOk, IfSome};
-ghost use Rattle.plane_words.specs.Causes.{Rose};
-ghost use Rattle.plane_outside.specs.Hub.{IsWhole, HubCause};
+ghost use Rattle.std.specs.Prelude.{◌≡◌, ◌≤◌, length, None, IsOk, IfOk, OnOk, OnErr, IfSome};
+ghost use Rattle.plane_words.specs.Causes.{Rose, HasCause};
+ghost use Rattle.plane_outside.specs.Hub.{IsWhole, Gives, Sends, SendsFront, HubCause};
+ghost use Rattle.plane_real.specs.Clients.{ComesAs};
 
 use plane_io::{Failed, Text};
 use plane_outside::{Hub, HubError, HubEvent};
@@ -93,7 +94,8 @@ impl UnixHub {
         user: Text,
         group: Text,
     ) -> io::Result<UnixHub>
-        ensures { IfOk result (λ hub. hub.faults ≡ 0) }
+        ensures faults { IfOk result (λ hub. hub.faults ≡ 0) }
+        ensures names { IfOk result (λ hub. (hub.user ≡ user) × (hub.group ≡ group)) }
     {
         let listener = UnixListener::bind(rt, path)?;
         listener.set_nonblocking(true)?;
@@ -111,8 +113,10 @@ impl UnixHub {
 
     /// Counts a fault.
     fn fault(&mut self) -> HubError
+        ensures failed { result ≡ HubError.Failed }
         ensures rose { Rose self.old.faults self.new.faults }
         ensures later { self.old.faults ≤ self.new.faults }
+        ensures keeps { (self.new.user ≡ self.old.user) × (self.new.group ≡ self.old.group) }
     {
         self.faults = self.faults.saturating_add(1);
         HubError::Failed
@@ -122,6 +126,9 @@ impl UnixHub {
     fn admit(&mut self, stream: UnixStream) -> Result<HubEvent, HubError>
         ensures whole { IfOk result IsWhole }
         ensures cause { HubCause self.old.faults self.new.faults result }
+        ensures faultless { OnOk result (self.new.faults ≡ self.old.faults) }
+        ensures names { IfOk result (ComesAs self.old.user self.old.group) }
+        ensures keeps { (self.new.user ≡ self.old.user) × (self.new.group ≡ self.old.group) }
     {
         let patience = Some(Duration::from_secs(PATIENCE));
         if stream.set_nonblocking(true).is_err() || stream.set_write_timeout(patience).is_err() {
@@ -154,6 +161,9 @@ impl UnixHub {
     fn accept(&mut self) -> Result<HubEvent, HubError>
         ensures whole { IfOk result IsWhole }
         ensures cause { HubCause self.old.faults self.new.faults result }
+        ensures faultless { OnOk result (self.new.faults ≡ self.old.faults) }
+        ensures names { IfOk result (ComesAs self.old.user self.old.group) }
+        ensures keeps { (self.new.user ≡ self.old.user) × (self.new.group ≡ self.old.group) }
     {
         if self.next_number == u32::MAX {
             return Ok(HubEvent::Idle);
@@ -175,6 +185,9 @@ impl UnixHub {
     fn hear(&mut self) -> Result<HubEvent, HubError>
         ensures whole { IfOk result IsWhole }
         ensures cause { HubCause self.old.faults self.new.faults result }
+        ensures faultless { OnOk result (self.new.faults ≡ self.old.faults) }
+        ensures names { IfOk result (ComesAs self.old.user self.old.group) }
+        ensures keeps { (self.new.user ≡ self.old.user) × (self.new.group ≡ self.old.group) }
     {
         let Ok(mut piece) = Vec::from_slice(self.alloc, &[0u8; PIECE]) else {
             return Err(HubError::Memory);
@@ -205,8 +218,9 @@ impl UnixHub {
 
     /// Drops a client, and tells that it has closed.
     fn forget(&mut self, number: u32) -> HubEvent
-        ensures whole { IsWhole result }
+        ensures closed { result ≡ HubEvent.Closed number }
         ensures faults { self.new.faults ≡ self.old.faults }
+        ensures keeps { (self.new.user ≡ self.old.user) × (self.new.group ≡ self.old.group) }
     {
         self.clients.retain(|client| client.number != number);
         HubEvent::Closed { client: number }
@@ -220,7 +234,16 @@ impl Hub for UnixHub {
 
     ghost faults = { λ hub. hub.faults };
 
-    fn next(&mut self) -> Result<HubEvent, HubError> {
+    fn next(&mut self) -> Result<HubEvent, HubError>
+        ensures gives { IfOk result (λ event. Gives None None event) }
+        ensures whole { IfOk result IsWhole }
+        ensures cause { HubCause self.old.faults self.new.faults result }
+
+        // A call that gives an event counts no fault. Every client has the user and the group that the hub was made with.
+        ensures faultless { OnOk result (self.new.faults ≡ self.old.faults) }
+        ensures names { IfOk result (ComesAs self.old.user self.old.group) }
+        ensures keeps { (self.new.user ≡ self.old.user) × (self.new.group ≡ self.old.group) }
+    {
         if let Some(number) = closed_client(&self.clients) {
             return Ok(self.forget(number));
         }
@@ -230,7 +253,16 @@ impl Hub for UnixHub {
         }
     }
 
-    fn send(&mut self, client: u32, bytes: &[u8]) -> Result<(), Failed> {
+    fn send(&mut self, client: u32, bytes: &[u8]) -> Result<(), Failed>
+        ensures ok { OnOk result (Sends None None client bytes.now) }
+        ensures err { OnErr result (SendsFront None None client bytes.now) }
+        ensures cause { HasCause self.old.faults self.new.faults result }
+
+        // A client that has closed is no fault.
+        ensures passes { IsOk result }
+        ensures faultless { self.new.faults ≡ self.old.faults }
+        ensures keeps { (self.new.user ≡ self.old.user) × (self.new.group ≡ self.old.group) }
+    {
         for other in self.clients.iter_mut() {
             if other.number == client {
                 other.tell(bytes);
