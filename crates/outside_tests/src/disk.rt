@@ -64,6 +64,19 @@ fn may_leave(alloc: Global, disk: &MemDisk, text: &str) -> Result<bool, Fail> {
     Ok(disk.is_image(&image))
 }
 
+/// Asks of each text whether a crash may leave the disk with it in file 1.
+fn leaves(
+    rt: &impl Abort,
+    alloc: Global,
+    disk: &MemDisk,
+    rows: &[(&str, bool)],
+) -> Result<(), Fail> {
+    for (text, may) in rows {
+        assert_eq!(rt; may_leave(alloc, disk, text)?, *may, "{text}");
+    }
+    Ok(())
+}
+
 #[test]
 fn names_of_disks(rt: HostRuntime) -> Result<(), Fail> {
     let alloc = rt.alloc();
@@ -92,7 +105,7 @@ fn images_of_a_cut_and_a_write(rt: HostRuntime) -> Result<(), Fail> {
     assert!(rt; cut(&rt, &mut disk, 2));
     assert!(rt; write(&rt, &mut disk, 2, b"xy"));
     reads(&rt, &mut disk, "abxy");
-    for (text, may) in [
+    let rows = [
         ("abxy", true),
         ("abcdef", true),
         ("ab", true),
@@ -104,9 +117,8 @@ fn images_of_a_cut_and_a_write(rt: HostRuntime) -> Result<(), Fail> {
         ("abcdefg", false),
         ("axxy", false),
         ("bbxy", false),
-    ] {
-        assert_eq!(rt; may_leave(alloc, &disk, text)?, may, "{text}");
-    }
+    ];
+    leaves(&rt, alloc, &disk, &rows)?;
     for (image, may) in [
         (texts(alloc, &["00", "abxy", "n", ""])?, true),
         (texts(alloc, &["00", "abxy", "m", ""])?, false),
@@ -117,14 +129,13 @@ fn images_of_a_cut_and_a_write(rt: HostRuntime) -> Result<(), Fail> {
         assert_eq!(rt; disk.is_image(&image), may);
     }
     assert_eq!(rt; disk.sync(), Ok(()));
-    for (text, may) in [
+    let rows = [
         ("abxy", true),
         ("abcdef", false),
         ("ab", false),
         ("abqy", false),
-    ] {
-        assert_eq!(rt; may_leave(alloc, &disk, text)?, may, "{text}");
-    }
+    ];
+    leaves(&rt, alloc, &disk, &rows)?;
     Ok(())
 }
 
@@ -134,7 +145,7 @@ fn images_of_a_write_past_the_end(rt: HostRuntime) -> Result<(), Fail> {
     let mut disk = disk(&rt, alloc, &[], None)?;
     assert!(rt; write(&rt, &mut disk, 5, b"FG"));
     reads(&rt, &mut disk, "abcdeFG");
-    for (text, may) in [
+    let rows = [
         ("abcdeFG", true),
         ("abcdef", true),
         ("abcde?", true),
@@ -142,9 +153,8 @@ fn images_of_a_write_past_the_end(rt: HostRuntime) -> Result<(), Fail> {
         ("abcd?FG", false),
         ("abcde", false),
         ("abcdeFGH", false),
-    ] {
-        assert_eq!(rt; may_leave(alloc, &disk, text)?, may, "{text}");
-    }
+    ];
+    leaves(&rt, alloc, &disk, &rows)?;
     Ok(())
 }
 
@@ -156,7 +166,7 @@ fn a_failed_call_may_be_done_in_part(rt: HostRuntime) -> Result<(), Fail> {
     assert!(rt; !cut(&rt, &mut disk, 4));
     assert_eq!(rt; disk.sync(), Err(Failed));
     reads(&rt, &mut disk, "abcdef");
-    for (text, may) in [
+    let rows = [
         ("abcdef", true),
         ("Qbcdef", true),
         ("QRcd", true),
@@ -164,9 +174,8 @@ fn a_failed_call_may_be_done_in_part(rt: HostRuntime) -> Result<(), Fail> {
         ("abZdef", false),
         ("abc", false),
         ("abcdefg", false),
-    ] {
-        assert_eq!(rt; may_leave(alloc, &disk, text)?, may, "{text}");
-    }
+    ];
+    leaves(&rt, alloc, &disk, &rows)?;
     assert_eq!(rt; disk.sync(), Ok(()));
     assert!(rt; !may_leave(alloc, &disk, "Qbcdef")?);
     assert_eq!(rt; disk.refused(), 0);
