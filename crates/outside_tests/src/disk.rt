@@ -1,4 +1,4 @@
-use plane_disk::{Disk, MemDisk, MemFile, are_disk_names, is_package_name};
+use plane_disk::{Disk, MemDisk, MemFile, are_disk_names, file_names, is_package_name};
 use plane_io::{Failed, Text};
 use std::alloc::Global;
 use std::process::Abort;
@@ -33,7 +33,7 @@ fn disk(
     fuse: Option<u64>,
 ) -> Result<MemDisk, Fail> {
     let files = files(alloc, &NAMES, &["00", "abcdef", "n", ""])?;
-    assert!(rt; are_disk_names(&files));
+    assert!(rt; are_disk_names(&file_names(alloc, &files)?));
     assert!(rt; files.len() == 4);
     Ok(MemDisk::new(alloc, files, Vec::from_slice(alloc, failing)?, fuse)?)
 }
@@ -64,6 +64,19 @@ fn may_leave(alloc: Global, disk: &MemDisk, text: &str) -> Result<bool, Fail> {
     Ok(disk.is_image(&image))
 }
 
+/// Asks of each text whether a crash may leave the disk with it in file 1.
+fn leaves(
+    rt: &impl Abort,
+    alloc: Global,
+    disk: &MemDisk,
+    rows: &[(&str, bool)],
+) -> Result<(), Fail> {
+    for (text, may) in rows {
+        assert_eq!(rt; may_leave(alloc, disk, text)?, *may, "{text}");
+    }
+    Ok(())
+}
+
 #[test]
 fn names_of_disks(rt: HostRuntime) -> Result<(), Fail> {
     let alloc = rt.alloc();
@@ -77,10 +90,9 @@ fn names_of_disks(rt: HostRuntime) -> Result<(), Fail> {
         ([".plane-snapshot", ".plane-gates", "a", "b"], false),
         (["a", ".plane-snapshot", "b", "c"], false),
     ] {
-        let files = files(alloc, &names, &["", "", "", ""])?;
-        assert_eq!(rt; are_disk_names(&files), are, "{names:?}");
+        assert_eq!(rt; are_disk_names(&texts(alloc, &names)?), are, "{names:?}");
     }
-    assert!(rt; !are_disk_names(&files(alloc, &[".plane-gates"], &[""])?));
+    assert!(rt; !are_disk_names(&texts(alloc, &[".plane-gates"])?));
     assert!(rt; is_package_name(&[b'a'; 255]));
     assert!(rt; !is_package_name(&[b'a'; 256]));
     Ok(())
@@ -93,7 +105,7 @@ fn images_of_a_cut_and_a_write(rt: HostRuntime) -> Result<(), Fail> {
     assert!(rt; cut(&rt, &mut disk, 2));
     assert!(rt; write(&rt, &mut disk, 2, b"xy"));
     reads(&rt, &mut disk, "abxy");
-    for (text, may) in [
+    let rows = [
         ("abxy", true),
         ("abcdef", true),
         ("ab", true),
@@ -105,9 +117,8 @@ fn images_of_a_cut_and_a_write(rt: HostRuntime) -> Result<(), Fail> {
         ("abcdefg", false),
         ("axxy", false),
         ("bbxy", false),
-    ] {
-        assert_eq!(rt; may_leave(alloc, &disk, text)?, may, "{text}");
-    }
+    ];
+    leaves(&rt, alloc, &disk, &rows)?;
     for (image, may) in [
         (texts(alloc, &["00", "abxy", "n", ""])?, true),
         (texts(alloc, &["00", "abxy", "m", ""])?, false),
@@ -118,14 +129,13 @@ fn images_of_a_cut_and_a_write(rt: HostRuntime) -> Result<(), Fail> {
         assert_eq!(rt; disk.is_image(&image), may);
     }
     assert_eq!(rt; disk.sync(), Ok(()));
-    for (text, may) in [
+    let rows = [
         ("abxy", true),
         ("abcdef", false),
         ("ab", false),
         ("abqy", false),
-    ] {
-        assert_eq!(rt; may_leave(alloc, &disk, text)?, may, "{text}");
-    }
+    ];
+    leaves(&rt, alloc, &disk, &rows)?;
     Ok(())
 }
 
@@ -135,7 +145,7 @@ fn images_of_a_write_past_the_end(rt: HostRuntime) -> Result<(), Fail> {
     let mut disk = disk(&rt, alloc, &[], None)?;
     assert!(rt; write(&rt, &mut disk, 5, b"FG"));
     reads(&rt, &mut disk, "abcdeFG");
-    for (text, may) in [
+    let rows = [
         ("abcdeFG", true),
         ("abcdef", true),
         ("abcde?", true),
@@ -143,9 +153,8 @@ fn images_of_a_write_past_the_end(rt: HostRuntime) -> Result<(), Fail> {
         ("abcd?FG", false),
         ("abcde", false),
         ("abcdeFGH", false),
-    ] {
-        assert_eq!(rt; may_leave(alloc, &disk, text)?, may, "{text}");
-    }
+    ];
+    leaves(&rt, alloc, &disk, &rows)?;
     Ok(())
 }
 
@@ -157,7 +166,7 @@ fn a_failed_call_may_be_done_in_part(rt: HostRuntime) -> Result<(), Fail> {
     assert!(rt; !cut(&rt, &mut disk, 4));
     assert_eq!(rt; disk.sync(), Err(Failed));
     reads(&rt, &mut disk, "abcdef");
-    for (text, may) in [
+    let rows = [
         ("abcdef", true),
         ("Qbcdef", true),
         ("QRcd", true),
@@ -165,9 +174,8 @@ fn a_failed_call_may_be_done_in_part(rt: HostRuntime) -> Result<(), Fail> {
         ("abZdef", false),
         ("abc", false),
         ("abcdefg", false),
-    ] {
-        assert_eq!(rt; may_leave(alloc, &disk, text)?, may, "{text}");
-    }
+    ];
+    leaves(&rt, alloc, &disk, &rows)?;
     assert_eq!(rt; disk.sync(), Ok(()));
     assert!(rt; !may_leave(alloc, &disk, "Qbcdef")?);
     assert_eq!(rt; disk.refused(), 0);

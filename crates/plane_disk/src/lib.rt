@@ -16,5 +16,5 @@ mod names;
 pub use call::DiskCall;
 pub use disk::Disk;
 pub use mem_disk::MemDisk;
-pub use mem_file::MemFile;
+pub use mem_file::{MemFile, file_names};
 pub use names::{are_disk_names, is_package_name};

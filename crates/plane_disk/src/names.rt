@@ -1,9 +1,8 @@
 ghost use Rattle.std.specs.Prelude.{◌≡◌, ◌<◌, ◌↔◌, IsTrue, length};
 ghost use Rattle.std.specs.List.{list_all};
 ghost use Rattle.plane_disk.specs.Names.{is_package_byte, IsPackageName, IsPlaced, AreDiskNames};
-ghost use Rattle.plane_disk.specs.MemDisk.{names_of};
 
-use crate::mem_file::MemFile;
+use plane_io::Text;
 use std::cmp::Ordering;
 
 /// Whether the byte may stand in the name of a package: a letter, a digit, `_` or `-`.
@@ -30,36 +29,36 @@ pub fn is_package_name(name: &[u8]) -> bool
     all_may_stand(name)
 }
 
-/// Whether a file has the name of a package, which comes before the next one in byte order.
-fn is_placed(files: &[MemFile], file: usize) -> bool
-    requires { file < length files.now }
-    ensures { IsTrue result ↔ IsPlaced (names_of files.now) file }
+/// Whether a name is that of a package, which comes before the next one in byte order.
+fn is_placed(names: &[Text], file: usize) -> bool
+    requires { file < length names.now }
+    ensures { IsTrue result ↔ IsPlaced names.now file }
 {
-    if !is_package_name(files[file].name.as_bytes()) {
+    if !is_package_name(names[file].as_bytes()) {
         return false;
     }
-    if file + 1 == files.len() {
+    if file + 1 == names.len() {
         return true;
     }
-    files[file].name.cmp(&files[file + 1].name) == Ordering::Less
+    names[file].cmp(&names[file + 1]) == Ordering::Less
 }
 
-/// Whether the files have names as a disk has them: `.plane-gates` and `.plane-snapshot`, and then packages in byte order,
-/// each once.
-pub fn are_disk_names(files: &[MemFile]) -> bool
-    ensures { IsTrue result ↔ AreDiskNames (names_of files.now) }
+/// Whether these are the names of the files of a disk: `.plane-gates` and `.plane-snapshot`, and then packages in byte
+/// order, each once.
+pub fn are_disk_names(names: &[Text]) -> bool
+    ensures { IsTrue result ↔ AreDiskNames names.now }
 {
-    if files.len() < 2 {
+    if names.len() < 2 {
         return false;
     }
-    if files[0].name.as_bytes() != b".plane-gates".as_slice() {
+    if names[0].as_bytes() != b".plane-gates".as_slice() {
         return false;
     }
-    if files[1].name.as_bytes() != b".plane-snapshot".as_slice() {
+    if names[1].as_bytes() != b".plane-snapshot".as_slice() {
         return false;
     }
-    for file in 2..files.len() {
-        if !is_placed(files, file) {
+    for file in 2..names.len() {
+        if !is_placed(names, file) {
             return false;
         }
     }

@@ -4,7 +4,7 @@ use Rattle.plane_words.specs.Causes.{Rose}
 use Rattle.plane_outside.specs.declared.event.HubEvent.{HubEvent}
 use Rattle.plane_outside.specs.declared.event.HubEvent.TheVariants.{Bytes, Idle}
 use Rattle.plane_outside.specs.declared.event.HubError.{HubError}
-use Rattle.plane_outside.specs.declared.event.HubError.TheVariants.{Failed}
+use Rattle.plane_outside.specs.declared.event.HubError.TheVariants.{Failed, Memory}
 use Rattle.plane_outside.specs.declared.event.Sent.{Sent}
 
 -- bytes come in pieces of 1 to 65,536
@@ -32,7 +32,8 @@ SendsFront old new client bytes =
     ⊎ ((front : List ℕ) × (back : List ℕ) × (bytes ≡ front ++ back) × Sends old new client front)
 
 -- A call never lowers the count of faults, and answers that the hub failed only where it rose. Want of memory is no
--- fault.
+-- fault, and leaves the count.
 pub record HubCause {T : Type 0} (before now : ℕ) (result : Result T HubError) : Type 0 where
   pub later : before ≤ now
   pub failed : result ≡ Err Failed → Rose before now
+  pub memory : result ≡ Err Memory → now ≡ before

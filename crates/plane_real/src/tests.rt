@@ -12,6 +12,7 @@ fn what_is_written_is_read(rt: HostRuntime) -> Result<(), Fail> {
     let mut source = StdSource::new(fs::open(&rt, "lines")?);
     let all = read_to_end(rt.alloc(), &mut source, 1000)?;
     assert_eq!(rt; all.as_slice(), b"link set dev eth0 up\ntwo\n".as_slice());
+    fs::remove_file(&rt, "lines")?;
     Ok(())
 }
 
