@@ -1,0 +1,2 @@
+pub mod FromJsonLemmas
+pub mod ToJsonLemmas
