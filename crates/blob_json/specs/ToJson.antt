@@ -1,5 +1,5 @@
 -- The JSON value of attributes.
-use Rattle.std.specs.Prelude.{ℕ, ℤ, pos, negsuc, List, [], ◌∷◌, Bool, true, not, nat_eq, map}
+use Rattle.std.specs.Prelude.{ℕ, ℤ, pos, negsuc, List, [], ◌∷◌, Bool, true, not, nat_eq, bytes_eq, map, Option, Some, None, if◌then◌else◌}
 use Rattle.serde_json.specs.Data.{Data, null, boolean, number, string, array, object, Members, no_members, put}
 use Rattle.serde_json.specs.Find.{of_integer}
 use Rattle.serde_json.specs.View.{items_of}
@@ -51,3 +51,14 @@ members_of attrs = put_all no_members (map named_of attrs)
 -- the JSON value of attributes
 abbrev pub json_of : List Attr → Data
 json_of attrs = object (members_of attrs)
+
+-- the first of two that is there
+abbrev pub first_there : Option Data → Option Data → Option Data
+first_there (Some value) other = Some value
+first_there None other = other
+
+-- the value of the last with this name, if there is one
+abbrev pub last_named : List ℕ → List Named → Option Data
+last_named title [] = None
+last_named title (first ∷ others) =
+    first_there (last_named title others) (if bytes_eq title first.0 then Some first.1 else None)
