@@ -14,6 +14,6 @@ not_text bytes false e h = e
 pub of_characters : (bytes : List ℕ) → (IsUtf8 bytes → ⊥) → encode_utf8_all bytes ≡ json_text_of bytes
 of_characters bytes h = sym (ap (λ b. cond b bytes (encode_utf8_all bytes)) (not_text bytes (is_utf8 bytes) refl h))
 
-pub if_ok_is : {E : Type 0} (r : Result (List ℕ) E) (text other : List ℕ) → text ≡ other → IfOk r (λ t. t ≡ text) → IfOk r (λ t. t ≡ other)
-if_ok_is (Ok t) text other e h = h ∙ e
-if_ok_is (Err error) text other e h = tt
+pub if_ok_is : {A E : Type 0} (f : A → List ℕ) (r : Result A E) (text other : List ℕ) → text ≡ other → IfOk r (λ t. f t ≡ text) → IfOk r (λ t. f t ≡ other)
+if_ok_is f (Ok t) text other e h = h ∙ e
+if_ok_is f (Err error) text other e h = tt

@@ -5,3 +5,5 @@ pub mod ReadLemmas
 pub mod Examples
 pub mod AsTextLemmas
 pub mod TotalLemmas
+pub mod WrittenLemmas
+pub mod SpellingLemmas

@@ -12,3 +12,9 @@ pub mod Fault
 pub mod Found
 -- the text that JSON gives bytes
 pub mod AsText
+-- the one spelling with zero padding
+pub mod Written
+-- which attributes have a spelling
+pub mod Limits
+-- what the writer is given and leaves
+pub mod Writing

@@ -3,6 +3,8 @@ ghost use Rattle.blob_codec.specs.declared.blob.Attr.{Attr};
 ghost use Rattle.blob_codec.specs.declared.blob_error.BlobError.{BlobError};
 ghost use Rattle.blob_codec.specs.Blob.{SpellsBlob};
 ghost use Rattle.blob_codec.specs.Fault.{IsBlobFault};
+ghost use Rattle.blob_codec.specs.Limits.{FitsBlob};
+ghost use Rattle.blob_codec.specs.Written.{written};
 
 /// Bytes are the blob of at most one list of attributes.
 pub fn one_reading()
@@ -27,4 +29,11 @@ pub fn reading_or_fault()
     ensures { (bytes : List ℕ) →
         ((attrs : List Attr) × SpellsBlob bytes attrs)
         ⊎ ((error : BlobError) × IsBlobFault bytes error) }
+{}
+
+/// What is written is a blob of what was to be written, and of nothing else.
+pub fn written_reads_back()
+    ensures spells { (attrs : List Attr) → FitsBlob attrs → SpellsBlob (written attrs) attrs }
+    ensures only { (attrs others : List Attr) → FitsBlob attrs →
+        SpellsBlob (written attrs) others → others ≡ attrs }
 {}

@@ -10,10 +10,14 @@ mod laws;
 mod leaf;
 mod nul;
 mod read;
+mod write;
 
-pub use as_text::json_text;
+pub use as_text::{json_string, json_text};
 pub use blob::{Attr, Blob, MOST_LEVELS};
 pub use blob_error::BlobError;
 pub use copy::copy_attrs;
-pub use laws::{no_reading_with_fault, one_fault, one_reading, reading_or_fault};
+pub use laws::{
+    no_reading_with_fault, one_fault, one_reading, reading_or_fault, written_reads_back,
+};
 pub use read::read_blob;
+pub use write::write_blob;

@@ -1,0 +1,3 @@
+pub mod FromJsonLemmas
+pub mod ToJsonLemmas
+pub mod NameLemmas
