@@ -1,7 +1,7 @@
 use kern_calls::calls_between;
+use kern_memory::MemKernel;
 use kern_model::{
-    Call, DevEvent, DevName, Device, Kernel, LinkKind, Mac, MemKernel, Object, print_call,
-    read_name,
+    Call, DevEvent, DevName, Device, Kernel, LinkKind, Mac, Object, print_call, read_name,
 };
 use net_addr::read_cidr;
 use std::alloc::Global;
