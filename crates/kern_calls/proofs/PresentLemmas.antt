@@ -10,7 +10,7 @@ use Rattle.std.specs.FinMap as map
 use Rattle.kern_model.specs.declared.object.Device.{Device}
 use Rattle.kern_model.specs.Kernel.{map_of}
 use Rattle.kern_model.proofs.TestLemmas.{true_of_both_ways, bytes_same, same_bytes}
-use Rattle.kern_model.proofs.FindLemmas.{first_of, name_test, map_pushed}
+use Rattle.kern_model.proofs.FindLemmas.{first_of, name_test}
 
 abbrev DeviceMap : Type 0
 DeviceMap = BTreeMap (List ℕ) Device
@@ -49,7 +49,7 @@ new_name old new front name device same out updates = map.same_map nat_list_cmp_
     sym (get_is new q) ∙ updates q
     ∙ ap (λ b. cond b (Some device) (get (slice_cmp nat_cmp) old q)) (either_way name q)
     ∙ ap (cond (eq_by_cmp (slice_cmp nat_cmp) q name) (Some device)) in_front
-    ∙ sym (ap (λ m. map.get m q) (map_pushed front name device none) ∙ map.get-insert nat_list_cmp_total (map_of front) name device q))
+    ∙ sym (ap (λ m. map.get m q) (map.from_entries_push nat_list_cmp_total names_apart front name device (sym (map.get-from_entries nat_list_cmp_total front name) ∙ none)) ∙ map.get-insert nat_list_cmp_total (map_of front) name device q))
   where
     none : map.get (map_of front) name ≡ None
     none = sym (get_is old name ∙ ap (λ m. map.get m name) same) ∙ none_of (get (slice_cmp nat_cmp) old name) out
