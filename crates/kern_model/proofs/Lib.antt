@@ -17,5 +17,3 @@ pub mod LeadLemmas
 pub mod RestLemmas
 pub mod KeepLemmas
 pub mod EventLemmas
-pub mod HeightLemmas
-pub mod PlanLemmas

@@ -14,18 +14,8 @@ use Rattle.kern_model.specs.declared.object.LinkKind.TheVariants.{Bridge, Vlan}
 use Rattle.kern_model.specs.declared.object.RouteObject.{RouteObject}
 use Rattle.kern_model.specs.declared.object.Object.{Object}
 use Rattle.kern_model.specs.declared.object.Object.TheVariants as object
-use Rattle.kern_model.specs.Line.{put_line, take_line, mac_text, gateway, IsOwnAddress, IsGateway, IsRoute, IsPrintable, IsBroughtUp, HaveOneVlan, HaveOneName}
+use Rattle.kern_model.specs.Line.{put_line, take_line, mac_text, gateway, IsOwnAddress, IsGateway, IsRoute, IsPrintable, HaveOneVlan, HaveOneName}
 use Rattle.kern_model.proofs.WordLemmas.{Plain, word, name, number, address, prefix, pairs, mac_one, spaced_one}
-
-pub printable_of : (o : Object) → IsBroughtUp o → IsPrintable o
-printable_of (object.Up n) p = p
-printable_of (object.Address d c) p = p
-printable_of (object.Link n k) p = absurd p
-printable_of (object.Mtu n m) p = absurd p
-printable_of (object.Mac n m) p = absurd p
-printable_of (object.Vlan b q i v u) p = absurd p
-printable_of (object.Master q b) p = absurd p
-printable_of (object.Route r) p = absurd p
 
 -- ---- the words of lines
 
@@ -84,11 +74,6 @@ take_words (object.Vlan b p i v u) mtu mac = vlan_words (codes "del") p i (flag_
 take_words (object.Up n) mtu mac = set_words n (codes "down" ∷ [])
 take_words (object.Address d c) mtu mac = codes "addr" ∷ codes "del" ∷ cidr_text c ∷ codes "dev" ∷ d ∷ []
 take_words (object.Route r) mtu mac = route_words (codes "del") r
-
--- names brought up and addresses are no VLANs of bridges
-pub no_vlan_of_bridge : (a b : Object) → IsBroughtUp a → HaveOneVlan a b → ⊥
-no_vlan_of_bridge (object.Vlan b p i v u) o up one = up
-no_vlan_of_bridge a o up one = one
 
 -- ---- a line is its words with a space between
 

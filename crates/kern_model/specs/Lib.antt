@@ -25,5 +25,3 @@ pub mod AdmissionTest
 pub mod Line
 -- the order of calls; calls that are admitted each in its turn
 pub mod CallOrder
--- the place of a call by its kind and line
-pub mod CallPlace

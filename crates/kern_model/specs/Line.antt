@@ -148,9 +148,3 @@ HaveOneName (object.Mtu name mtu) (object.Mtu other other_mtu) = name ≡ other
 HaveOneName (object.Mac name mac) (object.Mac other other_mac) = name ≡ other
 HaveOneName (object.Master port bridge) (object.Master other other_bridge) = port ≡ other
 HaveOneName a b = HaveOneVlan a b
-
--- a name to bring up, or an address to add, of its form: the objects that are put so far
-abbrev pub IsBroughtUp : Object → Type 0
-IsBroughtUp (object.Up name) = IsPrintable (object.Up name)
-IsBroughtUp (object.Address dev cidr) = IsPrintable (object.Address dev cidr)
-IsBroughtUp _ = ⊥

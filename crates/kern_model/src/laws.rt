@@ -50,14 +50,6 @@ pub fn calls_lead_on()
         → after_calls held calls ≡ wanted }
 {}
 
-/// After each front of the calls from nothing, the others are the calls that lead on from what is
-/// held then.
-pub fn calls_go_on_from_nothing()
-    ensures { (devices : Devices) (wanted : Objects) (made rest : List Call)
-        → AreAllowed devices wanted → AreCalls devices set.empty wanted (made ++ rest)
-        → AreCalls devices (after_calls set.empty made) wanted rest }
-{}
-
 /// A kernel without objects is allowed.
 pub fn nothing_is_allowed()
     ensures { (devices : Devices) → AreAllowed devices set.empty }

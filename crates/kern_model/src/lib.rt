@@ -7,7 +7,6 @@ mod kernel;
 mod laws;
 mod name;
 mod object;
-mod plan;
 mod print;
 mod rank;
 mod vlan_name;
@@ -17,12 +16,10 @@ pub use admission::{
 };
 pub use kernel::{Asked, Kernel};
 pub use laws::{
-    admitted_calls_keep_allowed, calls_go_on_from_nothing, calls_lead_on, distinct_lines,
-    events_keep_allowed, nothing_is_allowed, one_list_of_calls, over_is_by_vlans,
-    vlans_are_one_higher,
+    admitted_calls_keep_allowed, calls_lead_on, distinct_lines, events_keep_allowed,
+    nothing_is_allowed, one_list_of_calls, over_is_by_vlans, vlans_are_one_higher,
 };
 pub use name::{DevName, read_name};
 pub use object::{Call, DevEvent, Device, LinkKind, Mac, Object, RouteObject};
-pub use plan::calls_from_nothing;
 pub use print::print_call;
 pub use vlan_name::{LEAST_VLAN_ID, MOST_VLAN_ID, read_plain_name};

@@ -1,7 +1,6 @@
 -- What interfaces want can be asked of the kernel.
-use Rattle.std.proofs.Common.{ℕ, ◌≡◌, inl, inr, List, [], ◌∷◌, ◌++◌, true, false, Bool, refl, subst, Contains}
+use Rattle.std.proofs.Common.{ℕ, ◌≡◌, inl, inr, List, [], ◌∷◌, true, false, Bool, refl, subst, Contains}
 use Rattle.std.specs.Prelude.{if◌then◌else◌}
-use Rattle.std.specs.List.{AllByRecursion}
 use Rattle.std.specs.FinSet as set
 use Rattle.std.proofs.lemmas.List.Elements.{Contains-append_left, Contains-append_right, Contains-append_cases}
 use Rattle.kern_model.specs.declared.object.LinkKind.TheVariants.{Vlan}
@@ -9,26 +8,11 @@ use Rattle.kern_model.specs.declared.object.Object.{Object}
 use Rattle.kern_model.specs.declared.object.Object.TheVariants as object
 use Rattle.kern_model.specs.ObjectOrder.{object_cmp, Has}
 use Rattle.kern_model.specs.Kernel.{Devices, is_present}
-use Rattle.kern_model.specs.Line.{IsBroughtUp}
 use Rattle.kern_model.specs.Allowed.{HasSupport, AreAllowed, exclude}
 use Rattle.kern_model.proofs.MemberLemmas.{first_or_later, none_in_nil, here}
 use Rattle.kern_model.proofs.SetLemmas.{set_of_member, member_of_set}
 use Rattle.plane_main.specs.declared.interface.Interface.{Interface}
-use Rattle.plane_main.specs.BringUp.{IsSound, AreSound}
 use Rattle.plane_main.specs.Wanted.{objects_of, all_objects_of, wanted}
-
-all_append : {X : Type 0} (P : X → Type 0) → (xs ys : List X) → AllByRecursion P xs → AllByRecursion P ys → AllByRecursion P (xs ++ ys)
-all_append P [] ys p q = q
-all_append P (x ∷ xs) ys p q = (p.0, all_append P xs ys p.1 q)
-
-brought_up : (b : Bool) (interface : Interface) → IsSound interface → AllByRecursion IsBroughtUp (if b then object.Up interface.device ∷ object.Address interface.device interface.cidr ∷ [] else [])
-brought_up true interface sound = (sound.0, ((sound.0, sound.1), tt))
-brought_up false interface sound = tt
-
-pub objects_brought_up : (present : List ℕ → Bool) (interfaces : List Interface) → AreSound interfaces → AllByRecursion IsBroughtUp (all_objects_of present interfaces)
-objects_brought_up present [] sound = tt
-objects_brought_up present (interface ∷ interfaces) sound =
-    all_append IsBroughtUp (objects_of present interface) (all_objects_of present interfaces) (brought_up (present interface.device) interface sound.0) (objects_brought_up present interfaces sound.1)
 
 -- an object that is wanted, and what it stands on among them
 abbrev Stands : (List ℕ → Bool) → List Object → Object → Type 0

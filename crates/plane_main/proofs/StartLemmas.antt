@@ -1,13 +1,10 @@
 -- How a `start` ends, and when.
 use Rattle.std.proofs.Common.{arith, ℕ, ◌≡◌, ◌<◌, inl, inr, length, List, [], ◌∷◌, Option, Some, None, refl, ap, sym, subst, ◌∙◌}
 use Rattle.std.specs.Prelude.{◌↔◌, IsSomeAnd}
-use Rattle.std.specs.List.{AllZip}
 use Rattle.std.specs.FinMap as map
 use Rattle.plane_words.specs.Causes.{DidNotRise}
 use Rattle.plane_io.specs.Source.{IsAllThatWasLeft, HadMoreThan}
 use Rattle.plane_io.specs.declared.input.TheConstants.{INPUT_LIMIT}
-use Rattle.net_addr.specs.Width.{IsCidr}
-use Rattle.uci_tree.specs.declared.package.Section.{Section}
 use Rattle.uci_tree.specs.declared.fault.Fault.{Fault}
 use Rattle.uci_tree.specs.declared.tree_error.TreeError.{TreeError}
 use Rattle.uci_tree.specs.Fault.{fault_of}
@@ -17,24 +14,15 @@ use Rattle.plane_main.specs.declared.interface.Interface.{Interface}
 use Rattle.plane_main.specs.declared.ending.Ending.{Ending}
 use Rattle.plane_main.specs.declared.ending.Ending.TheVariants as ending
 use Rattle.plane_main.specs.Outside.{Input, Outside}
-use Rattle.plane_main.specs.Network.{IsInterface, IsNetwork, IsOfForm, IsOutOfForm}
+use Rattle.plane_main.specs.Network.{IsNetwork, IsOfForm, IsOutOfForm}
 use Rattle.plane_main.specs.Wanted.{wanted}
 use Rattle.plane_main.specs.Ending.{IsFailure, IsCutShort, IsKernelFailed, Tells, OrLacksMemory}
-use Rattle.plane_main.specs.BringUp.{IsSound, AreSound, LackedMemory, BringUpEnds}
+use Rattle.plane_main.specs.BringUp.{LackedMemory, BringUpEnds}
 use Rattle.plane_main.specs.Start.{IsRead, AreRead, IsUnreadable, IsNotBuilt, ReadEnds, StartEnds, IsInput, IsCalm, StartComes}
 use Rattle.plane_main.proofs.InterfaceLemmas.{network_one}
 use Rattle.plane_main.proofs.CountLemmas.{some_due}
 use Rattle.plane_main.proofs.DeviceLemmas.{came_none}
 use Rattle.plane_main.proofs.SettleLemmas.{records_none}
-
-interface_sound : (section : Section) (interface : Interface) → IsInterface section interface → IsSound interface
-interface_sound section interface s = (s.plain.named, subst IsCidr (sym s.cidr) (s.octets, s.within))
-
-pub interfaces_sound : (sections : List Section) (interfaces : List Interface) → AllZip IsInterface sections interfaces → AreSound interfaces
-interfaces_sound [] [] h = tt
-interfaces_sound [] (interface ∷ interfaces) h = absurd h
-interfaces_sound (section ∷ sections) [] h = absurd h
-interfaces_sound (section ∷ sections) (interface ∷ interfaces) h = (interface_sound section interface h.0, interfaces_sound sections interfaces h.1)
 
 -- nothing was done: no device came
 pub nothing_lacked : (names : List (List ℕ)) (before : Outside) → before.devices ≡ map.empty → LackedMemory names before before

@@ -1,12 +1,9 @@
 -- What it is to bring interfaces up on named devices, to its end or a part of the way.
-use Rattle.std.specs.Prelude.{ℕ, ◌≡◌, ◌+◌, List, [], ◌∷◌, ◌++◌, filter, length, map, not, true, Option}
-use Rattle.std.specs.List.{AllByRecursion}
+use Rattle.std.specs.Prelude.{ℕ, ◌≡◌, ◌+◌, List, [], ◌∷◌, ◌++◌, filter, length, map, not, Option}
 use Rattle.std.specs.FinSet as set
 use Rattle.std.specs.FinMap as finite_map
 use Rattle.plane_words.specs.Causes.{Rose, RoseBy}
-use Rattle.net_addr.specs.Width.{IsCidr}
 use Rattle.kern_model.specs.declared.object.Call.{Call}
-use Rattle.kern_model.specs.Name.{is_name}
 use Rattle.kern_model.specs.declared.kernel.Asked.{Asked}
 use Rattle.kern_model.specs.declared.kernel.Asked.TheVariants as asked
 use Rattle.kern_model.specs.Kernel.{Devices, is_present, Records}
@@ -18,13 +15,6 @@ use Rattle.plane_main.specs.declared.ending.Ending.TheVariants as ending
 use Rattle.plane_main.specs.Outside.{Outside}
 use Rattle.plane_main.specs.Wanted.{wanted, comes, with_devices}
 use Rattle.plane_main.specs.Settle.{Settled, SettledInPart, done_call, failed_call}
-
--- the device and the address of an interface are of their form
-abbrev pub IsSound : Interface → Type 0
-IsSound interface = (is_name interface.device ≡ true) × IsCidr interface.cidr
-
-abbrev pub AreSound : List Interface → Type 0
-AreSound interfaces = AllByRecursion IsSound interfaces
 
 -- how many of the named devices are absent
 abbrev pub absent_count : Devices → List (List ℕ) → ℕ

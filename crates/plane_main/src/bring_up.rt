@@ -8,10 +8,11 @@ ghost use Rattle.kern_model.specs.CallOrder.{AreCalls};
 ghost use Rattle.plane_words.specs.Distinct.{AreDistinct};
 ghost use Rattle.plane_main.specs.Wanted.{all_objects_of, wanted};
 ghost use Rattle.plane_main.specs.Outside.{IsBare};
-ghost use Rattle.plane_main.specs.BringUp.{AreSound, Came, CameInFront, additions};
+ghost use Rattle.plane_main.specs.BringUp.{Came, CameInFront, additions};
 
 use crate::interface::Interface;
-use kern_model::{Call, DevEvent, DevName, Kernel, LinkKind, Mac, Object, calls_from_nothing};
+use kern_calls::calls_between;
+use kern_model::{Call, DevEvent, DevName, Kernel, LinkKind, Mac, Object};
 use plane_io::Memory;
 use std::alloc::Global;
 use std::collections::BTreeSet;
@@ -64,14 +65,13 @@ pub fn wanted_calls(
     interfaces: &[Interface],
     present: &BTreeSet<DevName>,
 ) -> Result<Vec<Call>, Memory>
-    requires { AreSound interfaces.now }
     ensures { IfOk result (λ calls. (devices : Devices) →
         ((name : List ℕ) →
         contains (slice_cmp nat_cmp) present.now name ≡ is_present devices name) →
         AreCalls devices set.empty (wanted interfaces.now devices) calls.items) }
 {
     let objects = wanted_objects(alloc, interfaces, present)?;
-    let calls = calls_from_nothing(alloc, &objects)?;
+    let calls = calls_between(alloc, &[], &[], &objects)?;
     Ok(calls)
 }
 

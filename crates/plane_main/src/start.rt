@@ -3,7 +3,7 @@ ghost use Rattle.plane_words.specs.Distinct.{AreDistinct};
 ghost use Rattle.uci_tree.specs.Fault.{fault_of};
 ghost use Rattle.plane_main.specs.Outside.{IsBare, input_of, outside_of};
 ghost use Rattle.plane_main.specs.Ending.{IsEarly};
-ghost use Rattle.plane_main.specs.BringUp.{AreSound, BringUpEnds};
+ghost use Rattle.plane_main.specs.BringUp.{BringUpEnds};
 ghost use Rattle.plane_main.specs.Start.{AreRead, ReadEnds, StartEnds};
 
 use crate::bring_up::{add_devices, wanted_calls};
@@ -77,7 +77,6 @@ fn bring_up<K: Kernel, O: Sink>(
 ) -> Ending
     requires bare { IsBare K.Kernel kernel.old }
     requires distinct { AreDistinct names.now }
-    requires sound { AreSound interfaces.now }
     ensures cause { BringUpEnds names.now interfaces.now
         (outside_of O.Sink K.Kernel out.old kernel.old)
         (outside_of O.Sink K.Kernel out.new kernel.new) result }
