@@ -7,3 +7,4 @@ pub mod AsTextLemmas
 pub mod TotalLemmas
 pub mod WrittenLemmas
 pub mod SpellingLemmas
+pub mod SizeLemmas

@@ -65,7 +65,7 @@ length-padding : (n : ℕ) → length (padding n) + n ≡ padded n
 unfolding padding
 length-padding n = simp (length-replicate) (omega (arith, padded_least n))
 
-length-name_field : (name : List ℕ) → length (name_field name) ≡ padded (length name + 3)
+pub length-name_field : (name : List ℕ) → length (name_field name) ≡ padded (length name + 3)
 unfolding name_field
 length-name_field name =
     let e : length (name ++ (0 ∷ padding (length name + 3))) ≡ length name + length (0 ∷ padding (length name + 3)) = length-append name (0 ∷ padding (length name + 3)) in

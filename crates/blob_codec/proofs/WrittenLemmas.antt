@@ -10,10 +10,10 @@ use Rattle.blob_codec.specs.Writing.{AllFit, AttrFits, EachFits, BeginsWith}
 use Rattle.blob_codec.specs.Written.{Body, padding, name_field, word_of, size_of, attribute_bytes, written, written_attr}
 use Rattle.blob_codec.proofs.FieldLemmas.{padded_most}
 
-cons_head : {X : Type 0} (x y : X) (xs ys : List X) → x ∷ xs ≡ y ∷ ys → x ≡ y
+pub cons_head : {X : Type 0} (x y : X) (xs ys : List X) → x ∷ xs ≡ y ∷ ys → x ≡ y
 cons_head x y xs ys e = cc
 
-cons_tail : {X : Type 0} (x y : X) (xs ys : List X) → x ∷ xs ≡ y ∷ ys → xs ≡ ys
+pub cons_tail : {X : Type 0} (x y : X) (xs ys : List X) → x ∷ xs ≡ y ∷ ys → xs ≡ ys
 cons_tail x y xs ys e = cc
 
 begins_on : (old mid new : List ℕ) → BeginsWith mid old → BeginsWith new mid → BeginsWith new old
@@ -137,7 +137,7 @@ written_more xs i x h e =
     let t : take (i + 1) xs ≡ take i xs ++ x ∷ [] = take_more xs i x h ∙ ap (λ y. take i xs ++ y ∷ []) (sym e) in
     ap written t ∙ (written-append (take i xs) (x ∷ []) ∙ ap (λ zs. written (take i xs) ++ zs) (append-nil (written_attr x)))
 
-rest_at : (xs : List Attr) (i : ℕ) (x : Attr) → i < length xs → x ≡ get_or xs i x → drop i xs ≡ x ∷ drop (i + 1) xs
+pub rest_at : (xs : List Attr) (i : ℕ) (x : Attr) → i < length xs → x ≡ get_or xs i x → drop i xs ≡ x ∷ drop (i + 1) xs
 rest_at xs i x h e = drop-cons xs i x h ∙ (ap (λ y. y ∷ drop (suc i) xs) (sym e) ∙ ap (λ k. x ∷ drop k xs) (sym (one_more i)))
 
 first_fits : (xs others : List Attr) (x : Attr) (levels : ℕ) → xs ≡ x ∷ others → Fits levels xs → AttrFits x × Fits levels others

@@ -10,6 +10,7 @@ mod laws;
 mod leaf;
 mod nul;
 mod read;
+mod size;
 mod write;
 
 pub use as_text::{json_string, json_text};
@@ -20,4 +21,5 @@ pub use laws::{
     no_reading_with_fault, one_fault, one_reading, reading_or_fault, written_reads_back,
 };
 pub use read::read_blob;
+pub use size::blob_size;
 pub use write::write_blob;

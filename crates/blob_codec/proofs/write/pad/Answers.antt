@@ -1,5 +1,4 @@
-use Rattle.std.proofs.Common.{◌≡◌, ◌++◌, ap, arith}
-use Rattle.blob_codec.specs.Attribute.{padded}
+use Rattle.std.proofs.Common.{◌++◌, ap, arith}
 use Rattle.blob_codec.proofs.FieldLemmas.{padded_least, padded_most}
 use Rattle.blob_codec.proofs.WrittenLemmas.{ok_is, zeros_are}
 use Rattle.blob_codec.proofs.write.pad.Goals as goal

@@ -1,4 +1,4 @@
-use Rattle.std.proofs.Common.{◌≡◌, arith}
+use Rattle.std.proofs.Common.{arith}
 use Rattle.blob_codec.proofs.WrittenLemmas.{word_put}
 use Rattle.blob_codec.proofs.write.set_word.Goals as goal
 

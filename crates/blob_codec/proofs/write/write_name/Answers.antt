@@ -1,4 +1,3 @@
-use Rattle.std.proofs.Common.{◌≡◌, refl}
 use Rattle.blob_codec.proofs.WrittenLemmas.{ok_is, name_written}
 use Rattle.blob_codec.proofs.write.write_name.Goals as goal
 
