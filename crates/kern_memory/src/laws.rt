@@ -8,5 +8,4 @@ ghost use Rattle.kern_memory.specs.KernelState.{KnownKernel, HasObjectRoom, HasR
 pub fn room_for_calls_serves_the_first()
     ensures { (known : KnownKernel) → (call : Call) → (calls : List Call)
         → HasRoomForAll known (call ∷ calls) → HasObjectRoom known call }
-{
-}
+{}
