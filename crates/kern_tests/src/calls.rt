@@ -335,48 +335,53 @@ fn the_calls_go_on_after_a_failure(rt: HostRuntime) -> Result<(), Fail> {
     network.settle(&rt, alloc, &wanted, &THE_OTHERS)
 }
 
+// A bridge that filters VLANs, with two ports, of which the second has this VLAN last.
+fn filtered(rt: &impl Abort, is_plain: bool) -> [Object; 12] {
+    [
+        bridge(rt, "br0", true),
+        vlan(rt, "br0.10", "br0", 10),
+        master(rt, "lan1", "br0"),
+        port_vlan(rt, "br0", false),
+        port_vlan(rt, "lan1", true),
+        up(rt, "br0"),
+        up(rt, "lan1"),
+        up(rt, "br0.10"),
+        address(rt, "br0.10", "10.0.10.1/24"),
+        master(rt, "lan2", "br0"),
+        up(rt, "lan2"),
+        port_vlan(rt, "lan2", is_plain),
+    ]
+}
+
 #[test]
 fn a_bridge_filters_vlans(rt: HostRuntime) -> Result<(), Fail> {
     let alloc = rt.alloc();
     let mut network = Network::new(&rt, alloc, &["lan1", "lan2"])?;
-    let tagged = [
-        bridge(&rt, "br0", true),
-        vlan(&rt, "br0.10", "br0", 10),
-        master(&rt, "lan1", "br0"),
-        port_vlan(&rt, "br0", false),
-        port_vlan(&rt, "lan1", true),
-        up(&rt, "br0"),
-        up(&rt, "lan1"),
-        up(&rt, "br0.10"),
-        address(&rt, "br0.10", "10.0.10.1/24"),
-        master(&rt, "lan2", "br0"),
-        up(&rt, "lan2"),
-        port_vlan(&rt, "lan2", false),
-    ];
-    let mut untagged = tagged;
-    untagged[11] = port_vlan(&rt, "lan2", true);
+    let tagged = filtered(&rt, false);
+    let untagged = filtered(&rt, true);
     network.settle(&rt, alloc, &tagged[..9], &FILTERED)?;
     network.settle(&rt, alloc, &tagged, &SECOND_PORT_TAGGED)?;
     network.settle(&rt, alloc, &untagged, &SECOND_PORT_UNTAGGED)
+}
+
+// A VLAN of this id over eth0, which has this MTU, and another VLAN over that one.
+fn stacked(rt: &impl Abort, id: u16, lower_mtu: u32) -> [Object; 8] {
+    [
+        vlan(rt, "eth0.5", "eth0", id),
+        vlan(rt, "eth0.5.6", "eth0.5", 6),
+        up(rt, "eth0"),
+        up(rt, "eth0.5"),
+        up(rt, "eth0.5.6"),
+        mtu(rt, "eth0", lower_mtu),
+        mtu(rt, "eth0.5", 1400),
+        address(rt, "eth0.5.6", "10.0.6.1/24"),
+    ]
 }
 
 #[test]
 fn what_stands_on_a_taken_link_is_put_again(rt: HostRuntime) -> Result<(), Fail> {
     let alloc = rt.alloc();
     let mut network = Network::new(&rt, alloc, &["eth0"])?;
-    let low = [
-        vlan(&rt, "eth0.5", "eth0", 5),
-        vlan(&rt, "eth0.5.6", "eth0.5", 6),
-        up(&rt, "eth0"),
-        up(&rt, "eth0.5"),
-        up(&rt, "eth0.5.6"),
-        mtu(&rt, "eth0", 1600),
-        mtu(&rt, "eth0.5", 1400),
-        address(&rt, "eth0.5.6", "10.0.6.1/24"),
-    ];
-    let mut high = low;
-    high[0] = vlan(&rt, "eth0.5", "eth0", 7);
-    high[5] = mtu(&rt, "eth0", 2000);
-    network.settle(&rt, alloc, &low, &STACKED)?;
-    network.settle(&rt, alloc, &high, &STACKED_ANEW)
+    network.settle(&rt, alloc, &stacked(&rt, 5, 1600), &STACKED)?;
+    network.settle(&rt, alloc, &stacked(&rt, 7, 2000), &STACKED_ANEW)
 }
