@@ -1,11 +1,15 @@
 -- Blobs whose reading and faults the checker computes.
-use Rattle.std.proofs.Common.{ℕ, List, [], ◌∷◌, refl, lit<, lit≤}
+use Rattle.std.proofs.Common.{ℕ, ◌≡◌, List, [], ◌∷◌, refl, lit<, lit≤}
 use Rattle.blob_codec.specs.declared.blob.TheConstants.{MOST_LEVELS}
 use Rattle.blob_codec.specs.declared.blob.Blob.TheVariants.{Str}
 use Rattle.blob_codec.specs.declared.blob_error.BlobError.TheVariants.{Short, BadLength, BadType, Double, NoNul}
 use Rattle.blob_codec.specs.Attribute.{padded, word_in, flag_in, type_in, length_in, name_length_in, named_in, name_in, value_place, value_in, behind, is_terminated, without_last, IsWhole}
 use Rattle.blob_codec.specs.Blob.{SpellsBlob, attribute, none, leaf, string}
 use Rattle.blob_codec.specs.Fault.{IsBlobFault, front}
+
+-- attributes nest to 32 levels
+most_levels : MOST_LEVELS ≡ 32
+most_levels = refl
 
 -- the string `a` is `hi`, with a last byte of any value
 example_bytes : ℕ → List ℕ

@@ -11,10 +11,10 @@ use thiserror::Error;
 #[derive(Debug, Drop, Error)]
 pub enum JsonError {
     /// The number has a fraction or an exponent, is `-0`, or is beyond 64 bits.
-    #[error("a number is not whole")]
+    #[error("a number is not written whole, or is beyond 64 bits")]
     Fraction { path: Text },
     /// The whole number is above 2^63 - 1.
-    #[error("a number has more than 64 bits")]
+    #[error("a whole number is above 9223372036854775807")]
     Wide { path: Text },
     /// The array or object stands within 32 others; the object at the top is not counted.
     #[error("a value nests too deep")]
