@@ -1,0 +1,18 @@
+-- What options give (OpenWrt's network configuration).
+
+-- options by their names
+pub mod Options
+-- an option that is absent, does not read, or has a value
+pub mod Stated
+-- texts cut at a byte
+pub mod Cut
+-- words between spaces
+pub mod Words
+-- truth values
+pub mod Truth
+-- decimals
+pub mod Number
+-- hardware addresses
+pub mod HardwareAddress
+-- names of the form X.N
+pub mod Dotted
