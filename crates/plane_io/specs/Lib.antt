@@ -2,6 +2,8 @@
 
 -- what reading a source to its end gives
 pub mod Source
+-- the numbers of refusals of an input
+pub mod InputError
 -- a source in memory
 pub mod MemSource
 -- a sink in memory

@@ -1,6 +1,7 @@
 ghost use Rattle.std.specs.Prelude.{◌≡◌, ◌≤◌, ℕ, length, Err, IfOk, OnOk};
 ghost use Rattle.plane_words.specs.Causes.{Rose};
 ghost use Rattle.plane_io.specs.Source.{IsAllThatWasLeft, HadMoreThan};
+ghost use Rattle.plane_io.specs.InputError.{number_of};
 ghost use Rattle.plane_io.specs.declared.input.InputError.TheVariants.{Memory as NoMemory};
 
 use crate::Source;
@@ -25,6 +26,20 @@ pub enum InputError {
     /// There was not enough memory.
     #[error("out of memory")]
     Memory,
+}
+
+impl InputError {
+    /// The number of the error: 3 for `ReadFailed`, 10 for `TooLong`, 8 for `Memory`. It is the exit status of a run that ends
+    /// for it.
+    pub fn number(&self) -> u8
+        ensures { result ≡ number_of self.now }
+    {
+        match self {
+            InputError::ReadFailed => 3,
+            InputError::TooLong { .. } => 10,
+            InputError::Memory => 8,
+        }
+    }
 }
 
 impl From<AllocError> for InputError {

@@ -98,6 +98,8 @@ impl Sink for MemSink {
         ensures list { self.new.failing ≡ self.old.failing }
         ensures fails { OnErr result (Contains self.old.failing self.new.calls
             ⊎ Rose self.old.refused self.new.refused) }
+        ensures listed { Contains self.old.failing self.new.calls →
+            self.new.refused ≡ self.old.refused }
         ensures passes { OnOk result ((¬ (Contains self.old.failing self.new.calls))
             × (self.new.refused ≡ self.old.refused)) }
         ensures nothing { OnErr result (self.new.bytes ≡ self.old.bytes) }
