@@ -47,7 +47,7 @@ hex_named : (width n : ℕ) → AllIn Name (hex width n)
 unfolding digits
 hex_named width n = all_in-append Name (replicate (width - length (digits 16 false n)) 48) (digits 16 false n) (zeros_named (width - length (digits 16 false n))) (onto_named 64 n [] tt)
 
-anonymous_named : (ordinal : ℕ) (kind : List ℕ) → IsNameOf Name (anonymous_name ordinal kind)
+pub anonymous_named : (ordinal : ℕ) (kind : List ℕ) → IsNameOf Name (anonymous_name ordinal kind)
 anonymous_named ordinal kind =
     (omega arith, (refl, (refl, (refl, all_in-append Name (hex 2 ordinal) (hex 4 (type_hash kind)) (hex_named 2 ordinal) (hex_named 4 (type_hash kind))))))
 
@@ -80,11 +80,11 @@ put_lacks_case : (b : Bool) (key : List ℕ) (change : Option Value → Value) (
 put_lacks_case true key change option options rest h g = h
 put_lacks_case false key change option options rest h g = (h.0, g)
 
-put_lacks : (key name : List ℕ) (change : Option Value → Value) (options : List Opt) → name ≢ key → AllByRecursion (λ other. other ≢ key) (names_of options) → AllByRecursion (λ other. other ≢ key) (names_of (put name change options))
+pub put_lacks : (key name : List ℕ) (change : Option Value → Value) (options : List Opt) → name ≢ key → AllByRecursion (λ other. other ≢ key) (names_of options) → AllByRecursion (λ other. other ≢ key) (names_of (put name change options))
 put_lacks key name change [] n h = (n, tt)
 put_lacks key name change (option ∷ options) n h = put_lacks_case (bytes_eq option.name name) key change option options (put name change options) h (put_lacks key name change options n h.1)
 
-apart_names : (a b : List ℕ) → bytes_eq a b ≡ false → b ≢ a
+pub apart_names : (a b : List ℕ) → bytes_eq a b ≡ false → b ≢ a
 apart_names a b e same = let t : bytes_eq a b ≡ true = (bytes_eq-Decides a b).1 (sym same) in let f : true ≡ false = sym t ∙ e in cc
 
 put_distinct_case : (b : Bool) (name : List ℕ) (change : Option Value → Value) (option : Opt) (options : List Opt) → bytes_eq option.name name ≡ b → AreDistinct (names_of (option ∷ options)) → AreDistinct (names_of (put name change options)) → AreDistinct (names_of (cond {A = List Opt} b (record option { value = change (Some option.value) } ∷ options) (option ∷ put name change options)))
@@ -99,7 +99,7 @@ without_each_case : (b : Bool) (option : Opt) (options rest : List Opt) → IsVa
 without_each_case true option options rest o h g = h
 without_each_case false option options rest o h g = (o, g)
 
-without_each : (name : List ℕ) (options : List Opt) → AllByRecursion IsValidOption options → AllByRecursion IsValidOption (without name options)
+pub without_each : (name : List ℕ) (options : List Opt) → AllByRecursion IsValidOption options → AllByRecursion IsValidOption (without name options)
 without_each name [] h = tt
 without_each name (option ∷ options) h = without_each_case (bytes_eq option.name name) option options (without name options) h.0 h.1 (without_each name options h.1)
 
@@ -107,7 +107,7 @@ without_lacks_case : (b : Bool) (key : List ℕ) (option : Opt) (options rest : 
 without_lacks_case true key option options rest h g = h.1
 without_lacks_case false key option options rest h g = (h.0, g)
 
-without_lacks : (key name : List ℕ) (options : List Opt) → AllByRecursion (λ other. other ≢ key) (names_of options) → AllByRecursion (λ other. other ≢ key) (names_of (without name options))
+pub without_lacks : (key name : List ℕ) (options : List Opt) → AllByRecursion (λ other. other ≢ key) (names_of options) → AllByRecursion (λ other. other ≢ key) (names_of (without name options))
 without_lacks key name [] h = tt
 without_lacks key name (option ∷ options) h = without_lacks_case (bytes_eq option.name name) key option options (without name options) h (without_lacks key name options h.1)
 
@@ -115,7 +115,7 @@ without_distinct_case : (b : Bool) (name : List ℕ) (option : Opt) (options : L
 without_distinct_case true name option options h g = h.1
 without_distinct_case false name option options h g = (without_lacks option.name name options h.0, g)
 
-without_distinct : (name : List ℕ) (options : List Opt) → AreDistinct (names_of options) → AreDistinct (names_of (without name options))
+pub without_distinct : (name : List ℕ) (options : List Opt) → AreDistinct (names_of options) → AreDistinct (names_of (without name options))
 without_distinct name [] h = tt
 without_distinct name (option ∷ options) h = without_distinct_case (bytes_eq option.name name) name option options h (without_distinct name options h.1)
 
@@ -129,11 +129,11 @@ value_keeps : (byte : ℕ) (bytes : List ℕ) → AllIn NotZero (byte ∷ bytes)
 unfolding Keeps IfValid
 value_keeps byte bytes h before v = (omega arith, h)
 
-option_valid : (name value : List ℕ) (options : List Opt) → IsNameOf Name name → AllIn NotZero value → AreValid options → AreValid (with_option name value options)
+pub option_valid : (name value : List ℕ) (options : List Opt) → IsNameOf Name name → AllIn NotZero value → AreValid options → AreValid (with_option name value options)
 option_valid name [] options n h v = record { each = without_each name options v.each; distinct = without_distinct name options v.distinct }
 option_valid name (byte ∷ bytes) options n h v = record { each = put_each name (λ before. One (byte ∷ bytes)) options n (value_keeps byte bytes h) v.each; distinct = put_distinct name (λ before. One (byte ∷ bytes)) options v.distinct }
 
-item_valid : (name item : List ℕ) (options : List Opt) → IsNameOf Name name → AllIn NotZero item → AreValid options → AreValid (with_item name item options)
+pub item_valid : (name item : List ℕ) (options : List Opt) → IsNameOf Name name → AllIn NotZero item → AreValid options → AreValid (with_item name item options)
 item_valid name item options n h v = record { each = put_each name (appended item) options n (append_keeps item h) v.each; distinct = put_distinct name (appended item) options v.distinct }
 
 -- sections

@@ -25,10 +25,11 @@ pub use laws::{
     no_package_with_fault, no_tree_fault_is_memory, one_package, one_path, one_tree_fault,
     package_or_fault, printed_again, printed_reads_back,
 };
-pub use lookup::{Place, find};
+pub use lookup::{Place, find, named_place, option_place};
 pub use package::{Opt, Package, Section, Value};
 pub use path::{Path, SectionRef};
 pub use path_text::read_path;
 pub use print::print_package;
 pub use reading::read_package;
+pub use split::cut_first;
 pub use tree_error::TreeError;

@@ -57,7 +57,8 @@ fn section_place(sections: &[Section], reference: &SectionRef) -> Option<usize>
     }
 }
 
-fn named_place(sections: &[Section], name: &[u8]) -> Option<usize>
+/// The place of the first section of this name, from 0.
+pub fn named_place(sections: &[Section], name: &[u8]) -> Option<usize>
     ensures { result ≡ spec.named_place sections.now name.now }
 {
     sections
@@ -65,7 +66,8 @@ fn named_place(sections: &[Section], name: &[u8]) -> Option<usize>
         .position(|section| section.name.as_bytes() == name)
 }
 
-fn option_place(options: &[Opt], name: &[u8]) -> Option<usize>
+/// The place of the first option of this name, from 0.
+pub fn option_place(options: &[Opt], name: &[u8]) -> Option<usize>
     ensures { result ≡ spec.option_place options.now name.now }
 {
     options

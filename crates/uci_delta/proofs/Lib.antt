@@ -1,0 +1,6 @@
+pub mod NameLemmas
+pub mod PlaceLemmas
+pub mod FirstLemmas
+pub mod OptionLemmas
+pub mod SectionLemmas
+pub mod ValidLemmas

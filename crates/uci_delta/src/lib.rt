@@ -1,0 +1,18 @@
+//! Staged changes of UCI packages, as OpenWrt's `uci` keeps them: what each makes of a package, and their text.
+#![tactic(auto)]
+
+mod applying;
+mod delta;
+mod delta_error;
+mod laws;
+mod names;
+mod options;
+mod place;
+mod print;
+mod sections;
+
+pub use applying::apply;
+pub use delta::{Change, Delta};
+pub use delta_error::DeltaError;
+pub use laws::valid_stays_valid;
+pub use print::{print_change, print_delta};
