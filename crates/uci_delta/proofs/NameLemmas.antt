@@ -1,12 +1,11 @@
 -- Tests of names and values.
-use Rattle.std.proofs.Common.{ℕ, ◌≡◌, ◌<◌, Bool, true, false, not, ◌&&◌, cond, nat_eq, List, [], ◌∷◌, length, refl, sym, ap, subst, ◌∙◌, arith}
+use Rattle.std.proofs.Common.{ℕ, ◌≡◌, ◌<◌, Bool, true, false, not, ◌&&◌, nat_eq, List, [], ◌∷◌, length, refl, ap, subst, arith}
 use Rattle.std.specs.Prelude.{IsTrue, ◌↔◌}
 use Rattle.std.proofs.lemmas.Bool.Decides.{nat_tests}
 use Rattle.std.specs.List.{list_all}
 use Rattle.uci_text.specs.declared.byte_class.ByteClass.{ByteClass}
 use Rattle.uci_text.specs.ByteClass.{is_in, AllIn}
 use Rattle.uci_text.specs.Table.{IsNameOf}
-use Rattle.uci_text.proofs.ClassLemmas.{has_some}
 use Rattle.uci_delta.specs.Names.{is_name_of}
 
 pub both : (a b : Bool) → a ≡ true → b ≡ true → (a && b) ≡ true

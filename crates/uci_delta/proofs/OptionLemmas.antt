@@ -1,12 +1,12 @@
 -- Options by their places.
-use Rattle.std.proofs.Common.{ℕ, zero, suc, ◌≡◌, Bool, true, false, not, cond, nat_eq, List, [], ◌∷◌, ◌++◌, length, get_or, set, Option, Some, None, Result, Ok, Err, bytes_eq, position, is_some, refl, sym, ap, ◌∙◌, arith}
-use Rattle.std.specs.Prelude.{◌&&◌, OnOk, IfErr, IfOk}
-use Rattle.std.specs.List.{remove, filter}
+use Rattle.std.proofs.Common.{ℕ, zero, suc, ◌≡◌, Bool, true, false, not, cond, nat_eq, List, [], ◌∷◌, ◌++◌, length, get_or, set, Option, Some, None, Result, Ok, Err, position, refl, sym, ap, ◌∙◌, arith}
+use Rattle.std.specs.Prelude.{◌&&◌}
+use Rattle.std.specs.List.{remove}
 use Rattle.std.proofs.lemmas.Bool.Decides.{nat_tests}
 use Rattle.uci_text.specs.declared.byte_class.ByteClass.TheVariants.{Name}
 use Rattle.std.specs.Option.{option_map}
 use Rattle.uci_tree.specs.declared.package.Value.{Value}
-use Rattle.uci_tree.specs.declared.package.Value.TheVariants.{One, Many}
+use Rattle.uci_tree.specs.declared.package.Value.TheVariants.{Many}
 use Rattle.uci_tree.specs.declared.package.Opt.{Opt}
 use Rattle.uci_tree.specs.Find.{option_place}
 use Rattle.uci_tree.specs.Fold.{put, without}

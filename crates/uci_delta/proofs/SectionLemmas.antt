@@ -1,5 +1,5 @@
 -- Sections by their places.
-use Rattle.std.proofs.Common.{ℕ, zero, suc, ◌≡◌, Bool, true, false, not, cond, List, [], ◌∷◌, ◌++◌, get_or, set, take, drop, Option, Some, None, Result, Ok, Err, position, is_some, refl, sym, ap, ◌∙◌}
+use Rattle.std.proofs.Common.{ℕ, ◌≡◌, Bool, true, false, not, cond, List, [], ◌∷◌, get_or, set, Option, Some, None, Result, Ok, Err, sym, ap, ◌∙◌}
 use Rattle.std.specs.List.{remove}
 use Rattle.uci_text.specs.declared.byte_class.ByteClass.TheVariants.{Name}
 use Rattle.uci_tree.specs.declared.package.Section.{Section}

@@ -1,11 +1,10 @@
 -- A valid package stays valid.
-use Rattle.std.proofs.Common.{ℕ, zero, suc, ◌≡◌, ◌≢◌, ◌<◌, ◌+◌, Bool, true, false, not, cond, List, [], ◌∷◌, ◌++◌, length, take, drop, Option, Some, None, Result, Ok, Err, bytes_eq, is_some, position, refl, sym, ap, subst, ◌∙◌, arith}
+use Rattle.std.proofs.Common.{ℕ, zero, suc, ◌≡◌, ◌≢◌, Bool, true, false, not, cond, List, [], ◌∷◌, ◌++◌, take, drop, Option, Some, None, Result, Ok, Err, bytes_eq, is_some, position, refl, sym, ap, subst, ◌∙◌, arith}
 use Rattle.std.specs.Prelude.{◌&&◌}
 use Rattle.std.specs.List.{AllByRecursion, filter}
 use Rattle.std.specs.Option.{option_map}
-use Rattle.std.proofs.lemmas.Slice.Eq.{bytes_eq-Decides}
 use Rattle.plane_words.specs.Distinct.{AreDistinct}
-use Rattle.uci_text.specs.declared.byte_class.ByteClass.TheVariants.{Name, PackageName, Printable, NotZero}
+use Rattle.uci_text.specs.declared.byte_class.ByteClass.TheVariants.{Name, Printable, NotZero}
 use Rattle.uci_text.specs.ByteClass.{AllIn}
 use Rattle.uci_text.specs.Table.{IsNameOf}
 use Rattle.uci_text.proofs.ClassLemmas.{each-append}
@@ -14,7 +13,6 @@ use Rattle.uci_tree.specs.declared.package.Value.TheVariants.{One, Many}
 use Rattle.uci_tree.specs.declared.package.Opt.{Opt}
 use Rattle.uci_tree.specs.declared.package.Section.{Section}
 use Rattle.uci_tree.specs.declared.package.Package.{Package}
-use Rattle.uci_tree.specs.Find.{option_place, named_place}
 use Rattle.uci_tree.specs.Fold.{without, with_option, with_item}
 use Rattle.uci_tree.specs.Valid.{IsValidValue, IsValidOption, names_of, IsValidSection, IsValid}
 use Rattle.uci_tree.proofs.FoldLemmas.{position-cons}
@@ -28,7 +26,7 @@ use Rattle.uci_delta.specs.Names.{is_name_of, is_value}
 use Rattle.uci_delta.specs.Place.{place_of}
 use Rattle.uci_delta.specs.First.{made, first_becomes, first_alone, others}
 use Rattle.uci_delta.specs.Options.{is_option, has_option, option_renamed, list_of, left_of, with_left, without_item, where_valid, options_with}
-use Rattle.uci_delta.specs.Sections.{is_section, has_section, with_new, are_named, where_named, with_kind, with_anonymous, section_renamed, put_at, reordered, sections_with, lack_of, in_section, sections_with_option}
+use Rattle.uci_delta.specs.Sections.{is_section, has_section, with_new, are_named, where_named, with_kind, with_anonymous, section_renamed, put_at, sections_with, lack_of, in_section}
 use Rattle.uci_delta.specs.Applied.{changed, with_sections, applied}
 use Rattle.uci_delta.proofs.NameLemmas.{all_from, name_from, first_true, second_true}
 

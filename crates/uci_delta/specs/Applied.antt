@@ -1,5 +1,5 @@
 -- What a delta makes of a package (OpenWrt's uci).
-use Rattle.std.specs.Prelude.{ℕ, ◌+◌, ◌-◌, ◌^◌, List, length, Option, Some, None, Result, Ok, Err, min}
+use Rattle.std.specs.Prelude.{ℕ, ◌+◌, ◌-◌, ◌^◌, List, length, Option, Some, None, Result, min}
 use Rattle.uci_tree.specs.declared.package.Section.{Section}
 use Rattle.uci_tree.specs.declared.package.Package.{Package}
 use Rattle.uci_delta.specs.declared.delta.Change.{Change}

@@ -2,7 +2,6 @@ use Rattle.std.proofs.Common.{ap, sym, ◌∙◌, ◌≡◌, nat_eq, length, not
 use Rattle.std.specs.Vec.{vec_len}
 use Rattle.std.proofs.lemmas.Fn.{filter_same}
 use Rattle.std.specs.List.{filter}
-use Rattle.uci_tree.specs.declared.package.Value.TheVariants.{Many}
 use Rattle.uci_delta.specs.Options.{left_of}
 use Rattle.uci_delta.proofs.OptionLemmas.{list_left}
 use Rattle.uci_delta.proofs.options.delete_equal.Goals as goal
