@@ -397,6 +397,26 @@ fn a_device_that_leaves_gives_its_place_back(rt: HostRuntime) -> Result<(), Fail
     Ok(())
 }
 
+fn put_asked(object: &Object, done: bool) -> Asked {
+    Asked::Call {
+        call: Call::Put(*object),
+        done,
+    }
+}
+
+fn event_asked(event: &DevEvent, done: bool) -> Asked {
+    Asked::Event {
+        event: *event,
+        done,
+    }
+}
+
+fn put(rt: &impl Abort, kernel: &mut MemKernel, object: &Object, is_done: bool) {
+    let call = Call::Put(*object);
+    assert!(rt; kernel.admits(&call));
+    assert_eq!(rt; kernel.apply(&call).is_ok(), is_done);
+}
+
 #[test]
 fn what_was_asked_is_kept(rt: HostRuntime) -> Result<(), Fail> {
     let alloc = rt.alloc();
@@ -413,31 +433,30 @@ fn what_was_asked_is_kept(rt: HostRuntime) -> Result<(), Fail> {
     assert!(rt; kernel.environment(&event).is_err());
     assert!(rt; kernel.may_happen(&event));
     assert!(rt; kernel.environment(&event).is_ok());
-    let [first, second] = [up(&rt, "eth0"), address(&rt, "eth0", "10.0.0.1/24")];
-    for (object, done) in [(first, true), (second, false), (second, true)] {
-        let call = Call::Put(object);
-        assert!(rt; kernel.admits(&call));
-        assert_eq!(rt; kernel.apply(&call).is_ok(), done);
-    }
+    let first = up(&rt, "eth0");
+    let second = address(&rt, "eth0", "10.0.0.1/24");
+    put(&rt, &mut kernel, &first, true);
+    put(&rt, &mut kernel, &second, false);
+    put(&rt, &mut kernel, &second, true);
     let asked = [
-        Asked::Event { event, done: false },
-        Asked::Event { event, done: true },
-        Asked::Call {
-            call: Call::Put(first),
-            done: true,
-        },
-        Asked::Call {
-            call: Call::Put(second),
-            done: false,
-        },
-        Asked::Call {
-            call: Call::Put(second),
-            done: true,
-        },
+        event_asked(&event, false),
+        event_asked(&event, true),
+        put_asked(&first, true),
+        put_asked(&second, false),
+        put_asked(&second, true),
     ];
     assert_eq!(rt; kernel.asked(), asked.as_slice());
     assert_eq!(rt; kernel.calls().len(), 2);
     assert_eq!(rt; kernel.refused(), 0);
+    Ok(())
+}
+
+fn put_into(rt: &impl Abort, state: &mut KernelState, call: &Call) -> Result<(), Fail> {
+    state.reserve_call(call)?;
+    assert!(rt; state.admits(call), "{call:?}");
+    assert!(rt; !state.holds(&call.object()), "{call:?}");
+    state.apply(call);
+    assert!(rt; state.holds(&call.object()), "{call:?}");
     Ok(())
 }
 
@@ -476,10 +495,7 @@ fn a_state_takes_calls_and_events(rt: HostRuntime) -> Result<(), Fail> {
     ];
     state.reserve(&calls)?;
     for call in calls {
-        assert!(rt; state.admits(&call), "{call:?}");
-        assert!(rt; !state.holds(&call.object()), "{call:?}");
-        state.apply(&call);
-        assert!(rt; state.holds(&call.object()), "{call:?}");
+        put_into(&rt, &mut state, &call)?;
     }
     assert_eq!(rt; state.objects().len(), 3);
     let v = name(&rt, "v");

@@ -1,3 +1,6 @@
+ghost use Rattle.std.specs.Prelude.{◌↔◌, IsTrue};
+ghost use Rattle.uci_delta.specs.Shape.{HasShape};
+
 use plane_io::Text;
 
 /// What a delta does to a section, or to an option in it.
@@ -30,4 +33,17 @@ pub struct Delta {
     /// The option's name, where the change is one of an option.
     pub option: Option<Text>,
     pub change: Change,
+}
+
+impl Delta {
+    /// Whether a section has such a change, or an option where the delta names one.
+    pub fn has_shape(&self) -> bool
+        ensures { IsTrue result ↔ HasShape self.now }
+    {
+        match &self.change {
+            Change::Set(_) | Change::Remove | Change::Rename(_) => true,
+            Change::Add(_) | Change::Reorder(_) => self.option.is_none(),
+            Change::ListAdd(_) | Change::ListDel(_) => self.option.is_some(),
+        }
+    }
 }

@@ -71,6 +71,7 @@ fn changed(rt: &impl Abort, alloc: Global, text: &[u8], rows: &[Row]) -> Result<
             );
         }
         if !line.is_empty() {
+            assert!(rt; delta.has_shape());
             let mut out = Vec::new(alloc);
             print_delta(&mut out, &delta)?;
             assert_eq!(rt; out.as_slice(), *line);
