@@ -25,10 +25,10 @@ use uci_tree::{Package, Section};
 ///
 /// # Errors
 ///
-/// The package stays as it was. `NotFound` where what is to go, to get a name or to move is not there. Else `Invalid` where a
-/// name or a type is none, where the section of a new value or item is not there, where a value has a zero byte, where a place
-/// is no decimal of 32 bits, and where the delta is of no shape: an addition or a move of an option, or an item of a section.
-/// Else `Duplicate` where the new name is there. `Memory` where there was not enough memory.
+/// The package stays as it was. The shape goes first: `Invalid` for an addition or a move of an option, and for an item of a
+/// section. Then `NotFound` where what is to go, to get a name or to move is not there. Then `Invalid` where a name or a type is
+/// none, where the section of a new value or of an item that comes or goes is not there, where a value has a zero byte, and where
+/// a place is no decimal of 32 bits. Then `Duplicate` where the new name is there. `Memory` where there was not enough memory.
 pub fn apply(alloc: Global, package: &mut Package, delta: &Delta) -> Result<(), DeltaError>
     ensures done { OnOk result (spec.applied «package».old delta.now ≡ Ok «package».new) }
     ensures refused { IfErr result (IsRefusalOf (spec.applied «package».old delta.now)) }
