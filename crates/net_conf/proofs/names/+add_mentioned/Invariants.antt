@@ -1,4 +1,0 @@
-use Rattle.net_conf.proofs.names.+add_mentioned.Given as goal
-
-abbrev pub decreases-add_mentioned : goal.decreases-add_mentioned
-decreases-add_mentioned l = l.more

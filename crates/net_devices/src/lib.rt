@@ -1,0 +1,23 @@
+//! The rows of network configuration files: `device` sections, and the names of network devices with their kinds, levels and
+//! faults (OpenWrt's network configuration).
+#![tactic(auto)]
+
+mod counted;
+mod devices;
+mod each_once;
+mod faults;
+mod kinds;
+mod levels;
+mod name_rows;
+mod names;
+mod said;
+
+pub use counted::all_said;
+pub use devices::{DeviceConf, MOST_NAMES, read_devices};
+pub use kinds::kind_of;
+pub use levels::{MOST_LEVELS, is_bridge, level};
+pub use name_rows::{rows_of_names, rows_of_sections};
+pub use names::{MOST_LOWERS, all_names};
+pub use said::{
+    DeviceSection, LEAST_ID, LEAST_MTU, MOST_ID, MOST_MTU, Said, StatedKind, device_section,
+};

@@ -1,0 +1,4 @@
+-- The rows of a network configuration.
+
+-- numbers of errors
+pub mod ConfError
