@@ -3,11 +3,10 @@ ghost use Rattle.net_rows.specs.declared.conf_error.ConfError.TheVariants.{Limit
 ghost use Rattle.net_devices.specs.declared.devices.TheConstants.{MOST_NAMES};
 ghost use Rattle.net_devices.specs.Devices as spec;
 
-use net_rows::ConfError;
 use crate::counted::all_said;
 use crate::name_rows::{rows_of_names, rows_of_sections};
 use crate::names::all_names;
-use net_rows::{DeviceRow, NameRow};
+use net_rows::{ConfError, DeviceRow, NameRow};
 use plane_io::Items;
 use std::alloc::Global;
 use uci_tree::Package;

@@ -3,12 +3,11 @@ ghost use Rattle.net_rows.specs.declared.fault_name.FaultName.TheVariants as fau
 ghost use Rattle.net_devices.specs.Faults as spec;
 ghost use Rattle.net_devices.specs.Levels as levels;
 
-use net_rows::FaultName;
 use crate::levels::is_bridge;
-use net_rows::RowFault;
 use crate::said::{DeviceSection, Said, StatedKind};
 use kern_model::DevName;
 use net_options::Stated;
+use net_rows::{FaultName, RowFault};
 use plane_io::{Items, Memory, Text};
 use std::alloc::Global;
 
@@ -75,7 +74,7 @@ pub fn add_kind_faults(
 fn add_vlan_faults(
     faults: &mut Items<RowFault>,
     lower: &Stated<DevName>,
-    id: &Stated<u32>,
+    id: &Stated<u16>,
 ) -> Result<(), Memory>
     ensures { OnOk result (faults.new ≡ faults.old ++ spec.vlan_faults lower.now id.now) }
 {

@@ -18,6 +18,4 @@ pub use kinds::kind_of;
 pub use levels::{MOST_LEVELS, is_bridge, level};
 pub use name_rows::{rows_of_names, rows_of_sections};
 pub use names::{MOST_LOWERS, all_names};
-pub use said::{
-    DeviceSection, LEAST_ID, LEAST_MTU, MOST_ID, MOST_MTU, Said, StatedKind, device_section,
-};
+pub use said::{DeviceSection, LEAST_MTU, MOST_MTU, Said, StatedKind, device_section};
