@@ -1,2 +1,4 @@
+pub mod KeyLemmas
 pub mod LevelLemmas
 pub mod SaidLemmas
+pub mod TableLemmas

@@ -70,7 +70,8 @@ pub fn name_if_read(stated: &Stated<DevName>) -> Option<DevName>
     }
 }
 
-fn id_or_zero(stated: &Stated<u16>) -> u16
+/// The identifier that was read, or else 0.
+pub fn id_or_zero(stated: &Stated<u16>) -> u16
     ensures { result ≡ spec.id_or_zero stated.now }
 {
     match stated {

@@ -2,16 +2,21 @@
 //! faults (OpenWrt's network configuration).
 #![tactic(auto)]
 
+mod bridge_vlans;
 mod counted;
 mod devices;
 mod each_once;
+mod entries;
 mod faults;
 mod kinds;
 mod levels;
 mod name_rows;
 mod names;
+mod names_once;
 mod said;
+mod vlan_table;
 
+pub use bridge_vlans::{MOST_VLAN_ENTRIES, MOST_VLAN_ROWS, has_too_many_entries, vlan_rows};
 pub use counted::all_said;
 pub use devices::{DeviceConf, MOST_NAMES, read_devices};
 pub use kinds::kind_of;

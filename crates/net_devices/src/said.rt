@@ -126,7 +126,8 @@ fn bridge_kind(alloc: Global, options: &[Opt]) -> Result<StatedKind, Memory>
     })
 }
 
-fn port_words(alloc: Global, options: &[Opt]) -> Result<Items<Text>, Memory>
+/// The words of `ports`, a list or a text with spaces.
+pub fn port_words(alloc: Global, options: &[Opt]) -> Result<Items<Text>, Memory>
     ensures { IfOk result (λ words. words ≡ spec.port_words options.now) }
 {
     match value_of(options, b"ports") {
