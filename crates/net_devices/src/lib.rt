@@ -9,6 +9,7 @@ mod each_once;
 mod entries;
 mod faults;
 mod kinds;
+mod laws;
 mod levels;
 mod name_rows;
 mod names;
@@ -20,6 +21,7 @@ pub use bridge_vlans::{MOST_VLAN_ENTRIES, MOST_VLAN_ROWS, has_too_many_entries, 
 pub use counted::all_said;
 pub use devices::{DeviceConf, MOST_NAMES, read_devices};
 pub use kinds::kind_of;
+pub use laws::{levels_are_exact, lowers_are_all_listed};
 pub use levels::{MOST_LEVELS, is_bridge, level};
 pub use name_rows::{rows_of_names, rows_of_sections};
 pub use names::{MOST_LOWERS, all_names};
