@@ -1,0 +1,3 @@
+pub mod AddressLemmas
+pub mod MaskLemmas
+pub mod PrefixLemmas

@@ -1,0 +1,20 @@
+//! The rows of `interface`, `route` and `route6` sections of a `network` package, and of the radios of a `wireless` package
+//! (OpenWrt's network configuration). The interfaces are written as releases from 21.02 on write them.
+#![tactic(auto)]
+
+mod address;
+mod addresses;
+mod copies;
+mod faults;
+mod gateways;
+mod given;
+mod interfaces;
+mod kinds;
+mod mask;
+mod prefix;
+
+pub use address::{Family, read_in};
+pub use interfaces::interface_rows;
+pub use kinds::{INTERFACE, NONE, STATIC};
+pub use mask::read_mask;
+pub use prefix::read_prefix;
