@@ -16,3 +16,9 @@ pub mod Gateways
 pub mod Faults
 -- rows of interfaces
 pub mod Interfaces
+-- networks of prefixes
+pub mod Network
+-- places of names
+pub mod Names
+-- rows of routes
+pub mod Routes

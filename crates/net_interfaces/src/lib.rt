@@ -11,10 +11,15 @@ mod given;
 mod interfaces;
 mod kinds;
 mod mask;
+mod names;
+mod network;
 mod prefix;
+mod routes;
 
 pub use address::{Family, read_in};
 pub use interfaces::interface_rows;
-pub use kinds::{INTERFACE, NONE, STATIC};
+pub use kinds::{INTERFACE, MAIN, MAIN_TABLE, NONE, ROUTE, ROUTE6, STATIC, UNICAST};
 pub use mask::read_mask;
+pub use network::without_host_bits;
 pub use prefix::read_prefix;
+pub use routes::route_rows;
