@@ -4,4 +4,5 @@ pub mod MaskLemmas
 pub mod NameLemmas
 pub mod NetworkLemmas
 pub mod PrefixLemmas
+pub mod RadioLemmas
 pub mod RouteLemmas

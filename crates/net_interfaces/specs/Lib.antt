@@ -22,3 +22,5 @@ pub mod Network
 pub mod Names
 -- rows of routes
 pub mod Routes
+-- rows of radios
+pub mod Radios

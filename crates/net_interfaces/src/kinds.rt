@@ -24,3 +24,9 @@ pub const MAIN: &[u8] = b"main";
 
 /// The number of that table.
 pub const MAIN_TABLE: u32 = 254;
+
+/// The type of a section that is a radio.
+pub const WIFI_DEVICE: &[u8] = b"wifi-device";
+
+/// The type of a section that is an interface of a radio.
+pub const WIFI_IFACE: &[u8] = b"wifi-iface";

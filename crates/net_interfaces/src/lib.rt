@@ -14,12 +14,16 @@ mod mask;
 mod names;
 mod network;
 mod prefix;
+mod radios;
 mod routes;
 
 pub use address::{Family, read_in};
 pub use interfaces::interface_rows;
-pub use kinds::{INTERFACE, MAIN, MAIN_TABLE, NONE, ROUTE, ROUTE6, STATIC, UNICAST};
+pub use kinds::{
+    INTERFACE, MAIN, MAIN_TABLE, NONE, ROUTE, ROUTE6, STATIC, UNICAST, WIFI_DEVICE, WIFI_IFACE,
+};
 pub use mask::read_mask;
 pub use network::without_host_bits;
 pub use prefix::read_prefix;
+pub use radios::radio_rows;
 pub use routes::route_rows;
