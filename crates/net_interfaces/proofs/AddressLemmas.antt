@@ -1,25 +1,27 @@
 -- The address that a text is, as a function of the text, is the one that it spells.
-use Rattle.std.proofs.Common.{◌≡◌, ℕ, zero, suc, ◌+◌, ◌-◌, ◌*◌, ◌/◌, ◌%◌, ◌^◌, ◌<◌, ◌≤◌, Bool, true, false, List, [], ◌∷◌, ◌++◌, length, get_or, slice_index, replicate, Option, Some, None, option_map, refl, sym, ap, subst, ◌∙◌, arith, inl, inr, lit≤, append-nil, length-append, codes, ne_eqb}
+use Rattle.std.proofs.Common.{◌≡◌, ℕ, zero, suc, ◌+◌, ◌-◌, ◌*◌, ◌^◌, ◌<◌, ◌≤◌, Bool, true, false, List, [], ◌∷◌, ◌++◌, length, slice_index, replicate, Option, Some, None, option_map, refl, sym, ap, subst, ◌∙◌, arith, inl, inr, lit≤, append-nil, length-append, codes, ne_eqb}
 use Rattle.std.specs.List.{AllByRecursion}
 use Rattle.std.proofs.lemmas.List.{length-replicate}
 use Rattle.std.proofs.lemmas.Int.Digits.{digits_value-lt}
 use Rattle.std.proofs.Math.Nat.{pow-le-pow_right}
 use Rattle.std.proofs.lemmas.Option.{none-some, same_Some}
 use Rattle.std.specs.Net.Addr.{segments_of, octets_of}
-use Rattle.std.specs.Net.Grammar.{IsDotted, IsGroup, IsGroupsAfter, IsElided, IsColonHex}
+use Rattle.std.specs.Net.Grammar.{IsDotted, IsGroup, IsGroupsAfter, IsColonHex}
 use Rattle.std.specs.Net.Reader.{Read, read_ipv4, read_ipv6, whole_value}
-use Rattle.std.proofs.NetLemmas.Options.{and_then_some, map_some}
+use Rattle.std.proofs.NetLemmas.Options.{map_some}
 use Rattle.std.proofs.NetLemmas.Ipv4.{read_ipv4_complete, read_ipv4_sound}
 use Rattle.std.proofs.NetLemmas.Ipv6.{read_ipv6_complete, read_ipv6_sound, EndsGroups-nil}
 use Rattle.net_addr.specs.declared.address.V4.{V4}
 use Rattle.net_addr.specs.declared.address.V6.{V6}
 use Rattle.net_addr.specs.declared.address.Addr.{Addr}
 use Rattle.net_addr.specs.declared.address.Addr.TheVariants as addr
-use Rattle.net_addr.specs.Octets.{AreOctets}
 use Rattle.net_addr.specs.Spelling.{Spells}
-use Rattle.net_addr.proofs.OctetLemmas.{octets_of-segments_of, segments_of-octets_of, four_below}
+use Rattle.net_addr.proofs.OctetLemmas.{octets_of-segments_of, segments_of-octets_of}
 use Rattle.net_addr.proofs.SpellingLemmas.{Spells_unique}
-use Rattle.net_interfaces.specs.Address.{v4, v6, v4_of, v6_of}
+use Rattle.net_addr.specs.Width.{bits}
+use Rattle.net_interfaces.specs.declared.address.Family.{Family}
+use Rattle.net_interfaces.specs.declared.address.Family.TheVariants as family
+use Rattle.net_interfaces.specs.Address.{v4, v6, v4_of, v6_of, addr_of, bits_of}
 
 -- there is nothing, where nothing can be there
 pub none_unless : {X : Type 0} (o : Option X) → ((x : X) → o ≡ Some x → ⊥) → None ≡ o
@@ -143,3 +145,27 @@ unfolding v6_of
 v4_is_no_v6 text b h = none_unless (v6_of text) λ a e. map_some (λ segments. v6 (octets_of segments)) (whole_value (read_ipv6 text)) a e λ segments read same.
     let one : v6 (octets_of segments) ≡ addr.V4 b = Spells_unique text (v6 (octets_of segments)) (addr.V4 b) (v6_reads text segments read) h in
     cc
+
+-- ---- both
+
+v4_wide : (text : List ℕ) (a : Addr) → v4_of text ≡ Some a → bits a ≡ 32
+unfolding v4_of
+v4_wide text a e = map_some v4 (whole_value (read_ipv4 text)) a e λ octets read same. ap bits (sym same)
+
+v6_wide : (text : List ℕ) (a : Addr) → v6_of text ≡ Some a → bits a ≡ 128
+unfolding v6_of
+v6_wide text a e = map_some (λ segments. v6 (octets_of segments)) (whole_value (read_ipv6 text)) a e λ segments read same. ap bits (sym same)
+
+pub found_is_spelled : (family : Family) (text : List ℕ) (a : Addr) → addr_of family text ≡ Some a → Spells text a
+found_is_spelled family.V4 text a e = v4_spelled text a e
+found_is_spelled family.V6 text a e = v6_spelled text a e
+
+pub found_is_wide : (family : Family) (text : List ℕ) (a : Addr) → addr_of family text ≡ Some a → bits a ≡ bits_of family
+found_is_wide family.V4 text a e = v4_wide text a e
+found_is_wide family.V6 text a e = v6_wide text a e
+
+pub spelled_is_found : (family : Family) (text : List ℕ) (a : Addr) → Spells text a → bits a ≡ bits_of family → addr_of family text ≡ Some a
+spelled_is_found family.V4 text (addr.V4 a) h wide = sym (spelled_v4 text a h)
+spelled_is_found family.V4 text (addr.V6 a) h wide = absurd (omega arith)
+spelled_is_found family.V6 text (addr.V4 a) h wide = absurd (omega arith)
+spelled_is_found family.V6 text (addr.V6 a) h wide = sym (spelled_v6 text a h)

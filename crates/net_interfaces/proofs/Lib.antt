@@ -1,4 +1,5 @@
 pub mod AddressLemmas
+pub mod Examples
 pub mod ListLemmas
 pub mod MaskLemmas
 pub mod NameLemmas

@@ -1,9 +1,8 @@
 -- The length of a mask.
-use Rattle.std.proofs.Common.{◌≡◌, ℕ, zero, suc, ◌<◌, ◌≤◌, Bool, true, false, List, Option, Some, None, refl, sym, ap, ◌∙◌, arith}
+use Rattle.std.proofs.Common.{◌≡◌, ℕ, zero, suc, ◌≤◌, Bool, true, false, List, Option, Some, None, refl, ap, ◌∙◌, arith}
 use Rattle.std.specs.Prelude.{if◌then◌else◌, bytes_eq}
 use Rattle.std.proofs.lemmas.Slice.Eq.{bytes_eq-Decides}
 use Rattle.std.proofs.lemmas.Option.{none-some, same_Some}
-use Rattle.std.proofs.NetLemmas.Options.{cond_some}
 use Rattle.net_addr.specs.Mask.{mask_octets}
 use Rattle.net_interfaces.specs.Mask.{length_within}
 use Rattle.net_interfaces.proofs.AddressLemmas.{none_unless}

@@ -2,9 +2,7 @@
 use Rattle.std.proofs.Common.{◌≡◌, ℕ, ◌+◌, ◌<◌, List, [], ◌∷◌, ◌++◌, length, map, take, get_or, Option, Some, None, sym, ap, ◌∙◌, subst, arith}
 use Rattle.std.specs.Prelude.{cond, bytes_eq}
 use Rattle.std.proofs.lemmas.List.{take_more, map-append, length-map, length-take-le}
-use Rattle.std.specs.Ordering.{nat_cmp}
-use Rattle.std.specs.Cmp.Lexicographic.{slice_cmp}
-use Rattle.std.specs.BTreeMap.{BTreeMap, get}
+use Rattle.std.specs.BTreeMap.{BTreeMap}
 use Rattle.uci_tree.specs.Index.{first_place, HasNoted}
 use Rattle.uci_tree.proofs.SectionLemmas.{position-push}
 use Rattle.net_interfaces.specs.Names.{place_of, HasPlaces}

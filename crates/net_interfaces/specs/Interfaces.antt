@@ -1,5 +1,5 @@
 -- The rows of `interface` sections (OpenWrt's network configuration).
-use Rattle.std.specs.Prelude.{ℕ, Bool, true, false, not, ◌||◌, List, codes, bytes_eq, map, filter}
+use Rattle.std.specs.Prelude.{Bool, true, false, not, ◌||◌, List, codes, bytes_eq, map, filter}
 use Rattle.uci_tree.specs.declared.package.Opt.{Opt}
 use Rattle.uci_tree.specs.declared.package.Section.{Section}
 use Rattle.net_options.specs.Options.{text_of}

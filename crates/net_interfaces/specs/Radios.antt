@@ -1,7 +1,6 @@
 -- The rows of `wifi-device` and `wifi-iface` sections (OpenWrt's wireless configuration).
 use Rattle.std.specs.Prelude.{ℕ, zero, suc, ◌+◌, ◌==◌, Bool, false, List, [], ◌∷◌, ◌++◌, Option, Some, None, codes, bytes_eq, map, filter, if◌then◌else◌}
 use Rattle.uci_tree.specs.declared.package.Value.{Value}
-use Rattle.uci_tree.specs.declared.package.Opt.{Opt}
 use Rattle.uci_tree.specs.declared.package.Section.{Section}
 use Rattle.net_options.specs.Options.{value_of, text_of}
 use Rattle.net_options.specs.Words.{words_of}

@@ -1,9 +1,6 @@
-ghost use Rattle.std.specs.Prelude.{◌≡◌, ◌≤◌, ◌++◌, IfOk, IfSome, OnOk};
-ghost use Rattle.std.specs.Option.{unwrap_or, option_copied};
-ghost use Rattle.net_options.specs.Options as by_name;
-ghost use Rattle.net_options.specs.Stated as stated_spec;
+ghost use Rattle.std.specs.Prelude.{◌≡◌, ◌≤◌, ◌++◌, ℕ, IfOk, OnOk};
+ghost use Rattle.net_options.specs.declared.stated.Stated.TheVariants.{Read};
 ghost use Rattle.net_interfaces.specs.Address.{bits_of};
-ghost use Rattle.net_interfaces.specs.Mask.{mask_of};
 ghost use Rattle.net_interfaces.specs.Addresses as spec;
 
 use crate::address::Family;
@@ -36,7 +33,8 @@ pub fn is_static(options: &[Opt]) -> bool
 
 /// The length whose mask `netmask` gives.
 pub fn stated_mask(options: &[Opt]) -> Stated<u8>
-    ensures { result ≡ spec.stated_mask options.now }
+    ensures value { result ≡ spec.stated_mask options.now }
+    ensures within { (length : ℕ) → result ≡ Read length → length ≤ 32 }
 {
     match value_of(options, b"netmask") {
         None => Stated::Absent,
@@ -53,14 +51,10 @@ pub fn alone_v4(options: &[Opt]) -> u8
     ensures value { result ≡ spec.alone_v4 options.now }
     ensures within { result ≤ 32 }
 {
-    let host = Family::V4.bits();
-    match value_of(options, b"netmask") {
-        None => host,
-        Some(Value::Many(_)) => host,
-        Some(Value::One(text)) => match read_mask(text.as_bytes()) {
-            Some(length) => length,
-            None => host,
-        },
+    match stated_mask(options) {
+        Stated::Read(length) => length,
+        Stated::Absent => Family::V4.bits(),
+        Stated::Unread => Family::V4.bits(),
     }
 }
 

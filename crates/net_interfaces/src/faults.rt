@@ -1,5 +1,4 @@
 ghost use Rattle.std.specs.Prelude.{◌≡◌, ◌++◌, IfOk, OnOk};
-ghost use Rattle.std.specs.Option.{option_copied};
 ghost use Rattle.net_interfaces.specs.Faults as spec;
 
 use crate::addresses::{has_bad_address, is_static, stated_mask};
@@ -38,20 +37,14 @@ pub fn faults_of(alloc: Global, options: &[Opt]) -> Result<Items<RowFault>, Memo
     ensures { IfOk result (λ faults. faults ≡ spec.faults options.now) }
 {
     let mut faults = Items::new(alloc);
-    add_if(
-        &mut faults,
-        is_unread(&stated_device(options)),
-        FaultName::BadDevice,
-    )?;
+    let is_bad_device = is_unread(&stated_device(options));
+    let is_bad_metric = is_unread(&stated_metric(options));
+    add_if(&mut faults, is_bad_device, FaultName::BadDevice)?;
     add_if(&mut faults, is_alias(options), FaultName::Alias)?;
     if is_static(options) {
         add_static_faults(alloc, &mut faults, options)?;
     }
-    add_if(
-        &mut faults,
-        is_unread(&stated_metric(options)),
-        FaultName::BadMetric,
-    )?;
+    add_if(&mut faults, is_bad_metric, FaultName::BadMetric)?;
     add_if(&mut faults, is_old(options), FaultName::OldSyntax)?;
     Ok(faults)
 }

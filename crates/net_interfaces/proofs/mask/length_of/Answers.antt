@@ -1,4 +1,4 @@
-use Rattle.std.proofs.Common.{◌≡◌, ℕ, sym, Ok}
+use Rattle.std.proofs.Common.{sym}
 use Rattle.net_interfaces.proofs.MaskLemmas.{length_found, no_length}
 use Rattle.net_interfaces.proofs.mask.length_of.Goals as goal
 

@@ -1,4 +1,4 @@
-use Rattle.std.proofs.Common.{sym, ◌∙◌, ap}
+use Rattle.std.proofs.Common.{◌∙◌, ap}
 use Rattle.net_interfaces.specs.Address.{addr_of}
 use Rattle.net_interfaces.specs.Prefix.{both}
 use Rattle.net_interfaces.proofs.PrefixLemmas.{alone_is, cut_is, no_length_is}

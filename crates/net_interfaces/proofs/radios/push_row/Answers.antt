@@ -1,4 +1,4 @@
-use Rattle.std.proofs.Common.{List, ap, ◌∙◌, ◌<◌, ◌≤◌, length, arith, rules}
+use Rattle.std.proofs.Common.{List, ap, ◌∙◌, ◌<◌, ◌≤◌, length, rules}
 use Rattle.net_rows.specs.declared.rows.RadioRow.{RadioRow}
 use Rattle.net_rows.specs.declared.rows.WifiRow.{WifiRow}
 use Rattle.std.proofs.Common.{set}

@@ -1,5 +1,4 @@
-use Rattle.std.proofs.Common.{◌≡◌, List, ℕ, [], ◌∙◌, map, subst}
-use Rattle.net_rows.specs.declared.rows.RadioRow.{RadioRow}
+use Rattle.std.proofs.Common.{◌≡◌, [], ◌∙◌, map}
 use Rattle.net_interfaces.specs.Names.{HasPlaces}
 use Rattle.net_interfaces.specs.Radios.{radio_names, radios, radio_row}
 use Rattle.net_interfaces.proofs.RadioLemmas.{wifi_goes_on, bare_from, places_are}

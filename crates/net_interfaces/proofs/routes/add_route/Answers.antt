@@ -1,4 +1,4 @@
-use Rattle.std.proofs.Common.{◌≡◌, List, ◌++◌, ◌∙◌, ap}
+use Rattle.std.proofs.Common.{List, ◌++◌, ◌∙◌, ap}
 use Rattle.net_rows.specs.declared.rows.RouteRow.{RouteRow}
 use Rattle.net_options.proofs.WordLemmas.{on_ok_then}
 use Rattle.net_interfaces.proofs.RouteLemmas.{row_is}

@@ -1,5 +1,4 @@
 use Rattle.std.proofs.Common.{◌≡◌, ◌++◌, drop}
-use Rattle.net_interfaces.specs.Names.{HasPlaces}
 use Rattle.net_interfaces.specs.Routes as spec
 use Rattle.net_interfaces.proofs.routes.route_rows.Given as goal
 
