@@ -1,0 +1,9 @@
+pub mod AddressLemmas
+pub mod Examples
+pub mod ListLemmas
+pub mod MaskLemmas
+pub mod NameLemmas
+pub mod NetworkLemmas
+pub mod PrefixLemmas
+pub mod RadioLemmas
+pub mod RouteLemmas

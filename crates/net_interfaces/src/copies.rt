@@ -1,0 +1,45 @@
+ghost use Rattle.std.specs.Prelude.{◌≡◌, IfOk};
+
+use plane_io::{Items, Memory, Text};
+use std::alloc::Global;
+use uci_tree::{Opt, Value};
+
+/// The same options, in memory of their own.
+pub fn copy_options(alloc: Global, options: &[Opt]) -> Result<Items<Opt>, Memory>
+    ensures { IfOk result (λ copies. copies ≡ options.now) }
+{
+    let mut copies = Items::new(alloc);
+    for option in options {
+        copies.push(copy_option(alloc, option)?)?;
+    }
+    Ok(copies)
+}
+
+/// The same option, in memory of its own.
+pub fn copy_option(alloc: Global, option: &Opt) -> Result<Opt, Memory>
+    ensures { IfOk result (λ copy. copy ≡ option.now) }
+{
+    Ok(Opt {
+        name: option.name.copy()?,
+        value: copy_value(alloc, &option.value)?,
+    })
+}
+
+fn copy_value(alloc: Global, value: &Value) -> Result<Value, Memory>
+    ensures { IfOk result (λ copy. copy ≡ value.now) }
+{
+    match value {
+        Value::One(text) => Ok(Value::One(text.copy()?)),
+        Value::Many(items) => Ok(Value::Many(copy_texts(alloc, items.as_slice())?)),
+    }
+}
+
+fn copy_texts(alloc: Global, texts: &[Text]) -> Result<Items<Text>, Memory>
+    ensures { IfOk result (λ copies. copies ≡ texts.now) }
+{
+    let mut copies = Items::new(alloc);
+    for text in texts {
+        copies.push(text.copy()?)?;
+    }
+    Ok(copies)
+}
