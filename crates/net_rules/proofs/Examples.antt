@@ -1,12 +1,11 @@
 -- Rows of usual routers, and what they want, as the checker computes it.
-use Rattle.std.proofs.Common.{◌≡◌, ℕ, List, [], ◌∷◌, ◌++◌, map, Bool, true, false, Option, Some, None, codes, refl}
+use Rattle.std.proofs.Common.{◌≡◌, ℕ, List, [], ◌∷◌, Bool, true, false, Some, None, codes, refl}
 use Rattle.std.specs.Prelude.{replicate}
 use Rattle.net_addr.specs.declared.address.Addr.{Addr}
 use Rattle.net_addr.specs.declared.address.Addr.TheVariants.{V4}
 use Rattle.kern_model.specs.declared.object.Device.{Device}
 use Rattle.kern_model.specs.declared.object.DevEvent.TheVariants as device
 use Rattle.kern_model.specs.declared.object.LinkKind.TheVariants as kind
-use Rattle.kern_model.specs.declared.object.Object.{Object}
 use Rattle.kern_model.specs.declared.object.Object.TheVariants as object
 use Rattle.uci_tree.specs.declared.package.Value.TheVariants.{One}
 use Rattle.net_rows.specs.declared.rows.Conf.{Conf}

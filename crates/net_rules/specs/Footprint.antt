@@ -1,5 +1,5 @@
 -- The objects of what an interface stands on.
-use Rattle.std.specs.Prelude.{ℕ, List, Bool, true, false, ◌&&◌, ◌||◌, Option, Some, None, bytes_eq}
+use Rattle.std.specs.Prelude.{ℕ, List, Bool, false, ◌&&◌, ◌||◌, Option, Some, None, bytes_eq}
 use Rattle.std.specs.FinSet as set
 use Rattle.kern_model.specs.declared.object.Object.{Object}
 use Rattle.kern_model.specs.declared.object.Object.TheVariants as object

@@ -24,6 +24,8 @@ pub mod Used
 pub mod Need
 -- what is wanted of the kernel
 pub mod Want
+-- the same by the kinds of objects
+pub mod Wanted
 -- the objects of what an interface stands on
 pub mod Footprint
 -- the facts of inputs

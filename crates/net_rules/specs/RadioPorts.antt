@@ -1,10 +1,9 @@
 -- The ports of radios, which handlers tell: the bridges that they join, and the interfaces of which they are the device.
-use Rattle.std.specs.Prelude.{ℕ, List, [], map, filter, Bool, not, ◌&&◌, Option, Some, None, if◌then◌else◌, unwrap_or, bytes_eq}
+use Rattle.std.specs.Prelude.{ℕ, List, [], map, filter, not, ◌&&◌, Option, Some, None, if◌then◌else◌, unwrap_or, bytes_eq}
 use Rattle.std.specs.List.{filter_map, flat_map, zip, find}
 use Rattle.std.specs.Option.{option_map, option_and_then}
 use Rattle.net_rows.specs.declared.rows.InterfaceRow.{InterfaceRow}
 use Rattle.net_rows.specs.declared.rows.RadioRow.{RadioRow}
-use Rattle.net_rows.specs.declared.rows.WifiRow.{WifiRow}
 use Rattle.net_rules.specs.Facts.{Facts}
 use Rattle.net_rules.specs.Firsts.{firsts}
 use Rattle.net_rules.specs.Rows.{is_plain, is_bridge, is_named_port, interface_named, radios_of, enabled_rows}

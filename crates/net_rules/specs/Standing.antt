@@ -1,5 +1,5 @@
 -- What each name stands on: the rows of names together with the ports of radios.
-use Rattle.std.specs.Prelude.{ℕ, List, [], ◌∷◌, ◌++◌, Bool, true, false, not, Option, Some, None, bytes_eq}
+use Rattle.std.specs.Prelude.{ℕ, List, [], ◌∷◌, ◌++◌, Bool, true, false, not, Some, None, bytes_eq}
 use Rattle.std.specs.List.{list_any}
 use Rattle.net_rows.specs.declared.rows.NameRow.{NameRow}
 use Rattle.net_rows.specs.declared.rows.NameKind.{NameKind}
