@@ -6,3 +6,8 @@ pub mod DeviceLemmas
 pub mod GivenLemmas
 pub mod WantLemmas
 pub mod AllowedLemmas
+pub mod FootprintLemmas
+pub mod TableLemmas
+pub mod MomentLemmas
+pub mod NeedLemmas
+pub mod StretchLemmas

@@ -34,3 +34,5 @@ pub mod Inputs
 pub mod After
 -- what is told of asks after an event
 pub mod Notices
+-- a moment of a network and its kernel
+pub mod Moment
