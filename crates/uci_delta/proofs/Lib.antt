@@ -4,3 +4,8 @@ pub mod FirstLemmas
 pub mod OptionLemmas
 pub mod SectionLemmas
 pub mod ValidLemmas
+pub mod WordLemmas
+pub mod PartLemmas
+pub mod HeadLemmas
+pub mod LineLemmas
+pub mod DeltasLemmas
