@@ -9,3 +9,5 @@ pub mod PartLemmas
 pub mod HeadLemmas
 pub mod LineLemmas
 pub mod DeltasLemmas
+pub mod PrintedLemmas
+pub mod RefusalLemmas

@@ -28,3 +28,5 @@ pub mod Line
 pub mod Head
 -- the deltas of a delta file
 pub mod Deltas
+-- deltas that are printed one a line
+pub mod Printed

@@ -19,6 +19,8 @@ mod word;
 pub use applying::apply;
 pub use delta::{Change, Delta};
 pub use delta_error::DeltaError;
-pub use laws::valid_stays_valid;
+pub use laws::{
+    no_refusal_is_memory, one_list_of_deltas, printed_deltas_read_back, valid_stays_valid,
+};
 pub use print::{print_change, print_delta};
 pub use reading::read_deltas;
