@@ -11,3 +11,4 @@ pub mod LineLemmas
 pub mod DeltasLemmas
 pub mod PrintedLemmas
 pub mod RefusalLemmas
+pub mod Examples
