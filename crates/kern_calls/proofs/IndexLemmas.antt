@@ -32,7 +32,7 @@ LineMap = BTreeMap (List ℕ) Object
 abbrev at : LineMap → List ℕ → Option Object
 at m = get (slice_cmp nat_cmp) m
 
-at_line : (p q : List ℕ) → is_at (slice_cmp nat_cmp p) q ≡ true → p ≡ q
+pub at_line : (p q : List ℕ) → is_at (slice_cmp nat_cmp p) q ≡ true → p ≡ q
 at_line p q h = exact_bytes p q ((Equal-is (slice_cmp nat_cmp p q)).0 h)
 
 module _ (objects : Objects) (allowed : IsAllowed objects) where

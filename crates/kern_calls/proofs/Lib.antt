@@ -8,4 +8,5 @@ pub mod DownLemmas
 pub mod DueLemmas
 pub mod BetweenLemmas
 pub mod IndexLemmas
+pub mod PlaceLemmas
 pub mod PresentLemmas

@@ -14,3 +14,7 @@ pub mod Due
 pub mod Between
 -- objects by the lines that take them
 pub mod Index
+-- where names stand among links
+pub mod NamePlaces
+-- what is held and what is wanted, looked up
+pub mod Sides

@@ -6,14 +6,14 @@ ghost use Rattle.kern_model.specs.Kernel.{map_of};
 ghost use Rattle.kern_model.specs.Line.{line_of};
 ghost use Rattle.kern_model.specs.CallOrder.{rank, AreCalls};
 ghost use Rattle.kern_calls.specs.Calls.{own_take};
-ghost use Rattle.kern_calls.specs.Index.{objects_in, AreSides};
+ghost use Rattle.kern_calls.specs.Index.{objects_in};
+ghost use Rattle.kern_calls.specs.Sides.{IsReady};
 ghost use Rattle.kern_calls.specs.Between.{IsAllowed, place_cmp, IsFit, HoldsCalls};
 
 use crate::form::call_has_form;
-use crate::index::Index;
 use crate::line::Line;
-use crate::looked_up::{height_of, is_put, is_taken};
 use crate::present::{by_name, own_mac, own_mtu};
+use crate::sides::Sides;
 use kern_model::{Call, DevName, Device, LinkKind, Object};
 use plane_io::Memory;
 use std::alloc::Global;
@@ -44,11 +44,10 @@ pub fn calls_between(
         → AreCalls (map_of devices.now) (set_of held.now) (set_of wanted.now) calls.items) }
 {
     let present = by_name(alloc, devices)?;
-    let from = Index::of(alloc, held)?;
-    let to = Index::of(alloc, wanted)?;
+    let sides = Sides::of(alloc, held, wanted)?;
     let mut by_place = BTreeMap::new(alloc);
-    add_takes(&present, held, &from, &to, &mut by_place)?;
-    add_puts(&present, wanted, &from, &to, &mut by_place)?;
+    add_takes(&present, held, &sides, &mut by_place)?;
+    add_puts(&present, wanted, &sides, &mut by_place)?;
     let mut calls = Vec::new(alloc);
     for (_, call) in by_place {
         calls.push(call)?;
@@ -59,25 +58,25 @@ pub fn calls_between(
 fn add_takes(
     present: &BTreeMap<DevName, Device>,
     held: &[Object],
-    from: &Index,
-    to: &Index,
+    sides: &Sides,
     by_place: &mut BTreeMap<CallPlace, Call>,
 ) -> Result<(), Memory>
     requires empty { (q : _) → get place_cmp by_place.old q ≡ None }
-    ensures { OnOk result (AreSides from.now to.now
-        → objects_in from.now ≡ set_of held.now → HoldsCalls (map_of present.now.entries) from.now.count
-        (objects_in from.now) (objects_in to.now) (get place_cmp by_place.new)
+    ensures { OnOk result (IsReady sides.now → objects_in sides.now.from ≡ set_of held.now
+        → HoldsCalls (map_of present.now.entries) sides.now.from.count (objects_in sides.now.from)
+        (objects_in sides.now.to) (get place_cmp by_place.new)
         (map (own_take (map_of present.now.entries)) held.now)) }
 {
     for object in held {
-        if is_taken(from, to, object) {
+        if sides.is_taken(object) {
             let name = object.name();
             let call = Call::Take {
                 object: *object,
                 mtu: own_mtu(present, &name),
                 mac: own_mac(present, &name),
             };
-            let place = place_of(&call, from.count - height_of(from, object));
+            let height = sides.from.count.saturating_sub(sides.held_height(object));
+            let place = place_of(&call, height);
             by_place.insert(place, call)?;
         }
     }
@@ -87,20 +86,19 @@ fn add_takes(
 fn add_puts(
     present: &BTreeMap<DevName, Device>,
     wanted: &[Object],
-    from: &Index,
-    to: &Index,
+    sides: &Sides,
     by_place: &mut BTreeMap<CallPlace, Call>,
 ) -> Result<(), Memory>
-    ensures { OnOk result (AreSides from.now to.now
-        → objects_in to.now ≡ set_of wanted.now → (takes : _) → HoldsCalls (map_of present.now.entries)
-        from.now.count (objects_in from.now) (objects_in to.now) (get place_cmp by_place.old) takes
-        → HoldsCalls (map_of present.now.entries) from.now.count (objects_in from.now)
-        (objects_in to.now) (get place_cmp by_place.new) (takes ++ map Call.Put wanted.now)) }
+    ensures { OnOk result (IsReady sides.now → objects_in sides.now.to ≡ set_of wanted.now
+        → (takes : _) → HoldsCalls (map_of present.now.entries) sides.now.from.count
+        (objects_in sides.now.from) (objects_in sides.now.to) (get place_cmp by_place.old) takes
+        → HoldsCalls (map_of present.now.entries) sides.now.from.count (objects_in sides.now.from)
+        (objects_in sides.now.to) (get place_cmp by_place.new) (takes ++ map Call.Put wanted.now)) }
 {
     for object in wanted {
-        if is_put(from, to, object) {
+        if sides.is_put(object) {
             let call = Call::Put(*object);
-            let place = place_of(&call, height_of(to, object));
+            let place = place_of(&call, sides.wanted_height(object));
             by_place.insert(place, call)?;
         }
     }

@@ -7,7 +7,9 @@ mod index;
 mod laws;
 mod line;
 mod looked_up;
+mod name_places;
 mod present;
+mod sides;
 
 pub use between::calls_between;
 pub use laws::{

@@ -20,10 +20,10 @@ loop-object-init c sides same before holds = subst (HoldsCalls _ _ _ _ _) (sym (
 pub loop-object-preserved : goal.loop-object-preserved
 loop-object-preserved c sides same_wanted before holds =
     let devices : Devices = map_of c.args.present.now.entries in
-    let most : ℕ = c.args.from.now.count in
+    let most : ℕ = c.args.sides.now.from.count in
     let wanted : List Object = c.args.wanted.now in
-    let s : Objects = objects_in c.args.from.now in
-    let t : Objects = objects_in c.args.to.now in
+    let s : Objects = objects_in c.args.sides.now.from in
+    let t : Objects = objects_in c.args.sides.now.to in
     let o : Object = c.object-item.result in
     let puts : List Call = map Put (take c.loop-object.object-index wanted) in
     let is : Has t o = subst (λ x. Has x o) (sym same_wanted) (set_of_member wanted o (c.loop-object.object-index, c.loop-object-test.true, sym c.object-item.is)) in
@@ -34,11 +34,11 @@ loop-object-preserved c sides same_wanted before holds =
       | then-is_put+in_ok-insert w ↦
           let due : is_put s t o ≡ true = sym decided ∙ w.if-is_put.true in
           let ranks = w.place_of-place.ensures.rank in
-          let heights = w.place_of-place.ensures.height ∙ (w.height_of.ensures.value sides.to) in
+          let heights = w.place_of-place.ensures.height ∙ (w.wanted_height.ensures sides) in
           let lines = w.place_of-place.ensures.line in
           let placed : w.place_of-place.result ≡ place_of most s t (Put o) = λ i. record { rank = ranks i; height = heights i; line = lines i } in
           subst (λ m. HoldsCalls devices most s t (get place_cmp m) ((before ++ puts) ++ Put o ∷ [])) (sym w.by_place-is)
-          (holds_more devices most s t sides.from.allowed sides.to.allowed (get place_cmp c.loop-object.by_place) (get place_cmp w.insert.new.self) (before ++ puts) w.place_of-place.result (Put o) placed
+          (holds_more devices most s t sides.indexes.from.allowed sides.indexes.to.allowed (get place_cmp c.loop-object.by_place) (get place_cmp w.insert.new.self) (before ++ puts) w.place_of-place.result (Put o) placed
           due
           w.place_of-place.ensures.fit
           w.in_ok-insert.ensures.updates.0
@@ -46,10 +46,10 @@ loop-object-preserved c sides same_wanted before holds =
       | else-is_put w ↦
           let idle : is_put s t o ≡ false = sym decided ∙ w.if-is_put.false in
           subst (λ m. HoldsCalls devices most s t (get place_cmp m) ((before ++ puts) ++ Put o ∷ [])) (sym w.by_place-is)
-          (holds_past devices most s t sides.from.allowed sides.to.allowed (get place_cmp c.loop-object.by_place) (before ++ puts) (Put o) idle (c.loop-object.invariant sides same_wanted before holds))
+          (holds_past devices most s t sides.indexes.from.allowed sides.indexes.to.allowed (get place_cmp c.loop-object.by_place) (before ++ puts) (Put o) idle (c.loop-object.invariant sides same_wanted before holds))
     ])
 
 pub returns : goal.returns
 returns c sides same_wanted before holds =
-    subst (HoldsCalls (map_of c.args.present.now.entries) c.args.from.now.count (objects_in c.args.from.now) (objects_in c.args.to.now) (get place_cmp c.loop-object.by_place))
+    subst (HoldsCalls (map_of c.args.present.now.entries) c.args.sides.now.from.count (objects_in c.args.sides.now.from) (objects_in c.args.sides.now.to) (get place_cmp c.loop-object.by_place))
     (ap (λ xs. before ++ map Put xs) (take_all c.loop-object.object-index c.args.wanted.now (omega arith))) (c.loop-object.invariant sides same_wanted before holds)

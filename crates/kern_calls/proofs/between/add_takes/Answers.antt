@@ -33,9 +33,9 @@ pub loop-object-preserved : goal.loop-object-preserved
 loop-object-preserved c sides same_held =
     let devices : Devices = map_of c.args.present.now.entries in
     let held : List Object = c.args.held.now in
-    let most : ℕ = c.args.from.now.count in
-    let s : Objects = objects_in c.args.from.now in
-    let t : Objects = objects_in c.args.to.now in
+    let most : ℕ = c.args.sides.now.from.count in
+    let s : Objects = objects_in c.args.sides.now.from in
+    let t : Objects = objects_in c.args.sides.now.to in
     let o : Object = c.object-item.result in
     let done : List Call = map (own_take devices) (take c.loop-object.object-index held) in
     let had : Has s o = subst (λ x. Has x o) (sym same_held) (set_of_member held o (c.loop-object.object-index, c.loop-object-test.true, sym c.object-item.is)) in
@@ -48,11 +48,11 @@ loop-object-preserved c sides same_held =
           let mac : w.own_mac.result ≡ own_mac devices (name_of o) = w.own_mac.ensures ∙ ap (own_mac devices) w.name-name.ensures in
           let same : Take o w.own_mtu.result w.own_mac.result ≡ own_take devices o = cc (mtu, mac) in
           let ranks = w.place_of-place.ensures.rank ∙ ap rank same in
-          let heights = w.place_of-place.ensures.height ∙ ap (λ n. most - n) (w.height_of.ensures.value sides.from) in
+          let heights = w.place_of-place.ensures.height ∙ w.saturating_sub-height.ensures ∙ ap (λ n. most - n) (w.held_height.ensures sides) in
           let lines = w.place_of-place.ensures.line ∙ ap line_of same in
           let placed : w.place_of-place.result ≡ place_of most s t (own_take devices o) = λ i. record { rank = ranks i; height = heights i; line = lines i } in
           subst (λ m. HoldsCalls devices most s t (get place_cmp m) (done ++ own_take devices o ∷ [])) (sym w.by_place-is)
-          (holds_more devices most s t sides.from.allowed sides.to.allowed (get place_cmp c.loop-object.by_place) (get place_cmp w.insert.new.self) done w.place_of-place.result (own_take devices o) placed
+          (holds_more devices most s t sides.indexes.from.allowed sides.indexes.to.allowed (get place_cmp c.loop-object.by_place) (get place_cmp w.insert.new.self) done w.place_of-place.result (own_take devices o) placed
           (call_of_taken devices s t o taken)
           (subst IsFit same w.place_of-place.ensures.fit)
           (λ q. w.in_ok-insert.ensures.updates.0 q ∙ ap (λ x. cond (is_at (place_cmp w.place_of-place.result) q) (Some x) (get place_cmp c.loop-object.by_place q)) same)
@@ -60,12 +60,12 @@ loop-object-preserved c sides same_held =
       | else-is_taken w ↦
           let idle : is_taken s t o ≡ false = sym decided ∙ w.if-is_taken.false in
           subst (λ m. HoldsCalls devices most s t (get place_cmp m) (done ++ own_take devices o ∷ [])) (sym w.by_place-is)
-          (holds_past devices most s t sides.from.allowed sides.to.allowed (get place_cmp c.loop-object.by_place) done (own_take devices o)
+          (holds_past devices most s t sides.indexes.from.allowed sides.indexes.to.allowed (get place_cmp c.loop-object.by_place) done (own_take devices o)
           (ap (λ b. b && (nat_eq (own_mtu devices (name_of o)) (own_mtu devices (name_of o)) && bytes_eq (own_mac devices (name_of o)).0 (own_mac devices (name_of o)).0)) idle)
           (c.loop-object.invariant sides same_held))
     ])
 
 pub returns : goal.returns
 returns c sides same_held =
-    subst (HoldsCalls (map_of c.args.present.now.entries) c.args.from.now.count (objects_in c.args.from.now) (objects_in c.args.to.now) (get place_cmp c.loop-object.by_place))
+    subst (HoldsCalls (map_of c.args.present.now.entries) c.args.sides.now.from.count (objects_in c.args.sides.now.from) (objects_in c.args.sides.now.to) (get place_cmp c.loop-object.by_place))
     (ap (map (own_take (map_of c.args.present.now.entries))) (take_all c.loop-object.object-index c.args.held.now (omega arith))) (c.loop-object.invariant sides same_held)
