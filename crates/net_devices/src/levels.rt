@@ -2,8 +2,8 @@ ghost use Rattle.std.specs.Prelude.{◌≡◌, ◌≤◌, ◌+◌, IfOk, max};
 ghost use Rattle.net_options.specs.Dotted as vlan_name;
 ghost use Rattle.net_devices.specs.Levels as spec;
 
-use crate::names::section_of;
-use crate::said::{Said, StatedKind};
+use crate::said::StatedKind;
+use crate::said_index::SaidIndex;
 use kern_model::DevName;
 use net_options::{Stated, vlan_parts};
 use plane_io::{Items, Memory};
@@ -13,10 +13,10 @@ use std::alloc::Global;
 pub const MOST_LEVELS: u8 = 8;
 
 /// Whether the name is a bridge.
-pub fn is_bridge(said: &[Said], name: &DevName) -> bool
+pub fn is_bridge(said: &SaidIndex, name: &DevName) -> bool
     ensures { result ≡ spec.is_bridge said.now name.now }
 {
-    match section_of(said, name) {
+    match said.section_of(name) {
         Some(section) => is_bridge_kind(&section.kind),
         None => false,
     }
@@ -34,7 +34,11 @@ fn is_bridge_kind(kind: &StatedKind) -> bool
 }
 
 /// The names that are no bridges.
-pub fn no_bridges(alloc: Global, said: &[Said], names: &[DevName]) -> Result<Items<DevName>, Memory>
+pub fn no_bridges(
+    alloc: Global,
+    said: &SaidIndex,
+    names: &[DevName],
+) -> Result<Items<DevName>, Memory>
     ensures { IfOk result (λ kept. kept ≡ spec.no_bridges said.now names.now) }
 {
     let mut kept = Items::new(alloc);
@@ -47,10 +51,10 @@ pub fn no_bridges(alloc: Global, said: &[Said], names: &[DevName]) -> Result<Ite
 }
 
 /// The names that a name stands on.
-fn below(alloc: Global, said: &[Said], name: &DevName) -> Result<Items<DevName>, Memory>
+fn below(alloc: Global, said: &SaidIndex, name: &DevName) -> Result<Items<DevName>, Memory>
     ensures { IfOk result (λ names. names ≡ spec.below said.now name.now) }
 {
-    match section_of(said, name) {
+    match said.section_of(name) {
         Some(section) => below_kind(alloc, said, name, &section.kind),
         None => implied_lower(alloc, name),
     }
@@ -58,7 +62,7 @@ fn below(alloc: Global, said: &[Said], name: &DevName) -> Result<Items<DevName>,
 
 fn below_kind(
     alloc: Global,
-    said: &[Said],
+    said: &SaidIndex,
     name: &DevName,
     kind: &StatedKind,
 ) -> Result<Items<DevName>, Memory>
@@ -93,14 +97,14 @@ fn stated_lower(alloc: Global, stated: &Stated<DevName>) -> Result<Items<DevName
 }
 
 /// The level of a name, and one more than the most levels where it is too high.
-pub fn level(alloc: Global, said: &[Said], name: &DevName) -> Result<u8, Memory>
+pub fn level(alloc: Global, said: &SaidIndex, name: &DevName) -> Result<u8, Memory>
     ensures { IfOk result (λ level. level ≡ spec.level said.now name.now) }
 {
     level_within(alloc, said, name, MOST_LEVELS)
 }
 
 // The level of a name, looked for so many levels down.
-fn level_within(alloc: Global, said: &[Said], name: &DevName, more: u8) -> Result<u8, Memory>
+fn level_within(alloc: Global, said: &SaidIndex, name: &DevName, more: u8) -> Result<u8, Memory>
     requires { more ≤ 8 }
     ensures level { IfOk result (λ level. level ≡ spec.level_within said.now more name.now) }
     ensures bound { IfOk result (λ level. level ≤ more + 1) }

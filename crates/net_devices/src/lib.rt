@@ -13,8 +13,8 @@ mod laws;
 mod levels;
 mod name_rows;
 mod names;
-mod names_once;
 mod said;
+mod said_index;
 mod vlan_table;
 
 pub use bridge_vlans::{MOST_VLAN_ENTRIES, MOST_VLAN_ROWS, has_too_many_entries, vlan_rows};
@@ -26,3 +26,4 @@ pub use levels::{MOST_LEVELS, is_bridge, level};
 pub use name_rows::{rows_of_names, rows_of_sections};
 pub use names::{MOST_LOWERS, all_names};
 pub use said::{DeviceSection, LEAST_MTU, MOST_MTU, Said, StatedKind, device_section};
+pub use said_index::SaidIndex;

@@ -9,8 +9,8 @@ use crate::counted::is_device;
 use crate::faults::{add_if, add_kind_faults, add_naming_faults, add_value_faults};
 use crate::kinds::{kind_of, name_if_read};
 use crate::levels::{MOST_LEVELS, level};
-use crate::names::section_of;
-use crate::said::{DeviceSection, Said, device_section};
+use crate::said::{DeviceSection, device_section};
+use crate::said_index::SaidIndex;
 use kern_model::{DevName, Mac};
 use net_options::{Stated, VlanParts};
 use net_rows::{DeviceRow, FaultName, NameKind, NameRow, RowFault};
@@ -21,7 +21,7 @@ use uci_tree::Section;
 /// The rows of all `device` sections, in file order. `said` is what the sections that count say.
 pub fn rows_of_sections(
     alloc: Global,
-    said: &[Said],
+    said: &SaidIndex,
     sections: &[Section],
 ) -> Result<Items<DeviceRow>, Memory>
     ensures { IfOk result (λ rows. rows ≡ spec.device_rows said.now sections.now) }
@@ -36,7 +36,7 @@ pub fn rows_of_sections(
     Ok(rows)
 }
 
-fn device_row(alloc: Global, said: &[Said], section: &DeviceSection) -> Result<DeviceRow, Memory>
+fn device_row(alloc: Global, said: &SaidIndex, section: &DeviceSection) -> Result<DeviceRow, Memory>
     ensures { IfOk result (λ row. row ≡ spec.device_row said.now section.now) }
 {
     let mut faults = Items::new(alloc);
@@ -52,7 +52,7 @@ fn device_row(alloc: Global, said: &[Said], section: &DeviceSection) -> Result<D
 /// The rows of the names, in their order.
 pub fn rows_of_names(
     alloc: Global,
-    said: &[Said],
+    said: &SaidIndex,
     names: &[DevName],
 ) -> Result<Items<NameRow>, Memory>
     ensures { IfOk result (λ rows. rows ≡ spec.name_rows said.now names.now) }
@@ -66,7 +66,7 @@ pub fn rows_of_names(
 
 fn name_row(
     alloc: Global,
-    said: &[Said],
+    said: &SaidIndex,
     earlier: &[DevName],
     name: &DevName,
 ) -> Result<NameRow, Memory>
@@ -75,7 +75,7 @@ fn name_row(
     let kind = kind_of(alloc, said, name)?;
     let level = level(alloc, said, name)?;
     let is_same = has_same_vlan(alloc, said, earlier, &kind)?;
-    let section = section_of(said, name);
+    let section = said.section_of(name);
     let faults = name_faults(alloc, said, section, is_same, level > MOST_LEVELS)?;
     Ok(NameRow {
         name: *name,
@@ -90,7 +90,7 @@ fn name_row(
 
 fn name_faults(
     alloc: Global,
-    said: &[Said],
+    said: &SaidIndex,
     section: Option<&DeviceSection>,
     is_same: bool,
     is_too_high: bool,
@@ -161,7 +161,7 @@ fn if_read<T: Copy>(stated: &Stated<T>) -> Option<T>
 // Whether an earlier name is a VLAN of the same identifier over the same name.
 fn has_same_vlan(
     alloc: Global,
-    said: &[Said],
+    said: &SaidIndex,
     earlier: &[DevName],
     kind: &NameKind,
 ) -> Result<bool, Memory>
