@@ -26,4 +26,5 @@ pub mod Devices
 pub mod OnceInside
 pub mod Found
 pub mod SaidInside
+pub mod FoundLevels
 pub mod VlanTable

@@ -22,7 +22,7 @@ pub use counted::all_said;
 pub use devices::{DeviceConf, MOST_NAMES, read_devices};
 pub use kinds::kind_of;
 pub use laws::{levels_are_exact, lowers_are_all_listed};
-pub use levels::{MOST_LEVELS, is_bridge, level};
+pub use levels::{FoundLevels, MOST_LEVELS, is_bridge};
 pub use name_rows::{rows_of_names, rows_of_sections};
 pub use names::{MOST_LOWERS, all_names};
 pub use said::{DeviceSection, LEAST_MTU, MOST_MTU, Said, StatedKind, device_section};

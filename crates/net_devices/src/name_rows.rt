@@ -4,11 +4,12 @@ ghost use Rattle.std.specs.Option.{option_copied};
 ghost use Rattle.net_devices.specs.Faults as faults_spec;
 ghost use Rattle.net_devices.specs.NameRows as spec;
 ghost use Rattle.net_devices.specs.Kinds as kinds;
+ghost use Rattle.net_devices.specs.Levels as levels;
 
 use crate::counted::is_device;
 use crate::faults::{add_if, add_kind_faults, add_naming_faults, add_value_faults};
 use crate::kinds::{kind_of, name_if_read};
-use crate::levels::{MOST_LEVELS, level};
+use crate::levels::{FoundLevels, MOST_LEVELS, level};
 use crate::said::{DeviceSection, device_section};
 use crate::said_index::SaidIndex;
 use kern_model::{DevName, Mac};
@@ -57,9 +58,11 @@ pub fn rows_of_names(
 ) -> Result<Items<NameRow>, Memory>
     ensures { IfOk result (λ rows. rows ≡ spec.name_rows said.now names.now) }
 {
+    let mut levels = FoundLevels::new(alloc);
     let mut rows = Items::new(alloc);
     for (place, name) in names.iter().enumerate() {
-        rows.push(name_row(alloc, said, &names[..place], name)?)?;
+        let level = level(alloc, said, &mut levels, name)?;
+        rows.push(name_row(alloc, said, &names[..place], name, level)?)?;
     }
     Ok(rows)
 }
@@ -69,11 +72,12 @@ fn name_row(
     said: &SaidIndex,
     earlier: &[DevName],
     name: &DevName,
+    level: u8,
 ) -> Result<NameRow, Memory>
+    requires { level ≡ levels.level said.now name.now }
     ensures { IfOk result (λ row. row ≡ spec.name_row said.now earlier.now name.now) }
 {
     let kind = kind_of(alloc, said, name)?;
-    let level = level(alloc, said, name)?;
     let is_same = has_same_vlan(alloc, said, earlier, &kind)?;
     let section = said.section_of(name);
     let faults = name_faults(alloc, said, section, is_same, level > MOST_LEVELS)?;
