@@ -1,5 +1,6 @@
 -- Names and pairs as the keys of sets and maps.
-use Rattle.std.proofs.Common.{ℕ, ◌≡◌, Bool, true, false, cond, List, [], ◌∷◌, ◌++◌, refl, sym, ap, ◌∙◌}
+use Rattle.std.proofs.Common.{ℕ, ◌≡◌, ◌+◌, ◌<◌, Bool, true, false, cond, List, [], ◌∷◌, ◌++◌, length, take, get_or, refl, sym, ap, ◌∙◌, add-one}
+use Rattle.std.proofs.Math.Seq.{take-suc}
 use Rattle.std.specs.Prelude.{◌||◌, ◌&&◌, ◌==◌, bytes_eq}
 use Rattle.std.specs.List.{list_any}
 use Rattle.std.specs.Ordering.{nat_cmp}
@@ -42,3 +43,7 @@ knows_one_more old new names name known put q =
     ∙ ap (λ (z : Bool). z || is_at (slice_cmp nat_cmp name) q) (known q)
     ∙ ap (λ (z : Bool). has names q || z) (name_key name q)
     ∙ sym (any_push (λ (other : List ℕ). bytes_eq other q) names name)
+
+-- the items so far, with one more
+pub take_more : {X : Type 0} (xs : List X) (i : ℕ) (x : X) → i < length xs → x ≡ get_or xs i x → take (i + 1) xs ≡ take i xs ++ x ∷ []
+take_more xs i x h e = ap (λ (n : ℕ). take n xs) (add-one i) ∙ (take-suc xs i x h ∙ ap (λ z. take i xs ++ z ∷ []) (sym e))

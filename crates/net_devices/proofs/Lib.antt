@@ -1,3 +1,4 @@
+pub mod FoundLemmas
 pub mod KeyLemmas
 pub mod LevelLaws
 pub mod LevelLemmas

@@ -22,6 +22,9 @@ pub mod Entries
 pub mod BridgeVlans
 -- all of these, of a package
 pub mod Devices
--- what readers keep: names each once, and the rows of VLANs so far
-pub mod NamesInside
+-- what readers keep: names each once, maps of sections and of bridges, and the rows of VLANs so far
+pub mod OnceInside
+pub mod Found
+pub mod SaidInside
+pub mod FoundLevels
 pub mod VlanTable

@@ -9,7 +9,8 @@ use crate::entries::{bad_words, entries_of, first_entries, repeated_ports};
 use crate::faults::{add_about, add_about_names, add_about_texts, add_if, is_read};
 use crate::kinds::{id_or_zero, name_if_read};
 use crate::levels::is_bridge;
-use crate::said::{Said, port_words};
+use crate::said::port_words;
+use crate::said_index::SaidIndex;
 use crate::vlan_table::VlanTable;
 use kern_model::DevName;
 use net_options::{Stated, stated_name, stated_vlan_id, truth_of};
@@ -36,7 +37,7 @@ pub struct VlanSaid {
 /// The rows of the `bridge-vlan` sections, in file order. `said` is what the sections that count say.
 pub fn vlan_rows(
     alloc: Global,
-    said: &[Said],
+    said: &SaidIndex,
     sections: &[Section],
 ) -> Result<Items<VlanRow>, Memory>
     ensures { IfOk result (λ rows. rows ≡ spec.vlan_rows said.now sections.now) }
@@ -72,7 +73,7 @@ fn vlan_said(alloc: Global, options: &[Opt]) -> Result<VlanSaid, Memory>
 
 fn vlan_row(
     alloc: Global,
-    said: &[Said],
+    said: &SaidIndex,
     earlier: &VlanTable,
     vlan: &VlanSaid,
 ) -> Result<VlanRow, Memory>
@@ -110,7 +111,7 @@ fn vlan_row(
 // The faults that pass a row over.
 fn passing_faults(
     alloc: Global,
-    said: &[Said],
+    said: &SaidIndex,
     earlier: &VlanTable,
     vlan: &VlanSaid,
 ) -> Result<Items<RowFault>, Memory>
@@ -130,7 +131,7 @@ fn passing_faults(
     Ok(faults)
 }
 
-fn is_stated_bridge(said: &[Said], stated: &Stated<DevName>) -> bool
+fn is_stated_bridge(said: &SaidIndex, stated: &Stated<DevName>) -> bool
     ensures { result ≡ spec.is_stated_bridge said.now stated.now }
 {
     match stated {

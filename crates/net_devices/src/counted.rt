@@ -1,9 +1,9 @@
 ghost use Rattle.std.specs.Prelude.{◌≡◌, ◌++◌, IfOk, OnOk};
 ghost use Rattle.std.specs.List.{list_any};
 ghost use Rattle.net_devices.specs.Counted as spec;
+ghost use Rattle.net_devices.specs.Names as names;
 ghost use Rattle.net_devices.specs.Said.{said_by};
 
-use crate::names::is_read;
 use crate::said::{Said, said_in};
 use kern_model::DevName;
 use net_options::{Stated, stated_name};
@@ -87,4 +87,15 @@ fn section_name(section: &Section) -> Stated<DevName>
     ensures { result ≡ spec.section_name section.now }
 {
     stated_name(section.options.as_slice(), b"name")
+}
+
+// Whether the name was read.
+fn is_read(stated: &Stated<DevName>, name: &DevName) -> bool
+    ensures { result ≡ names.is_read name.now stated.now }
+{
+    match stated {
+        Stated::Read(other) => other.text() == name.text(),
+        Stated::Absent => false,
+        Stated::Unread => false,
+    }
 }

@@ -7,6 +7,7 @@ use crate::bridge_vlans::vlan_rows;
 use crate::counted::all_said;
 use crate::name_rows::{rows_of_names, rows_of_sections};
 use crate::names::all_names;
+use crate::said_index::SaidIndex;
 use net_rows::{ConfError, DeviceRow, NameRow, VlanRow};
 use plane_io::Items;
 use std::alloc::Global;
@@ -32,16 +33,16 @@ pub fn read_devices(alloc: Global, network: &Package) -> Result<DeviceConf, Conf
         spec.IsOverLimit network.now.sections number }
 {
     let sections = network.sections.as_slice();
-    let said = all_said(alloc, sections)?;
-    let names = all_names(alloc, said.as_slice())?;
+    let said = SaidIndex::new(alloc, all_said(alloc, sections)?)?;
+    let names = all_names(alloc, &said)?;
     if names.as_slice().len() > MOST_NAMES {
         return Err(ConfError::Limit {
             number: MOST_NAMES as u64,
         });
     }
-    let devices = rows_of_sections(alloc, said.as_slice(), sections)?;
-    let names = rows_of_names(alloc, said.as_slice(), names.as_slice())?;
-    let vlans = vlan_rows(alloc, said.as_slice(), sections)?;
+    let devices = rows_of_sections(alloc, &said, sections)?;
+    let names = rows_of_names(alloc, &said, names.as_slice())?;
+    let vlans = vlan_rows(alloc, &said, sections)?;
     Ok(DeviceConf {
         devices,
         names,

@@ -2,8 +2,7 @@ ghost use Rattle.std.specs.Prelude.{◌≡◌, IfOk};
 ghost use Rattle.net_devices.specs.EachOnce.{has, with_name};
 ghost use Rattle.net_devices.specs.Entries as spec;
 
-use crate::each_once::add_text;
-use crate::names_once::NamesOnce;
+use crate::each_once::{NamesOnce, TextsOnce};
 use kern_model::{DevName, read_name};
 use net_options::cut_first;
 use net_rows::VlanEntry;
@@ -74,13 +73,13 @@ pub fn entries_of(alloc: Global, words: &[Text]) -> Result<Items<VlanEntry>, Mem
 pub fn bad_words(alloc: Global, words: &[Text]) -> Result<Items<Text>, Memory>
     ensures { IfOk result (λ bad. bad ≡ spec.bad_words words.now) }
 {
-    let mut bad = Items::new(alloc);
+    let mut bad = TextsOnce::new(alloc);
     for word in words {
         if let None = entry_of(word.as_bytes()) {
-            add_text(&mut bad, word)?;
+            bad.add(word)?;
         }
     }
-    Ok(bad)
+    Ok(bad.into_items())
 }
 
 /// The first entry of each port.

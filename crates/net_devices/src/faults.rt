@@ -4,7 +4,8 @@ ghost use Rattle.net_devices.specs.Faults as spec;
 ghost use Rattle.net_devices.specs.Levels as levels;
 
 use crate::levels::is_bridge;
-use crate::said::{DeviceSection, Said, StatedKind};
+use crate::said::{DeviceSection, StatedKind};
+use crate::said_index::SaidIndex;
 use kern_model::DevName;
 use net_options::Stated;
 use net_rows::{FaultName, RowFault};
@@ -52,7 +53,7 @@ pub fn add_naming_faults(faults: &mut Items<RowFault>, name: &Stated<DevName>) -
 pub fn add_kind_faults(
     alloc: Global,
     faults: &mut Items<RowFault>,
-    said: &[Said],
+    said: &SaidIndex,
     kind: &StatedKind,
 ) -> Result<(), Memory>
     ensures { OnOk result (faults.new ≡ faults.old ++ spec.kind_faults said.now kind.now) }
@@ -116,7 +117,7 @@ pub fn add_about_names(
 fn add_bridge_ports(
     alloc: Global,
     faults: &mut Items<RowFault>,
-    said: &[Said],
+    said: &SaidIndex,
     ports: &[DevName],
 ) -> Result<(), Memory>
     ensures { OnOk result (faults.new ≡ faults.old

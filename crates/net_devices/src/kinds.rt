@@ -2,10 +2,9 @@ ghost use Rattle.std.specs.Prelude.{◌≡◌, IfOk};
 ghost use Rattle.net_options.specs.Dotted as vlan_name;
 ghost use Rattle.net_devices.specs.Kinds as spec;
 
-use crate::each_once::has_name;
 use crate::levels::is_bridge;
-use crate::names::section_of;
-use crate::said::{DeviceSection, Said, StatedKind};
+use crate::said::StatedKind;
+use crate::said_index::SaidIndex;
 use kern_model::DevName;
 use net_options::{Stated, vlan_parts};
 use net_rows::NameKind;
@@ -13,10 +12,10 @@ use plane_io::{Items, Memory};
 use std::alloc::Global;
 
 /// The kind of a name, with the own ports of a bridge.
-pub fn kind_of(alloc: Global, said: &[Said], name: &DevName) -> Result<NameKind, Memory>
+pub fn kind_of(alloc: Global, said: &SaidIndex, name: &DevName) -> Result<NameKind, Memory>
     ensures { IfOk result (λ kind. kind ≡ spec.kind_of said.now name.now) }
 {
-    match section_of(said, name) {
+    match said.section_of(name) {
         Some(section) => kind_by(alloc, said, name, &section.kind),
         None => Ok(untyped_kind(name)),
     }
@@ -24,7 +23,7 @@ pub fn kind_of(alloc: Global, said: &[Said], name: &DevName) -> Result<NameKind,
 
 fn kind_by(
     alloc: Global,
-    said: &[Said],
+    said: &SaidIndex,
     name: &DevName,
     kind: &StatedKind,
 ) -> Result<NameKind, Memory>
@@ -83,7 +82,7 @@ pub fn id_or_zero(stated: &Stated<u16>) -> u16
 
 fn own_ports(
     alloc: Global,
-    said: &[Said],
+    said: &SaidIndex,
     bridge: &DevName,
     ports: &[DevName],
 ) -> Result<Items<DevName>, Memory>
@@ -98,55 +97,14 @@ fn own_ports(
     Ok(own)
 }
 
-fn is_own_port(said: &[Said], bridge: &DevName, port: &DevName) -> bool
+fn is_own_port(said: &SaidIndex, bridge: &DevName, port: &DevName) -> bool
     ensures { result ≡ spec.is_own_port said.now bridge.now port.now }
 {
     if is_bridge(said, port) {
         return false;
     }
-    match owner(said, port) {
+    match said.owner(port) {
         Some(owner) => owner.text() == bridge.text(),
         None => false,
-    }
-}
-
-// The first bridge in file order that names the port.
-fn owner(said: &[Said], port: &DevName) -> Option<DevName>
-    ensures { result ≡ spec.owner said.now port.now }
-{
-    for saying in said {
-        if let Some(owner) = owner_in(saying, port) {
-            return Some(owner);
-        }
-    }
-    None
-}
-
-fn owner_in(saying: &Said, port: &DevName) -> Option<DevName>
-    ensures { result ≡ spec.owner_in port.now saying.now }
-{
-    match saying {
-        Said::Device(section) => owner_by(section, port),
-        Said::Interface(_) => None,
-    }
-}
-
-fn owner_by(section: &DeviceSection, port: &DevName) -> Option<DevName>
-    ensures { result ≡ spec.owner_by port.now section.now }
-{
-    if names_port(&section.kind, port) {
-        return name_if_read(&section.name);
-    }
-    None
-}
-
-fn names_port(kind: &StatedKind, port: &DevName) -> bool
-    ensures { result ≡ spec.names_port port.now kind.now }
-{
-    match kind {
-        StatedKind::Bridge { ports, .. } => has_name(ports.as_slice(), port),
-        StatedKind::Untyped => false,
-        StatedKind::Wrong => false,
-        StatedKind::Vlan { .. } => false,
     }
 }

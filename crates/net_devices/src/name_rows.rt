@@ -4,13 +4,14 @@ ghost use Rattle.std.specs.Option.{option_copied};
 ghost use Rattle.net_devices.specs.Faults as faults_spec;
 ghost use Rattle.net_devices.specs.NameRows as spec;
 ghost use Rattle.net_devices.specs.Kinds as kinds;
+ghost use Rattle.net_devices.specs.Levels as levels;
 
 use crate::counted::is_device;
 use crate::faults::{add_if, add_kind_faults, add_naming_faults, add_value_faults};
 use crate::kinds::{kind_of, name_if_read};
-use crate::levels::{MOST_LEVELS, level};
-use crate::names::section_of;
-use crate::said::{DeviceSection, Said, device_section};
+use crate::levels::{FoundLevels, MOST_LEVELS, level};
+use crate::said::{DeviceSection, device_section};
+use crate::said_index::SaidIndex;
 use kern_model::{DevName, Mac};
 use net_options::{Stated, VlanParts};
 use net_rows::{DeviceRow, FaultName, NameKind, NameRow, RowFault};
@@ -21,7 +22,7 @@ use uci_tree::Section;
 /// The rows of all `device` sections, in file order. `said` is what the sections that count say.
 pub fn rows_of_sections(
     alloc: Global,
-    said: &[Said],
+    said: &SaidIndex,
     sections: &[Section],
 ) -> Result<Items<DeviceRow>, Memory>
     ensures { IfOk result (λ rows. rows ≡ spec.device_rows said.now sections.now) }
@@ -36,7 +37,7 @@ pub fn rows_of_sections(
     Ok(rows)
 }
 
-fn device_row(alloc: Global, said: &[Said], section: &DeviceSection) -> Result<DeviceRow, Memory>
+fn device_row(alloc: Global, said: &SaidIndex, section: &DeviceSection) -> Result<DeviceRow, Memory>
     ensures { IfOk result (λ row. row ≡ spec.device_row said.now section.now) }
 {
     let mut faults = Items::new(alloc);
@@ -52,30 +53,33 @@ fn device_row(alloc: Global, said: &[Said], section: &DeviceSection) -> Result<D
 /// The rows of the names, in their order.
 pub fn rows_of_names(
     alloc: Global,
-    said: &[Said],
+    said: &SaidIndex,
     names: &[DevName],
 ) -> Result<Items<NameRow>, Memory>
     ensures { IfOk result (λ rows. rows ≡ spec.name_rows said.now names.now) }
 {
+    let mut levels = FoundLevels::new(alloc);
     let mut rows = Items::new(alloc);
     for (place, name) in names.iter().enumerate() {
-        rows.push(name_row(alloc, said, &names[..place], name)?)?;
+        let level = level(alloc, said, &mut levels, name)?;
+        rows.push(name_row(alloc, said, &names[..place], name, level)?)?;
     }
     Ok(rows)
 }
 
 fn name_row(
     alloc: Global,
-    said: &[Said],
+    said: &SaidIndex,
     earlier: &[DevName],
     name: &DevName,
+    level: u8,
 ) -> Result<NameRow, Memory>
+    requires { level ≡ levels.level said.now name.now }
     ensures { IfOk result (λ row. row ≡ spec.name_row said.now earlier.now name.now) }
 {
     let kind = kind_of(alloc, said, name)?;
-    let level = level(alloc, said, name)?;
     let is_same = has_same_vlan(alloc, said, earlier, &kind)?;
-    let section = section_of(said, name);
+    let section = said.section_of(name);
     let faults = name_faults(alloc, said, section, is_same, level > MOST_LEVELS)?;
     Ok(NameRow {
         name: *name,
@@ -90,7 +94,7 @@ fn name_row(
 
 fn name_faults(
     alloc: Global,
-    said: &[Said],
+    said: &SaidIndex,
     section: Option<&DeviceSection>,
     is_same: bool,
     is_too_high: bool,
@@ -161,7 +165,7 @@ fn if_read<T: Copy>(stated: &Stated<T>) -> Option<T>
 // Whether an earlier name is a VLAN of the same identifier over the same name.
 fn has_same_vlan(
     alloc: Global,
-    said: &[Said],
+    said: &SaidIndex,
     earlier: &[DevName],
     kind: &NameKind,
 ) -> Result<bool, Memory>

@@ -1,11 +1,11 @@
 ghost use Rattle.std.specs.Prelude.{◌≡◌, ◌<◌, ◌∷◌, IfOk, OnOk};
-ghost use Rattle.std.specs.Option.{option_copied};
 ghost use Rattle.std.specs.List.{flat_map};
 ghost use Rattle.net_devices.specs.EachOnce.{with_names};
 ghost use Rattle.net_devices.specs.Names as spec;
 
-use crate::each_once::add_name;
+use crate::each_once::NamesOnce;
 use crate::said::{DeviceSection, Said, StatedKind};
+use crate::said_index::SaidIndex;
 use kern_model::DevName;
 use net_options::{Stated, VlanParts, vlan_parts};
 use plane_io::{Items, Memory};
@@ -14,36 +14,11 @@ use std::alloc::Global;
 /// How many lowers can be implied one under another: a name has at most 15 bytes.
 pub const MOST_LOWERS: usize = 15;
 
-/// Whether the name was read.
-pub fn is_read(stated: &Stated<DevName>, name: &DevName) -> bool
-    ensures { result ≡ spec.is_read name.now stated.now }
-{
-    match stated {
-        Stated::Read(other) => other.text() == name.text(),
-        Stated::Absent => false,
-        Stated::Unread => false,
-    }
-}
-
-/// The section of a name, among those that count.
-pub fn section_of<'a>(said: &'a [Said], name: &DevName) -> Option<&'a DeviceSection>
-    ensures { option_copied result ≡ spec.section_of said.now name.now }
-{
-    for saying in said {
-        if let Said::Device(section) = saying {
-            if is_read(&section.name, name) {
-                return Some(section);
-            }
-        }
-    }
-    None
-}
-
 /// What a name of the form X.N stands for, where its section, if there is one, has no type.
-pub fn implied(said: &[Said], name: &DevName) -> Option<VlanParts>
+pub fn implied(said: &SaidIndex, name: &DevName) -> Option<VlanParts>
     ensures { result ≡ spec.implied said.now name.now }
 {
-    match section_of(said, name) {
+    match said.section_of(name) {
         Some(section) => implied_by_kind(name, &section.kind),
         None => vlan_parts(name),
     }
@@ -61,31 +36,32 @@ fn implied_by_kind(name: &DevName, kind: &StatedKind) -> Option<VlanParts>
 }
 
 /// The names of the sections in file order, then all that are mentioned, section by section, each at its first place.
-pub fn all_names(alloc: Global, said: &[Said]) -> Result<Items<DevName>, Memory>
+pub fn all_names(alloc: Global, said: &SaidIndex) -> Result<Items<DevName>, Memory>
     ensures { IfOk result (λ names. names ≡ spec.names said.now) }
 {
-    let mut names = Items::new(alloc);
-    for section in said {
+    let mut names = NamesOnce::new(alloc);
+    let sayings = said.as_slice();
+    for section in sayings {
         add_own_name(&mut names, section)?;
     }
-    for saying in said {
+    for saying in sayings {
         add_mentioned_by(&mut names, said, saying)?;
     }
-    Ok(names)
+    Ok(names.into_items())
 }
 
-fn add_own_name(names: &mut Items<DevName>, saying: &Said) -> Result<(), Memory>
+fn add_own_name(names: &mut NamesOnce, saying: &Said) -> Result<(), Memory>
     ensures { OnOk result (names.new ≡ with_names names.old (spec.own_name saying.now)) }
 {
     if let Said::Device(section) = saying {
         if let Stated::Read(name) = &section.name {
-            return add_name(names, name);
+            names.add(name)?;
         }
     }
     Ok(())
 }
 
-fn add_mentioned_by(names: &mut Items<DevName>, said: &[Said], saying: &Said) -> Result<(), Memory>
+fn add_mentioned_by(names: &mut NamesOnce, said: &SaidIndex, saying: &Said) -> Result<(), Memory>
     ensures { OnOk result (names.new ≡ with_names names.old (spec.mentioned_by said.now saying.now)) }
 {
     match saying {
@@ -95,8 +71,8 @@ fn add_mentioned_by(names: &mut Items<DevName>, said: &[Said], saying: &Said) ->
 }
 
 fn add_mentioned_by_section(
-    names: &mut Items<DevName>,
-    said: &[Said],
+    names: &mut NamesOnce,
+    said: &SaidIndex,
     section: &DeviceSection,
 ) -> Result<(), Memory>
     ensures { OnOk result (names.new ≡ with_names names.old
@@ -111,8 +87,8 @@ fn add_mentioned_by_section(
 }
 
 fn add_all_mentioned(
-    names: &mut Items<DevName>,
-    said: &[Said],
+    names: &mut NamesOnce,
+    said: &SaidIndex,
     ports: &[DevName],
 ) -> Result<(), Memory>
     ensures { OnOk result (names.new ≡ with_names names.old
@@ -125,8 +101,8 @@ fn add_all_mentioned(
 }
 
 fn add_mentioned_if_read(
-    names: &mut Items<DevName>,
-    said: &[Said],
+    names: &mut NamesOnce,
+    said: &SaidIndex,
     stated: &Stated<DevName>,
 ) -> Result<(), Memory>
     ensures { OnOk result (names.new ≡ with_names names.old
@@ -139,8 +115,8 @@ fn add_mentioned_if_read(
 }
 
 fn add_mentioned_by_name(
-    names: &mut Items<DevName>,
-    said: &[Said],
+    names: &mut NamesOnce,
+    said: &SaidIndex,
     stated: &Stated<DevName>,
 ) -> Result<(), Memory>
     ensures { OnOk result (names.new ≡ with_names names.old
@@ -156,15 +132,15 @@ fn add_mentioned_by_name(
 
 // Adds the name, and at most so many lowers that are implied one under another.
 fn add_mentioned(
-    names: &mut Items<DevName>,
-    said: &[Said],
+    names: &mut NamesOnce,
+    said: &SaidIndex,
     name: &DevName,
     more: usize,
 ) -> Result<(), Memory>
     ensures { OnOk result (names.new ≡ with_names names.old
         (spec.with_lowers said.now more name.now)) }
 {
-    add_name(names, name)?;
+    names.add(name)?;
     if more == 0 {
         return Ok(());
     }

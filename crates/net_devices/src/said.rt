@@ -1,7 +1,7 @@
 ghost use Rattle.std.specs.Prelude.{◌≡◌, IfOk};
 ghost use Rattle.net_devices.specs.Said as spec;
 
-use crate::each_once::{add_name, add_text};
+use crate::each_once::{NamesOnce, TextsOnce};
 use kern_model::{DevName, Mac, read_name};
 use net_options::{
     Stated, item_words, stated_mac, stated_name, stated_number, stated_vlan_id, truth_of, value_of,
@@ -139,23 +139,23 @@ pub fn port_words(alloc: Global, options: &[Opt]) -> Result<Items<Text>, Memory>
 fn port_names(alloc: Global, words: &[Text]) -> Result<Items<DevName>, Memory>
     ensures { IfOk result (λ ports. ports ≡ spec.port_names words.now) }
 {
-    let mut ports = Items::new(alloc);
+    let mut ports = NamesOnce::new(alloc);
     for word in words {
         if let Some(port) = read_name(word.as_bytes()) {
-            add_name(&mut ports, &port)?;
+            ports.add(&port)?;
         }
     }
-    Ok(ports)
+    Ok(ports.into_items())
 }
 
 fn bad_ports(alloc: Global, words: &[Text]) -> Result<Items<Text>, Memory>
     ensures { IfOk result (λ ports. ports ≡ spec.bad_ports words.now) }
 {
-    let mut ports = Items::new(alloc);
+    let mut ports = TextsOnce::new(alloc);
     for word in words {
         if let None = read_name(word.as_bytes()) {
-            add_text(&mut ports, word)?;
+            ports.add(word)?;
         }
     }
-    Ok(ports)
+    Ok(ports.into_items())
 }

@@ -1,7 +1,7 @@
 use Rattle.std.proofs.Common.{◌≡◌, ℕ, List, ◌∷◌, [], ◌++◌, ap, sym, ◌∙◌}
 use Rattle.net_devices.specs.EachOnce.{has}
 use Rattle.net_devices.proofs.KeyLemmas.{knows_one_more}
-use Rattle.net_devices.proofs.names_once.NamesOnce.add.Goals as goal
+use Rattle.net_devices.proofs.each_once.NamesOnce.add.Goals as goal
 
 pub invariant_of-self-then-added : goal.invariant_of-self-then-added
 invariant_of-self-then-added c =
