@@ -1,5 +1,6 @@
 //! `calls_load WAY COUNT TURNS`: so many times computes the calls between sets of about COUNT objects, and prints how many calls
-//! there were in all. WAY is `made`, from nothing to the objects, or `changed`, from the objects to as many others.
+//! there were in all. WAY is `made`, from nothing to the objects, `changed`, from the objects to as many others, or `stacked`, from
+//! nothing to VLANs one over another.
 #![tactic(auto)]
 
 use kern_calls::calls_between;
@@ -11,10 +12,18 @@ use std::process::ExitCode;
 use std::rt::Env;
 use std::{env, io};
 
+/// Which sets the calls lead between.
+#[derive(Clone, Copy)]
+enum Way {
+    Made,
+    Changed,
+    Stacked,
+}
+
 /// What the words of the command line ask for.
 #[derive(Drop)]
 struct Load {
-    is_change: bool,
+    way: Way,
     count: u16,
     turns: u16,
 }
@@ -82,22 +91,77 @@ fn objects(alloc: Global, letter: char, count: u16) -> Result<Vec<Object>, Memor
     Ok(objects)
 }
 
+/// About so many objects: a bridge, and VLANs one over another, all of them up.
+fn stack(alloc: Global, count: u16) -> Result<Vec<Object>, Memory> {
+    let mut objects = Vec::new(alloc);
+    let mut under = None;
+    for number in 0..count / 2 {
+        let text = format!(in alloc; "v{number}")?;
+        if let Some(name) = read_name(text.as_bytes()) {
+            objects.push(Object::Link {
+                name,
+                kind: kind_over(under),
+            })?;
+            objects.push(Object::Up { name })?;
+            under = Some(name);
+        }
+    }
+    Ok(objects)
+}
+
+fn kind_over(under: Option<DevName>) -> LinkKind {
+    match under {
+        Some(lower) => LinkKind::Vlan {
+            lower,
+            id: 7,
+            mac: None,
+        },
+        None => LinkKind::Bridge {
+            mac: None,
+            filtering: false,
+        },
+    }
+}
+
+fn wanted(alloc: Global, load: &Load) -> Result<Vec<Object>, Memory> {
+    match load.way {
+        Way::Stacked => stack(alloc, load.count),
+        Way::Made | Way::Changed => objects(alloc, 'a', load.count),
+    }
+}
+
+fn held(alloc: Global, load: &Load) -> Result<Vec<Object>, Memory> {
+    match load.way {
+        Way::Changed => objects(alloc, 'b', load.count),
+        Way::Made | Way::Stacked => Ok(Vec::new(alloc)),
+    }
+}
+
 fn count_calls(alloc: Global, load: &Load) -> Result<u64, Memory> {
-    let none = Vec::new(alloc);
-    let first = objects(alloc, 'a', load.count)?;
-    let others = objects(alloc, 'b', load.count)?;
-    let held = if load.is_change { &others } else { &none };
+    let held = held(alloc, load)?;
+    let wanted = wanted(alloc, load)?;
     let mut sum: u64 = 0;
     for _ in 0..load.turns {
-        let calls = calls_between(alloc, &[], held, &first)?;
+        let calls = calls_between(alloc, &[], &held, &wanted)?;
         sum = sum.wrapping_add(calls.len() as u64);
     }
     Ok(sum)
 }
 
+fn way_of(word: &str) -> Way {
+    match word {
+        "changed" => Way::Changed,
+        "stacked" => Way::Stacked,
+        _ => Way::Made,
+    }
+}
+
 fn asked(rt: &(impl Env + AllocGlobal)) -> io::Result<Load> {
     let mut words = env::args(rt)?.skip(1);
-    let is_change = words.next().is_some_and(|word| word.as_str() == "changed");
+    let way = match words.next() {
+        Some(word) => way_of(word.as_str()),
+        None => Way::Made,
+    };
     let count = match words.next() {
         Some(word) => word.as_str().parse().unwrap_or(0),
         None => 0,
@@ -106,11 +170,7 @@ fn asked(rt: &(impl Env + AllocGlobal)) -> io::Result<Load> {
         Some(word) => word.as_str().parse().unwrap_or(0),
         None => 0,
     };
-    Ok(Load {
-        is_change,
-        count,
-        turns,
-    })
+    Ok(Load { way, count, turns })
 }
 
 fn main(rt: HostRuntime) -> io::Result<ExitCode> {
