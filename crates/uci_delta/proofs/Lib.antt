@@ -12,3 +12,4 @@ pub mod DeltasLemmas
 pub mod PrintedLemmas
 pub mod RefusalLemmas
 pub mod Examples
+pub mod BatchLemmas

@@ -30,3 +30,7 @@ pub mod Head
 pub mod Deltas
 -- deltas that are printed one a line
 pub mod Printed
+-- the places of sections by their names
+pub mod Placed
+-- deltas that are applied one after another
+pub mod Batch

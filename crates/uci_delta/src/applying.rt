@@ -1,4 +1,5 @@
 ghost use Rattle.std.specs.Prelude.{◌≡◌, IfErr, OnOk, OnErr, Ok};
+ghost use Rattle.uci_tree.specs.Find.{named_place as place_of_name};
 ghost use Rattle.uci_tree.specs.Valid.{IsValid};
 ghost use Rattle.uci_delta.specs.Applied as spec;
 ghost use Rattle.uci_delta.specs.DeltaError.{IsRefusalOf};
@@ -8,7 +9,7 @@ use crate::{Delta, DeltaError};
 use plane_io::{Items, Text};
 use std::alloc::Global;
 use std::mem;
-use uci_tree::{Package, Section};
+use uci_tree::{Package, Section, named_place};
 
 /// Applies the delta to the package. A path to a section means the first one of its name. The delta's package is not looked
 /// at.
@@ -37,14 +38,22 @@ pub fn apply(alloc: Global, package: &mut Package, delta: &Delta) -> Result<(), 
 {
     let mut sections = mem::replace(&mut package.sections, Items::new(alloc)).into_vec();
     let before = sections.len();
-    let changed = change(alloc, &mut sections, delta);
+    let place = named_place(sections.as_slice(), delta.section.as_bytes());
+    let changed = change(alloc, &mut sections, place, delta);
     let more = sections.len().saturating_sub(before);
     package.made = package.made.saturating_add(more as u64);
     package.sections = Items::from_vec(sections);
     changed
 }
 
-fn change(alloc: Global, sections: &mut Vec<Section>, delta: &Delta) -> Result<(), DeltaError>
+/// Does the change of the delta, whose section has this place.
+pub fn change(
+    alloc: Global,
+    sections: &mut Vec<Section>,
+    place: Option<usize>,
+    delta: &Delta,
+) -> Result<(), DeltaError>
+    requires { place ≡ place_of_name sections.old.items delta.now.section }
     ensures done { OnOk result
         (spec.changed delta.now.section delta.now.option delta.now.change sections.old.items
         ≡ Ok sections.new.items) }
@@ -53,7 +62,16 @@ fn change(alloc: Global, sections: &mut Vec<Section>, delta: &Delta) -> Result<(
     ensures kept { OnErr result (sections.new.items ≡ sections.old.items) }
 {
     match &delta.option {
-        None => change_section(alloc, sections, &delta.section, &delta.change),
-        Some(option) => change_option_of(alloc, sections, &delta.section, option, &delta.change),
+        None => change_section(alloc, sections, place, &delta.section, &delta.change),
+        Some(option) => {
+            change_option_of(
+                alloc,
+                sections,
+                place,
+                &delta.section,
+                option,
+                &delta.change,
+            )
+        }
     }
 }

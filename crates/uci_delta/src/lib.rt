@@ -2,6 +2,7 @@
 #![tactic(auto)]
 
 mod applying;
+mod batch;
 mod delta;
 mod delta_error;
 mod head;
@@ -10,6 +11,7 @@ mod line;
 mod names;
 mod options;
 mod place;
+mod places;
 mod print;
 mod quoting;
 mod reading;
@@ -17,6 +19,7 @@ mod sections;
 mod word;
 
 pub use applying::apply;
+pub use batch::apply_all;
 pub use delta::{Change, Delta};
 pub use delta_error::DeltaError;
 pub use laws::{

@@ -1,6 +1,7 @@
 ghost use Rattle.std.specs.Prelude.{◌≡◌, ◌<◌, [], ◌∷◌, false, true, length, slice_index_or, Some, IfErr, OnOk, OnErr, Ok};
 ghost use Rattle.std.specs.List.{remove};
 ghost use Rattle.uci_tree.specs.declared.package.Section.{Section};
+ghost use Rattle.uci_tree.specs.Find.{named_place as place_of_name};
 ghost use Rattle.uci_delta.specs.DeltaError.{IsRefusalOf};
 ghost use Rattle.uci_delta.specs.Sections as spec;
 
@@ -14,13 +15,15 @@ use std::mem;
 use uci_text::ByteClass;
 use uci_tree::{Section, named_place};
 
-/// Changes the section of this name.
+/// Changes the section of this name, which has this place.
 pub fn change_section(
     alloc: Global,
     sections: &mut Vec<Section>,
+    place: Option<usize>,
     name: &Text,
     change: &Change,
 ) -> Result<(), DeltaError>
+    requires { place ≡ place_of_name sections.old.items name.now }
     ensures done { OnOk result
         (spec.sections_with name.now change.now sections.old.items ≡ Ok sections.new.items) }
     ensures refused { IfErr result
@@ -28,11 +31,11 @@ pub fn change_section(
     ensures kept { OnErr result (sections.new.items ≡ sections.old.items) }
 {
     match change {
-        Change::Set(kind) => set_kind(alloc, sections, name, kind),
-        Change::Remove => remove_section(sections, name),
-        Change::Add(kind) => add_anonymous(alloc, sections, name, kind),
-        Change::Rename(new) => rename_section(sections, name, new),
-        Change::Reorder(place) => reorder(sections, name, place),
+        Change::Set(kind) => set_kind(alloc, sections, place, name, kind),
+        Change::Remove => remove_section(sections, place, name),
+        Change::Add(kind) => add_anonymous(alloc, sections, place, name, kind),
+        Change::Rename(new) => rename_section(sections, place, name, new),
+        Change::Reorder(digits) => reorder(sections, place, name, digits),
         Change::ListAdd(_) | Change::ListDel(_) => Err(DeltaError::Invalid),
     }
 }
@@ -68,9 +71,11 @@ fn push_section(
 fn set_kind(
     alloc: Global,
     sections: &mut Vec<Section>,
+    place: Option<usize>,
     name: &Text,
     kind: &Text,
 ) -> Result<(), DeltaError>
+    requires { place ≡ place_of_name sections.old.items name.now }
     ensures done { OnOk result
         (spec.sections_with name.now (Change.Set kind.now) sections.old.items
         ≡ Ok sections.new.items) }
@@ -81,7 +86,7 @@ fn set_kind(
     if !are_named(name, kind) {
         return Err(DeltaError::Invalid);
     }
-    let Some(place) = named_place(sections.as_slice(), name.as_bytes()) else {
+    let Some(place) = place else {
         push_section(alloc, sections, name, false, kind)?;
         return Ok(());
     };
@@ -90,14 +95,19 @@ fn set_kind(
     Ok(())
 }
 
-fn remove_section(sections: &mut Vec<Section>, name: &Text) -> Result<(), DeltaError>
+fn remove_section(
+    sections: &mut Vec<Section>,
+    place: Option<usize>,
+    name: &Text,
+) -> Result<(), DeltaError>
+    requires { place ≡ place_of_name sections.old.items name.now }
     ensures done { OnOk result
         (spec.sections_with name.now Change.Remove sections.old.items ≡ Ok sections.new.items) }
     ensures refused { IfErr result
         (IsRefusalOf (spec.sections_with name.now Change.Remove sections.old.items)) }
     ensures kept { OnErr result (sections.new.items ≡ sections.old.items) }
 {
-    let Some(place) = named_place(sections.as_slice(), name.as_bytes()) else {
+    let Some(place) = place else {
         return Err(DeltaError::NotFound);
     };
     let _gone = sections.remove(place);
@@ -107,9 +117,11 @@ fn remove_section(sections: &mut Vec<Section>, name: &Text) -> Result<(), DeltaE
 fn add_anonymous(
     alloc: Global,
     sections: &mut Vec<Section>,
+    place: Option<usize>,
     name: &Text,
     kind: &Text,
 ) -> Result<(), DeltaError>
+    requires { place ≡ place_of_name sections.old.items name.now }
     ensures done { OnOk result
         (spec.sections_with name.now (Change.Add kind.now) sections.old.items
         ≡ Ok sections.new.items) }
@@ -120,21 +132,27 @@ fn add_anonymous(
     if !are_named(name, kind) {
         return Err(DeltaError::Invalid);
     }
-    let None = named_place(sections.as_slice(), name.as_bytes()) else {
+    let None = place else {
         return Err(DeltaError::Duplicate);
     };
     push_section(alloc, sections, name, true, kind)?;
     Ok(())
 }
 
-fn rename_section(sections: &mut Vec<Section>, name: &Text, new: &Text) -> Result<(), DeltaError>
+fn rename_section(
+    sections: &mut Vec<Section>,
+    place: Option<usize>,
+    name: &Text,
+    new: &Text,
+) -> Result<(), DeltaError>
+    requires { place ≡ place_of_name sections.old.items name.now }
     ensures done { OnOk result
         (spec.section_renamed name.now new.now sections.old.items ≡ Ok sections.new.items) }
     ensures refused { IfErr result
         (IsRefusalOf (spec.section_renamed name.now new.now sections.old.items)) }
     ensures kept { OnErr result (sections.new.items ≡ sections.old.items) }
 {
-    let Some(place) = named_place(sections.as_slice(), name.as_bytes()) else {
+    let Some(place) = place else {
         return Err(DeltaError::NotFound);
     };
     if !is_named(ByteClass::Name, new) {
@@ -150,20 +168,26 @@ fn rename_section(sections: &mut Vec<Section>, name: &Text, new: &Text) -> Resul
     Ok(())
 }
 
-fn reorder(sections: &mut Vec<Section>, name: &Text, digits: &Text) -> Result<(), DeltaError>
+fn reorder(
+    sections: &mut Vec<Section>,
+    place: Option<usize>,
+    name: &Text,
+    digits: &Text,
+) -> Result<(), DeltaError>
+    requires { place ≡ place_of_name sections.old.items name.now }
     ensures done { OnOk result
         (spec.reordered name.now digits.now sections.old.items ≡ Ok sections.new.items) }
     ensures refused { IfErr result
         (IsRefusalOf (spec.reordered name.now digits.now sections.old.items)) }
     ensures kept { OnErr result (sections.new.items ≡ sections.old.items) }
 {
-    let Some(from) = named_place(sections.as_slice(), name.as_bytes()) else {
+    let Some(from) = place else {
         return Err(DeltaError::NotFound);
     };
-    let Some(place) = read_place(digits.as_bytes()) else {
+    let Some(to) = read_place(digits.as_bytes()) else {
         return Err(DeltaError::Invalid);
     };
-    move_section(sections, from, place as usize);
+    move_section(sections, from, to as usize);
     Ok(())
 }
 
@@ -181,14 +205,16 @@ fn move_section(sections: &mut Vec<Section>, from: usize, to: usize)
     };
 }
 
-/// Changes the option of this name in the section of this name.
+/// Changes the option of this name in the section of this name, which has this place.
 pub fn change_option_of(
     alloc: Global,
     sections: &mut Vec<Section>,
+    place: Option<usize>,
     name: &Text,
     option: &Text,
     change: &Change,
 ) -> Result<(), DeltaError>
+    requires { place ≡ place_of_name sections.old.items name.now }
     ensures done { OnOk result
         (spec.sections_with_option name.now option.now change.now sections.old.items
         ≡ Ok sections.new.items) }
@@ -196,7 +222,7 @@ pub fn change_option_of(
         (spec.sections_with_option name.now option.now change.now sections.old.items)) }
     ensures kept { OnErr result (sections.new.items ≡ sections.old.items) }
 {
-    let Some(place) = named_place(sections.as_slice(), name.as_bytes()) else {
+    let Some(place) = place else {
         return Err(lack_of(change));
     };
     change_in(alloc, &mut sections[place], option, change)
