@@ -4,3 +4,4 @@ pub mod RewritingLemmas
 pub mod SettledLemmas
 pub mod OnceLemmas
 pub mod ValidLemmas
+pub mod Examples
