@@ -1,2 +1,6 @@
+pub mod KeyLemmas
+pub mod LevelLaws
 pub mod LevelLemmas
+pub mod LowerLaws
 pub mod SaidLemmas
+pub mod TableLemmas

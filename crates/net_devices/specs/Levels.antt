@@ -1,6 +1,6 @@
 -- Which names stand on which, and how high (OpenWrt's network configuration; that no name is higher than 8 levels is a rule of
 -- our own).
-use Rattle.std.specs.Prelude.{ℕ, zero, suc, ◌+◌, Bool, true, false, not, max, List, [], ◌∷◌, map, filter, fold, Option, Some, None, if◌then◌else◌}
+use Rattle.std.specs.Prelude.{ℕ, zero, suc, ◌≡◌, ◌+◌, Bool, true, false, not, max, List, [], ◌∷◌, map, filter, fold, Option, Some, None, if◌then◌else◌}
 use Rattle.net_options.specs.declared.stated.Stated.{Stated}
 use Rattle.net_options.specs.declared.stated.Stated.TheVariants.{Absent, Unread, Read}
 use Rattle.net_options.specs.declared.dotted.VlanParts.{VlanParts}
@@ -61,12 +61,26 @@ highest levels = fold max 0 levels
 abbrev pub level_over : Bool → ℕ → ℕ
 level_over bridge highest = (if bridge then max highest 1 else highest) + 1
 
+mutual
+  -- The name is on this level: each name that it stands on is on a level, and it is one above the highest of these, a bridge
+  -- at least on the second. A name that stands on itself is on none.
+  pub data IsOnLevel (said : List Said) : List ℕ → ℕ → Type 0 where
+    over : (name : List ℕ) (level : ℕ) (levels : List ℕ) → AreOnLevels said (below said name) levels
+        → level ≡ level_over (is_bridge said name) (highest levels) → IsOnLevel said name level
+
+  -- the names are on these levels, one by one
+  pub data AreOnLevels (said : List Said) : List (List ℕ) → List ℕ → Type 0 where
+    none : (names : List (List ℕ)) (levels : List ℕ) → names ≡ [] → levels ≡ [] → AreOnLevels said names levels
+    next : (name : List ℕ) (level : ℕ) (others names : List (List ℕ)) (lower levels : List ℕ) → names ≡ name ∷ others
+        → levels ≡ level ∷ lower → IsOnLevel said name level → AreOnLevels said others lower
+        → AreOnLevels said names levels
+
 -- The level of a name, looked for so many levels down. It is exact where it is not above that number, and one more than the
 -- number for a name that is higher, or that stands on itself or on such a name.
 abbrev pub level_within : List Said → ℕ → List ℕ → ℕ
 level_within said zero name = 1
 level_within said (suc more) name = level_over (is_bridge said name) (highest (map (level_within said more) (below said name)))
 
--- the level of a name, and 9 where it is too high
+-- the level of a name, and 9 where it is on no level up to 8
 abbrev pub level : List Said → List ℕ → ℕ
 level said name = level_within said MOST_LEVELS name

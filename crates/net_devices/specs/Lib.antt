@@ -16,5 +16,12 @@ pub mod Kinds
 pub mod Faults
 -- the rows of sections and of names
 pub mod NameRows
+-- the words of ports in sections of VLANs
+pub mod Entries
+-- the rows of VLANs of bridges
+pub mod BridgeVlans
 -- all of these, of a package
 pub mod Devices
+-- what readers keep: names each once, and the rows of VLANs so far
+pub mod NamesInside
+pub mod VlanTable

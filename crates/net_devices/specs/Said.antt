@@ -6,6 +6,7 @@ use Rattle.uci_tree.specs.declared.package.Value.TheVariants.{One, Many}
 use Rattle.uci_tree.specs.declared.package.Opt.{Opt}
 use Rattle.uci_tree.specs.declared.package.Section.{Section}
 use Rattle.kern_model.specs.Name.{is_name}
+use Rattle.kern_model.specs.declared.vlan_name.TheConstants.{LEAST_VLAN_ID, MOST_VLAN_ID}
 use Rattle.net_options.specs.declared.stated.Stated.{Stated}
 use Rattle.net_options.specs.declared.stated.Stated.TheVariants.{Absent, Unread, Read}
 use Rattle.net_options.specs.Options.{value_of, text_of}
@@ -19,7 +20,7 @@ use Rattle.net_devices.specs.declared.said.StatedKind.TheVariants as kind
 use Rattle.net_devices.specs.declared.said.DeviceSection.{DeviceSection}
 use Rattle.net_devices.specs.declared.said.Said.{Said}
 use Rattle.net_devices.specs.declared.said.Said.TheVariants as said
-use Rattle.net_devices.specs.declared.said.TheConstants.{LEAST_MTU, MOST_MTU, LEAST_ID, MOST_ID}
+use Rattle.net_devices.specs.declared.said.TheConstants.{LEAST_MTU, MOST_MTU}
 use Rattle.net_devices.specs.EachOnce.{each_once}
 
 -- the words of `ports`, a list or a text with spaces
@@ -42,7 +43,7 @@ abbrev pub bridge_kind : List Opt → StatedKind
 bridge_kind options = kind.Bridge (truth false (text_of (codes "bridge_empty") options)) (port_names (port_words options)) (bad_ports (port_words options))
 
 abbrev pub vlan_kind : List Opt → StatedKind
-vlan_kind options = kind.Vlan (stated name_of (value_of (codes "ifname") options)) (stated (number_within LEAST_ID MOST_ID) (value_of (codes "vid") options))
+vlan_kind options = kind.Vlan (stated name_of (value_of (codes "ifname") options)) (stated (number_within LEAST_VLAN_ID MOST_VLAN_ID) (value_of (codes "vid") options))
 
 abbrev pub kind_of_type : List Opt → List ℕ → StatedKind
 kind_of_type options text =

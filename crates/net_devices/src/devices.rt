@@ -3,11 +3,11 @@ ghost use Rattle.net_rows.specs.declared.conf_error.ConfError.TheVariants.{Limit
 ghost use Rattle.net_devices.specs.declared.devices.TheConstants.{MOST_NAMES};
 ghost use Rattle.net_devices.specs.Devices as spec;
 
-use net_rows::ConfError;
+use crate::bridge_vlans::vlan_rows;
 use crate::counted::all_said;
 use crate::name_rows::{rows_of_names, rows_of_sections};
 use crate::names::all_names;
-use net_rows::{DeviceRow, NameRow};
+use net_rows::{ConfError, DeviceRow, NameRow, VlanRow};
 use plane_io::Items;
 use std::alloc::Global;
 use uci_tree::Package;
@@ -15,15 +15,16 @@ use uci_tree::Package;
 /// How many names of network devices a configuration may have.
 pub const MOST_NAMES: usize = 4096;
 
-/// What a `network` package says about devices: the rows of its `device` sections, and of the names that it speaks of.
+/// What a `network` package says about devices: the rows of its `device` sections, of the names that it speaks of, and of its
+/// `bridge-vlan` sections.
 #[derive(Debug, Drop)]
 pub struct DeviceConf {
     pub devices: Items<DeviceRow>,
     pub names: Items<NameRow>,
+    pub vlans: Items<VlanRow>,
 }
 
-/// The rows of the `device` sections of a package, and of the names that it speaks of, each with its faults. `Limit` where
-/// there are more than 4,096 names.
+/// The rows of a `network` package about devices, each with its faults. `Limit` where there are more than 4,096 names.
 pub fn read_devices(alloc: Global, network: &Package) -> Result<DeviceConf, ConfError>
     ensures rows { IfOk result (λ conf. conf ≡ spec.device_conf network.now.sections) }
     ensures within { IfOk result (λ conf. length (spec.all_names network.now.sections) ≤ MOST_NAMES) }
@@ -40,5 +41,10 @@ pub fn read_devices(alloc: Global, network: &Package) -> Result<DeviceConf, Conf
     }
     let devices = rows_of_sections(alloc, said.as_slice(), sections)?;
     let names = rows_of_names(alloc, said.as_slice(), names.as_slice())?;
-    Ok(DeviceConf { devices, names })
+    let vlans = vlan_rows(alloc, said.as_slice(), sections)?;
+    Ok(DeviceConf {
+        devices,
+        names,
+        vlans,
+    })
 }

@@ -3,12 +3,11 @@ ghost use Rattle.net_rows.specs.declared.fault_name.FaultName.TheVariants as fau
 ghost use Rattle.net_devices.specs.Faults as spec;
 ghost use Rattle.net_devices.specs.Levels as levels;
 
-use net_rows::FaultName;
 use crate::levels::is_bridge;
-use net_rows::RowFault;
 use crate::said::{DeviceSection, Said, StatedKind};
 use kern_model::DevName;
 use net_options::Stated;
+use net_rows::{FaultName, RowFault};
 use plane_io::{Items, Memory, Text};
 use std::alloc::Global;
 
@@ -25,7 +24,8 @@ pub fn add_if(faults: &mut Items<RowFault>, there: bool, name: FaultName) -> Res
     })
 }
 
-fn add_about(
+/// Adds a fault about a port.
+pub fn add_about(
     alloc: Global,
     faults: &mut Items<RowFault>,
     name: FaultName,
@@ -65,7 +65,7 @@ pub fn add_kind_faults(
             bad_ports,
             ..
         } => {
-            add_bad_ports(alloc, faults, bad_ports.as_slice())?;
+            add_about_texts(alloc, faults, FaultName::BadPort, bad_ports.as_slice())?;
             add_bridge_ports(alloc, faults, said, ports.as_slice())
         }
         StatedKind::Vlan { lower, id } => add_vlan_faults(faults, lower, id),
@@ -75,7 +75,7 @@ pub fn add_kind_faults(
 fn add_vlan_faults(
     faults: &mut Items<RowFault>,
     lower: &Stated<DevName>,
-    id: &Stated<u32>,
+    id: &Stated<u16>,
 ) -> Result<(), Memory>
     ensures { OnOk result (faults.new ≡ faults.old ++ spec.vlan_faults lower.now id.now) }
 {
@@ -83,11 +83,32 @@ fn add_vlan_faults(
     add_if(faults, !is_read(lower), FaultName::BadLower)
 }
 
-fn add_bad_ports(alloc: Global, faults: &mut Items<RowFault>, ports: &[Text]) -> Result<(), Memory>
-    ensures { OnOk result (faults.new ≡ faults.old ++ map (spec.about fault.BadPort) ports.now) }
+/// Adds a fault about each of these texts.
+pub fn add_about_texts(
+    alloc: Global,
+    faults: &mut Items<RowFault>,
+    name: FaultName,
+    texts: &[Text],
+) -> Result<(), Memory>
+    ensures { OnOk result (faults.new ≡ faults.old ++ map (spec.about name) texts.now) }
+{
+    for text in texts {
+        add_about(alloc, faults, name, text.as_bytes())?;
+    }
+    Ok(())
+}
+
+/// Adds a fault about each of these ports.
+pub fn add_about_names(
+    alloc: Global,
+    faults: &mut Items<RowFault>,
+    name: FaultName,
+    ports: &[DevName],
+) -> Result<(), Memory>
+    ensures { OnOk result (faults.new ≡ faults.old ++ map (spec.about name) ports.now) }
 {
     for port in ports {
-        add_about(alloc, faults, FaultName::BadPort, port.as_bytes())?;
+        add_about(alloc, faults, name, port.text())?;
     }
     Ok(())
 }
@@ -117,7 +138,8 @@ pub fn add_value_faults(faults: &mut Items<RowFault>, section: &DeviceSection) -
     add_if(faults, is_unread(&section.mac), FaultName::BadMac)
 }
 
-fn is_read<T>(stated: &Stated<T>) -> bool
+/// Whether a value was read.
+pub fn is_read<T>(stated: &Stated<T>) -> bool
     ensures { result ≡ spec.is_read stated.now }
 {
     match stated {

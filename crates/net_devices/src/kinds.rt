@@ -5,10 +5,10 @@ ghost use Rattle.net_devices.specs.Kinds as spec;
 use crate::each_once::has_name;
 use crate::levels::is_bridge;
 use crate::names::section_of;
-use net_rows::NameKind;
 use crate::said::{DeviceSection, Said, StatedKind};
 use kern_model::DevName;
 use net_options::{Stated, vlan_parts};
+use net_rows::NameKind;
 use plane_io::{Items, Memory};
 use std::alloc::Global;
 
@@ -70,7 +70,8 @@ pub fn name_if_read(stated: &Stated<DevName>) -> Option<DevName>
     }
 }
 
-fn id_or_zero(stated: &Stated<u32>) -> u32
+/// The identifier that was read, or else 0.
+pub fn id_or_zero(stated: &Stated<u16>) -> u16
     ensures { result ≡ spec.id_or_zero stated.now }
 {
     match stated {

@@ -6,15 +6,14 @@ ghost use Rattle.net_devices.specs.NameRows as spec;
 ghost use Rattle.net_devices.specs.Kinds as kinds;
 
 use crate::counted::is_device;
-use net_rows::FaultName;
 use crate::faults::{add_if, add_kind_faults, add_naming_faults, add_value_faults};
 use crate::kinds::{kind_of, name_if_read};
 use crate::levels::{MOST_LEVELS, level};
 use crate::names::section_of;
-use net_rows::{DeviceRow, NameKind, NameRow, RowFault};
 use crate::said::{DeviceSection, Said, device_section};
 use kern_model::{DevName, Mac};
 use net_options::{Stated, VlanParts};
+use net_rows::{DeviceRow, FaultName, NameKind, NameRow, RowFault};
 use plane_io::{Items, Memory};
 use std::alloc::Global;
 use uci_tree::Section;
@@ -200,7 +199,7 @@ fn vlan_of(kind: &NameKind) -> Option<VlanParts>
     }
 }
 
-fn told_vlan(lower: &Option<DevName>, id: u32) -> Option<VlanParts>
+fn told_vlan(lower: &Option<DevName>, id: u16) -> Option<VlanParts>
     ensures { result ≡ spec.told_vlan lower.now id }
 {
     if id == 0 {

@@ -3,7 +3,9 @@ ghost use Rattle.net_devices.specs.Said as spec;
 
 use crate::each_once::{add_name, add_text};
 use kern_model::{DevName, Mac, read_name};
-use net_options::{Stated, item_words, stated_mac, stated_name, stated_number, truth_of, value_of};
+use net_options::{
+    Stated, item_words, stated_mac, stated_name, stated_number, stated_vlan_id, truth_of, value_of,
+};
 use plane_io::{Items, Memory, Text};
 use std::alloc::Global;
 use uci_tree::{Opt, Section, Value};
@@ -24,7 +26,7 @@ pub enum StatedKind {
     /// A VLAN over a name.
     Vlan {
         lower: Stated<DevName>,
-        id: Stated<u32>,
+        id: Stated<u16>,
     },
 }
 
@@ -49,12 +51,6 @@ pub const LEAST_MTU: u32 = 68;
 
 /// The most MTU of a device, in bytes.
 pub const MOST_MTU: u32 = 65535;
-
-/// The least identifier of a VLAN (IEEE 802.1Q).
-pub const LEAST_ID: u32 = 1;
-
-/// The most identifier of a VLAN (IEEE 802.1Q).
-pub const MOST_ID: u32 = 4094;
 
 /// What a section says about the names of network devices; sections of other types say nothing.
 pub fn said_in(alloc: Global, section: &Section) -> Result<Option<Said>, Memory>
@@ -113,7 +109,7 @@ fn kind_of_type(alloc: Global, options: &[Opt], text: &[u8]) -> Result<StatedKin
     if text == b"8021q".as_slice() {
         return Ok(StatedKind::Vlan {
             lower: stated_name(options, b"ifname"),
-            id: stated_number(options, b"vid", LEAST_ID, MOST_ID),
+            id: stated_vlan_id(options, b"vid"),
         });
     }
     Ok(StatedKind::Wrong)
@@ -130,7 +126,8 @@ fn bridge_kind(alloc: Global, options: &[Opt]) -> Result<StatedKind, Memory>
     })
 }
 
-fn port_words(alloc: Global, options: &[Opt]) -> Result<Items<Text>, Memory>
+/// The words of `ports`, a list or a text with spaces.
+pub fn port_words(alloc: Global, options: &[Opt]) -> Result<Items<Text>, Memory>
     ensures { IfOk result (λ words. words ≡ spec.port_words options.now) }
 {
     match value_of(options, b"ports") {

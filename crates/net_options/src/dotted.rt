@@ -2,14 +2,14 @@ ghost use Rattle.std.specs.Prelude.{◌≡◌};
 ghost use Rattle.net_options.specs.Dotted as spec;
 
 use crate::cut::cut_last;
-use crate::number::read_number;
-use kern_model::{DevName, LEAST_VLAN_ID, MOST_VLAN_ID, read_name};
+use crate::number::read_vlan_id;
+use kern_model::{DevName, read_name};
 
 /// What a name of the form X.N stands for: VLAN `id` N over the name X.
 #[derive(Clone, Copy, Debug)]
 pub struct VlanParts {
     pub lower: DevName,
-    pub id: u32,
+    pub id: u16,
 }
 
 /// What a device name stands for, where it has the form X.N: X is a device name, and N a decimal from 1 to 4094 without
@@ -29,7 +29,7 @@ pub fn vlan_parts(name: &DevName) -> Option<VlanParts>
     Some(VlanParts { lower, id })
 }
 
-fn vlan_id(digits: &[u8]) -> Option<u32>
+fn vlan_id(digits: &[u8]) -> Option<u16>
     ensures { result ≡ spec.id_of digits.now }
 {
     let Some((first, _)) = digits.split_first() else {
@@ -38,5 +38,5 @@ fn vlan_id(digits: &[u8]) -> Option<u32>
     if *first == b'0' {
         return None;
     }
-    read_number(digits, u32::from(LEAST_VLAN_ID), u32::from(MOST_VLAN_ID))
+    read_vlan_id(digits)
 }

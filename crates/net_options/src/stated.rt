@@ -1,11 +1,12 @@
 ghost use Rattle.std.specs.Prelude.{◌≡◌};
+ghost use Rattle.kern_model.specs.declared.vlan_name.TheConstants.{LEAST_VLAN_ID, MOST_VLAN_ID};
 ghost use Rattle.net_options.specs.Options as by_name;
 ghost use Rattle.net_options.specs.Stated as spec;
 ghost use Rattle.net_options.specs.Number.{number_within};
 ghost use Rattle.net_options.specs.HardwareAddress.{mac_of};
 
 use crate::hardware_address::read_mac;
-use crate::number::read_number;
+use crate::number::{read_number, read_vlan_id};
 use crate::options::value_of;
 use kern_model::{DevName, Mac, read_name};
 use uci_tree::{Opt, Value};
@@ -41,6 +42,21 @@ pub fn stated_number(options: &[Opt], name: &[u8], least: u32, most: u32) -> Sta
         Some(Value::Many(_)) => Stated::Unread,
         Some(Value::One(text)) => match read_number(text.as_bytes(), least, most) {
             Some(number) => Stated::Read(number),
+            None => Stated::Unread,
+        },
+    }
+}
+
+/// The identifier of a VLAN that an option gives.
+pub fn stated_vlan_id(options: &[Opt], name: &[u8]) -> Stated<u16>
+    ensures { result ≡ spec.stated (number_within LEAST_VLAN_ID MOST_VLAN_ID)
+        (by_name.value_of name.now options.now) }
+{
+    match value_of(options, name) {
+        None => Stated::Absent,
+        Some(Value::Many(_)) => Stated::Unread,
+        Some(Value::One(text)) => match read_vlan_id(text.as_bytes()) {
+            Some(id) => Stated::Read(id),
             None => Stated::Unread,
         },
     }

@@ -4,3 +4,11 @@ pub mod FirstLemmas
 pub mod OptionLemmas
 pub mod SectionLemmas
 pub mod ValidLemmas
+pub mod WordLemmas
+pub mod PartLemmas
+pub mod HeadLemmas
+pub mod LineLemmas
+pub mod DeltasLemmas
+pub mod PrintedLemmas
+pub mod RefusalLemmas
+pub mod Examples

@@ -18,3 +18,15 @@ pub mod Applied
 pub mod Shape
 -- deltas as text
 pub mod Print
+-- how the bytes of words stand, one behind another
+pub mod Quoting
+-- the parts of the text of a delta file
+pub mod Parts
+-- the file form of a delta
+pub mod Line
+-- what stands in front of the value of a line
+pub mod Head
+-- the deltas of a delta file
+pub mod Deltas
+-- deltas that are printed one a line
+pub mod Printed

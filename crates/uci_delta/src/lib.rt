@@ -4,15 +4,23 @@
 mod applying;
 mod delta;
 mod delta_error;
+mod head;
 mod laws;
+mod line;
 mod names;
 mod options;
 mod place;
 mod print;
+mod quoting;
+mod reading;
 mod sections;
+mod word;
 
 pub use applying::apply;
 pub use delta::{Change, Delta};
 pub use delta_error::DeltaError;
-pub use laws::valid_stays_valid;
+pub use laws::{
+    no_refusal_is_memory, one_list_of_deltas, printed_deltas_read_back, valid_stays_valid,
+};
 pub use print::{print_change, print_delta};
+pub use reading::read_deltas;

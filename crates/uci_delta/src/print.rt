@@ -1,5 +1,6 @@
-ghost use Rattle.std.specs.Prelude.{◌≡◌, ◌++◌, OnOk};
+ghost use Rattle.std.specs.Prelude.{◌≡◌, ◌++◌, OnOk, OnErr};
 ghost use Rattle.std.specs.Option.{option_copied};
+ghost use Rattle.uci_text.specs.Quote.{AddsTo};
 ghost use Rattle.uci_delta.specs.Print as print;
 ghost use Rattle.uci_delta.specs.Shape.{HasShape};
 
@@ -12,14 +13,27 @@ use uci_text::quote_into;
 ///
 /// # Errors
 ///
-/// `Memory` where there was not enough memory.
+/// `Memory` where there was not enough memory; nothing is appended then.
 pub fn print_delta(out: &mut Vec<u8>, delta: &Delta) -> Result<(), Memory>
     requires { HasShape delta.now }
-    ensures { OnOk result (out.new.items ≡ out.old.items ++ print.spelled delta.now) }
+    ensures appended { OnOk result (out.new.items ≡ out.old.items ++ print.spelled delta.now) }
+    ensures kept { OnErr result (out.new.items ≡ out.old.items) }
+{
+    let length = out.len();
+    let appended = append_delta(out, delta);
+    if appended.is_err() {
+        out.truncate(length);
+    }
+    appended
+}
+
+fn append_delta(out: &mut Vec<u8>, delta: &Delta) -> Result<(), Memory>
+    ensures appended { OnOk result (out.new.items ≡ out.old.items ++ print.spelled delta.now) }
+    ensures adds { OnErr result (AddsTo out.old.items out.new.items) }
 {
     out.extend_from_slice(mark_of(&delta.change))?;
-    print_place(out, delta)?;
-    print_value(out, &delta.change)
+    append_place(out, delta)?;
+    append_value(out, &delta.change)
 }
 
 /// Appends the delta as `uci changes` shows it, without a newline: as in a delta file, but that a removal alone has its sign,
@@ -27,15 +41,28 @@ pub fn print_delta(out: &mut Vec<u8>, delta: &Delta) -> Result<(), Memory>
 ///
 /// # Errors
 ///
-/// `Memory` where there was not enough memory.
+/// `Memory` where there was not enough memory; nothing is appended then.
 pub fn print_change(out: &mut Vec<u8>, delta: &Delta) -> Result<(), Memory>
     requires { HasShape delta.now }
-    ensures { OnOk result (out.new.items ≡ out.old.items ++ print.shown delta.now) }
+    ensures appended { OnOk result (out.new.items ≡ out.old.items ++ print.shown delta.now) }
+    ensures kept { OnErr result (out.new.items ≡ out.old.items) }
+{
+    let length = out.len();
+    let appended = append_change(out, delta);
+    if appended.is_err() {
+        out.truncate(length);
+    }
+    appended
+}
+
+fn append_change(out: &mut Vec<u8>, delta: &Delta) -> Result<(), Memory>
+    ensures appended { OnOk result (out.new.items ≡ out.old.items ++ print.shown delta.now) }
+    ensures adds { OnErr result (AddsTo out.old.items out.new.items) }
 {
     out.extend_from_slice(shown_mark(&delta.change))?;
-    print_place(out, delta)?;
+    append_place(out, delta)?;
     out.extend_from_slice(shown_sign(&delta.change))?;
-    print_value(out, &delta.change)
+    append_value(out, &delta.change)
 }
 
 fn mark_of(change: &Change) -> &'static [u8]
@@ -85,8 +112,9 @@ fn value_of(change: &Change) -> Option<&Text>
     }
 }
 
-fn print_place(out: &mut Vec<u8>, delta: &Delta) -> Result<(), Memory>
-    ensures { OnOk result (out.new.items ≡ out.old.items ++ print.place_text delta.now) }
+fn append_place(out: &mut Vec<u8>, delta: &Delta) -> Result<(), Memory>
+    ensures appended { OnOk result (out.new.items ≡ out.old.items ++ print.place_text delta.now) }
+    ensures adds { OnErr result (AddsTo out.old.items out.new.items) }
 {
     out.extend_from_slice(delta.package.as_bytes())?;
     out.push(b'.')?;
@@ -98,9 +126,10 @@ fn print_place(out: &mut Vec<u8>, delta: &Delta) -> Result<(), Memory>
     Ok(())
 }
 
-fn print_value(out: &mut Vec<u8>, change: &Change) -> Result<(), Memory>
-    ensures { OnOk result
+fn append_value(out: &mut Vec<u8>, change: &Change) -> Result<(), Memory>
+    ensures appended { OnOk result
         (out.new.items ≡ out.old.items ++ print.value_text (print.value_of change.now)) }
+    ensures adds { OnErr result (AddsTo out.old.items out.new.items) }
 {
     let Some(value) = value_of(change) else {
         return Ok(());

@@ -21,3 +21,11 @@ fn laws_of_packages_are_called() {
     uci_tree::printed_reads_back();
     uci_tree::printed_again();
 }
+
+#[test]
+fn laws_of_deltas_are_called() {
+    uci_delta::valid_stays_valid();
+    uci_delta::printed_deltas_read_back();
+    uci_delta::one_list_of_deltas();
+    uci_delta::no_refusal_is_memory();
+}

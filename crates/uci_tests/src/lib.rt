@@ -1,9 +1,11 @@
 //! Worked examples of UCI text and packages, by public calls alone: texts as lines and as commands, quoted values, packages,
-//! paths, printed packages, staged changes, and what is told of errors.
+//! paths, printed packages, staged changes and their files, and what is told of errors.
 #![tactic(auto)]
 
 #[cfg(test)]
 mod commands;
+#[cfg(test)]
+mod delta_files;
 #[cfg(test)]
 mod deltas;
 #[cfg(test)]

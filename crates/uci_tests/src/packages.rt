@@ -6,7 +6,7 @@ use uci_tree::{Package, TreeError, Value, anonymous_name, copy_package, read_pac
 
 /// The package as text: a line for each section, with its name, its type and whether it is anonymous, and behind it each
 /// option with its value, or its items between brackets.
-fn shown(alloc: Global, tree: &Package) -> Result<Vec<u8>, Fail> {
+pub fn shown(alloc: Global, tree: &Package) -> Result<Vec<u8>, Fail> {
     let mut out = Vec::new(alloc);
     for section in tree.sections.as_slice() {
         out.extend_from_slice(section.name.as_bytes())?;

@@ -1,0 +1,186 @@
+-- Rows of usual routers, and what they want, as the checker computes it.
+use Rattle.std.proofs.Common.{◌≡◌, ℕ, List, [], ◌∷◌, Bool, true, false, Some, None, codes, refl}
+use Rattle.std.specs.Prelude.{replicate}
+use Rattle.net_addr.specs.declared.address.Addr.{Addr}
+use Rattle.net_addr.specs.declared.address.Addr.TheVariants.{V4}
+use Rattle.kern_model.specs.declared.object.Device.{Device}
+use Rattle.kern_model.specs.declared.object.DevEvent.TheVariants as device
+use Rattle.kern_model.specs.declared.object.LinkKind.TheVariants as kind
+use Rattle.kern_model.specs.declared.object.Object.TheVariants as object
+use Rattle.uci_tree.specs.declared.package.Value.TheVariants.{One}
+use Rattle.net_rows.specs.declared.rows.Conf.{Conf}
+use Rattle.net_rows.specs.declared.rows.NameRow.{NameRow}
+use Rattle.net_rows.specs.declared.rows.NameKind.{NameKind}
+use Rattle.net_rows.specs.declared.rows.NameKind.TheVariants.{Plain, Bridge, Vlan}
+use Rattle.net_rows.specs.declared.rows.InterfaceRow.{InterfaceRow}
+use Rattle.net_rules.specs.declared.inputs.Inputs.{Inputs}
+use Rattle.net_rules.specs.declared.event.Event.{Event}
+use Rattle.net_rules.specs.declared.event.Event.TheVariants as event
+use Rattle.net_rules.specs.declared.event.Notice.TheVariants as notice
+use Rattle.net_rules.specs.Levels.{by_levels}
+use Rattle.net_rules.specs.Inputs.{facts_of, no_inputs}
+use Rattle.net_rules.specs.Available.{available, link}
+use Rattle.net_rules.specs.Used.{used, users}
+use Rattle.net_rules.specs.Want.{wanted_list}
+use Rattle.net_rules.specs.After.{after}
+use Rattle.net_rules.specs.Notices.{notices}
+
+abbrev name_row : List ℕ → NameKind → ℕ → NameRow
+name_row name kind level = record { name = name; kind = kind; level = level; broken = false; mtu = None; mac = None; faults = [] }
+
+abbrev interface_row : List ℕ → List ℕ → List ℕ → Bool → List (Addr × ℕ) → InterfaceRow
+interface_row name proto dev force_link addresses = record {
+  name = name;
+  anonymous = false;
+  proto = proto;
+  device = Some dev;
+  autostart = true;
+  disabled = false;
+  force_link = force_link;
+  metric = 0;
+  addresses = addresses;
+  gateways = [];
+  options = [];
+  faults = [];
+}
+
+abbrev v4 : ℕ → ℕ → ℕ → ℕ → Addr
+v4 a b c d = V4 (record { 0 = a ∷ b ∷ c ∷ d ∷ [] })
+
+abbrev present : Bool → Device
+present carrier = record { carrier = carrier; mtu = 1500; mac = record { 0 = replicate 6 0 } }
+
+abbrev come : List ℕ → Event
+come name = event.Device (device.Add name true 1500 (record { 0 = replicate 6 0 }))
+
+abbrev lan1 : List ℕ
+lan1 = codes "lan1"
+
+abbrev lan2 : List ℕ
+lan2 = codes "lan2"
+
+abbrev br-lan : List ℕ
+br-lan = codes "br-lan"
+
+abbrev wan : List ℕ
+wan = codes "wan"
+
+-- `br-lan` with two ports, `lan` static on it, `wan` by DHCP
+abbrev router : Conf
+router = record {
+  interfaces =
+      interface_row (codes "lan") (codes "static") br-lan true ((v4 192 168 1 1, 24) ∷ [])
+      ∷ interface_row wan (codes "dhcp") wan false [] ∷ [];
+  devices = [];
+  routes = [];
+  radios = [];
+  names = name_row br-lan (Bridge false (lan1 ∷ lan2 ∷ [])) 2 ∷ name_row lan1 Plain 1 ∷ name_row lan2 Plain 1 ∷ name_row wan Plain 1 ∷ [];
+  vlans = [];
+}
+
+abbrev router_with : List (List ℕ × Device) → Inputs
+router_with devices = record { conf = router; devices = devices; commands = []; interfaces = []; radios = []; next = 1 }
+
+-- the first port and the second device come, the latter without carrier: nobody is asked
+two_devices : wanted_list (facts_of (router_with ((lan1, present true) ∷ (wan, present false) ∷ []))) ≡
+    object.Up br-lan ∷ object.Link br-lan (kind.Bridge None false) ∷ object.Master lan1 br-lan ∷ object.Up lan1 ∷ object.Up wan
+    ∷ object.Address br-lan (v4 192 168 1 1, 24) ∷ []
+unfolding available link used by_levels
+two_devices = refl
+
+abbrev loaded : Inputs
+loaded = after no_inputs (event.Load router)
+
+abbrev asked : Inputs
+asked = after loaded (come wan)
+
+-- `wan` comes with carrier, and its handler is asked
+first_ask : notices loaded (come wan) ≡ notice.Interface 1 1 (Some wan) ∷ []
+unfolding after available link by_levels
+first_ask = refl
+
+-- it goes, and the ask with it; it comes again, and the ask has the next number
+dropped : notices asked (event.Device (device.Remove wan)) ≡ notice.Dropped 1 ∷ []
+unfolding after available link by_levels
+dropped = refl
+
+asked_again : notices (after asked (event.Device (device.Remove wan))) (come wan) ≡ notice.Interface 2 1 (Some wan) ∷ []
+unfolding after available link by_levels
+asked_again = refl
+
+abbrev address_given : ℕ → Event
+address_given number = event.Answer wan number (record { up = true; device = None; addresses = (v4 192 0 2 5, 24) ∷ []; routes = [] })
+
+-- an answer to the open ask gives an address; one to another number changes nothing
+given_address : wanted_list (facts_of (after asked (address_given 1))) ≡ object.Up wan ∷ object.Address wan (v4 192 0 2 5, 24) ∷ []
+unfolding after available link used by_levels
+given_address = refl
+
+stale_answer : after asked (address_given 2) ≡ asked
+unfolding after available link by_levels
+stale_answer = refl
+
+-- a filtering bridge with two ports, and an interface on its VLAN 10
+abbrev br0 : List ℕ
+br0 = codes "br0"
+
+abbrev br0-10 : List ℕ
+br0-10 = codes "br0.10"
+
+abbrev filtering : Conf
+filtering = record {
+  interfaces = interface_row (codes "x") (codes "static") br0-10 true ((v4 10 0 10 1, 24) ∷ []) ∷ [];
+  devices = [];
+  routes = [];
+  radios = [];
+  names = name_row br0 (Bridge false (lan1 ∷ lan2 ∷ [])) 2 ∷ name_row lan1 Plain 1 ∷ name_row lan2 Plain 1 ∷ name_row br0-10 (Vlan (Some br0) 10) 3 ∷ [];
+  vlans = record {
+    bridge = Some br0;
+    id = 10;
+    local = true;
+    passed_over = false;
+    entries = record { port = lan1; pvid = true; untagged = true } ∷ record { port = lan2; pvid = false; untagged = false } ∷ [];
+    faults = [];
+  } ∷ [];
+}
+
+one_port : wanted_list (facts_of (record { conf = filtering; devices = (lan1, present true) ∷ []; commands = []; interfaces = []; radios = []; next = 1 })) ≡
+    object.Up br0 ∷ object.Link br0 (kind.Bridge None true) ∷ object.Master lan1 br0 ∷ object.Vlan br0 lan1 10 true true ∷ object.Vlan br0 br0 10 false false
+    ∷ object.Up lan1 ∷ object.Up br0-10 ∷ object.Link br0-10 (kind.Vlan br0 10 None) ∷ object.Address br0-10 (v4 10 0 10 1, 24) ∷ []
+unfolding available link used by_levels
+one_port = refl
+
+-- a radio whose port joins the bridge of its interface
+abbrev phy : List ℕ
+phy = codes "phy0-ap0"
+
+abbrev wireless : Conf
+wireless = record router {
+  radios = record {
+    name = codes "radio0";
+    disabled = false;
+    options = record { name = codes "channel"; value = One (codes "36") } ∷ [];
+    rows = record { network = Some (codes "lan"); disabled = false; options = record { name = codes "network"; value = One (codes "lan") } ∷ [] } ∷ [];
+    faults = [];
+  } ∷ [];
+}
+
+abbrev wireless_loaded : Inputs
+wireless_loaded = after no_inputs (event.Load wireless)
+
+asked_radio : notices no_inputs (event.Load wireless) ≡ notice.Radio 1 0 ∷ []
+unfolding after available link by_levels
+asked_radio = refl
+
+abbrev port_told : Inputs
+port_told = after wireless_loaded (event.Radio (codes "radio0") 1 (Some phy ∷ []))
+
+port_joins : wanted_list (facts_of (after port_told (come phy))) ≡
+    object.Up br-lan ∷ object.Link br-lan (kind.Bridge None false) ∷ object.Master phy br-lan ∷ object.Up phy ∷ object.Address br-lan (v4 192 168 1 1, 24) ∷ []
+unfolding after available link used by_levels
+port_joins = refl
+
+-- a name that has users: the bridge has the interface, each port has the bridge
+counted : (users (facts_of (router_with ((lan1, present true) ∷ []))) br-lan ≡ 1) × (users (facts_of (router_with ((lan1, present true) ∷ []))) lan1 ≡ 1) × (users (facts_of (router_with ((lan1, present true) ∷ []))) lan2 ≡ 0)
+unfolding available link used by_levels
+counted = (refl, refl, refl)

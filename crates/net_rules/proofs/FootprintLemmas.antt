@@ -1,0 +1,184 @@
+-- A footprint has with each object the held links that it stands on.
+use Rattle.std.proofs.Common.{arith, ℕ, ◌≡◌, ◌<◌, ◌⊎◌, inl, inr, zero, suc, List, [], ◌∷◌, Option, Some, None, Bool, true, false, Contains, refl, ap, sym, subst, ◌∙◌}
+use Rattle.std.specs.Prelude.{◌&&◌, ◌||◌, bytes_eq, is_some}
+use Rattle.std.specs.FinMap as map
+use Rattle.kern_model.specs.declared.object.Mac.{Mac}
+use Rattle.kern_model.specs.declared.object.LinkKind.{LinkKind}
+use Rattle.kern_model.specs.declared.object.LinkKind.TheVariants.{Bridge, Vlan}
+use Rattle.kern_model.specs.declared.object.Object.{Object}
+use Rattle.kern_model.specs.declared.object.Object.TheVariants as object
+use Rattle.kern_model.specs.ObjectOrder.{Objects, Has}
+use Rattle.kern_model.specs.Kernel as kernel
+use Rattle.kern_model.specs.Kernel.{Devices}
+use Rattle.kern_model.specs.Standing.{places_of, IsOver}
+use Rattle.kern_model.specs.AdmissionTest.{is_among}
+use Rattle.kern_model.specs.Allowed.{are_one_vlan, AreAllowed}
+use Rattle.kern_model.proofs.MemberLemmas.{here, first_or_later, none_in_nil}
+use Rattle.kern_model.proofs.TestLemmas.{both, either, of_left, of_right, bytes_same, same_bytes}
+use Rattle.kern_model.proofs.SetLemmas.{has_retained, of_retained, same_object}
+use Rattle.std.proofs.lemmas.Map.Views.{Contains-from_any}
+use Rattle.kern_calls.specs.Kept.{IsWholePart}
+use Rattle.net_rows.specs.declared.rows.InterfaceRow.{InterfaceRow}
+use Rattle.net_rules.specs.Facts.{Facts}
+use Rattle.net_rules.specs.Rows.{row_at, is_filtering}
+use Rattle.net_rules.specs.RadioPorts.{device_of}
+use Rattle.net_rules.specs.Standing.{Standing, Broken, Alone, Over, Ports, standing_at, lowers_of}
+use Rattle.net_rules.specs.Sound.{IsSound}
+use Rattle.net_rules.specs.Available.{is_present}
+use Rattle.net_rules.specs.Interfaces.{layer_of}
+use Rattle.net_rules.specs.Used.{used}
+use Rattle.net_rules.specs.Want.{want, given}
+use Rattle.net_rules.specs.Wanted.{IsUsedBridge, IsWantedPortVlan, IsGiven}
+use Rattle.net_rules.specs.Footprint.{leads, leads_at, is_down, is_down_from, is_below, is_of, footprint}
+use Rattle.net_rules.proofs.LevelLemmas.{IsLocal, follows}
+use Rattle.net_rules.proofs.StandingLemmas.{vlan_stands, only}
+use Rattle.net_rules.proofs.DeviceLemmas.{rank_down, lower_rank, not_broken, present_alone, used_available}
+use Rattle.net_rules.proofs.GivenLemmas.{IsOn, on_layer}
+use Rattle.net_rules.proofs.WantLemmas.{has_wanted, of_wanted}
+use Rattle.net_rules.proofs.AllowedLemmas.{lower_used, allowed}
+
+leads_same : (f g : List ℕ → Bool) (s : Standing) → ((lower : List ℕ) → Contains (lowers_of s) lower → f lower ≡ g lower) → leads f s ≡ leads g s
+leads_same f g Broken same = refl
+leads_same f g (Alone fit) same = refl
+leads_same f g (Over lower id) same = same lower (here lower [])
+leads_same f g (Ports empty ports) same = refl
+
+module _ (facts : Facts) (sound : IsSound facts.conf) where
+  leads_local : (base : List ℕ) → IsLocal (leads_at facts base) (rank_down facts.conf)
+  leads_local base f g name same = ap (λ b. bytes_eq name base || b) (leads_same f g (standing_at facts name) (λ lower h. same lower (lower_rank facts sound name lower h)))
+
+  down_follows : (name base : List ℕ) → is_down facts name base ≡ leads_at facts base (λ other. is_down facts other base) name
+  unfolding is_down
+  down_follows name base = follows (leads_at facts base) (rank_down facts.conf) (leads_local base) (λ other. omega arith) name
+
+  down_itself : (name : List ℕ) → is_down facts name name ≡ true
+  down_itself name = down_follows name name ∙ of_left (bytes_eq name name) (leads (λ other. is_down facts other name) (standing_at facts name)) (same_bytes name name refl)
+
+  -- what is down from the lower of a VLAN is down from the VLAN
+  down_over : (name lower : List ℕ) (id : ℕ) (base : List ℕ) → standing_at facts name ≡ Over lower id → is_down facts lower base ≡ true → is_down facts name base ≡ true
+  down_over name lower id base is h =
+      down_follows name base ∙ of_right (bytes_eq name base) (leads (λ other. is_down facts other base) (standing_at facts name))
+      (ap (leads (λ other. is_down facts other base)) is ∙ h)
+
+  -- from one name down to a second, and on to a third
+  on_behind : (name second third : List ℕ) (s : Standing) → standing_at facts name ≡ s → ((lower : List ℕ) → rank_down facts.conf lower < rank_down facts.conf name → is_down facts lower second ≡ true → is_down facts lower third ≡ true) → leads (λ other. is_down facts other second) s ≡ true → is_down facts name third ≡ true
+  on_behind name second third Broken is further h = cc h
+  on_behind name second third (Alone fit) is further h = cc h
+  on_behind name second third (Over lower id) is further h = down_over name lower id third is (further lower (lower_rank facts sound name lower (vlan_stands facts name lower id is)) h)
+  on_behind name second third (Ports empty ports) is further h = cc h
+
+  down_on : (fuel : ℕ) (name second third : List ℕ) → rank_down facts.conf name < fuel → is_down facts name second ≡ true → is_down facts second third ≡ true → is_down facts name third ≡ true
+  down_on zero name second third few p q = absurd (omega arith)
+  down_on (suc fuel) name second third few p q =
+      elim (either (bytes_eq name second) (leads (λ other. is_down facts other second) (standing_at facts name)) (sym (down_follows name second) ∙ p)) as (λ _. is_down facts name third ≡ true) [
+        | inl same ↦ subst (λ n. is_down facts n third ≡ true) (sym (bytes_same name second same)) q
+        | inr behind ↦ on_behind name second third (standing_at facts name) refl (λ lower falls h. down_on fuel lower second third (omega arith) h q) behind
+      ]
+
+  down_lower : (name second lower : List ℕ) (id : ℕ) → is_down facts name second ≡ true → standing_at facts second ≡ Over lower id → is_down facts name lower ≡ true
+  down_lower name second lower id p is = down_on 8 name second lower (omega arith) p (down_over second lower id lower is (down_itself lower))
+
+  from_lower : (from : Option (List ℕ)) (name lower : List ℕ) (id : ℕ) → is_down_from facts from name ≡ true → standing_at facts name ≡ Over lower id → is_down_from facts from lower ≡ true
+  from_lower None name lower id p is = cc p
+  from_lower (Some device) name lower id p is = down_lower device name lower id p is
+
+  below_lower : (row : InterfaceRow) (name lower : List ℕ) (id : ℕ) → is_below facts row name ≡ true → standing_at facts name ≡ Over lower id → is_below facts row lower ≡ true
+  below_lower row name lower id p is =
+      elim (either (is_down_from facts (device_of facts row) name) (is_down_from facts (layer_of facts row) name) p) as (λ _. is_below facts row lower ≡ true) [
+        | inl own ↦ of_left (is_down_from facts (device_of facts row) lower) (is_down_from facts (layer_of facts row) lower) (from_lower (device_of facts row) name lower id own is)
+        | inr over ↦ of_right (is_down_from facts (device_of facts row) lower) (is_down_from facts (layer_of facts row) lower) (from_lower (layer_of facts row) name lower id over is)
+      ]
+
+  below_layer : (row : InterfaceRow) (layer : List ℕ) → layer_of facts row ≡ Some layer → is_below facts row layer ≡ true
+  below_layer row layer is = of_right (is_down_from facts (device_of facts row) layer) (is_down_from facts (layer_of facts row) layer) (subst (λ o. is_down_from facts o layer ≡ true) (sym is) (down_itself layer))
+
+in_footprint : (facts : Facts) (row : InterfaceRow) (o : Object) → Has (want facts) o → is_of facts row o ≡ true → Has (footprint facts row) o
+unfolding footprint
+in_footprint facts row o h of = has_retained (want facts) (is_of facts row) o h of
+
+pub of_footprint : (facts : Facts) (row : InterfaceRow) (o : Object) → Has (footprint facts row) o → Has (want facts) o × (is_of facts row o ≡ true)
+unfolding footprint
+of_footprint facts row o h = of_retained (want facts) (is_of facts row) o h
+
+-- in an allowed set
+absent_link : (devices : Devices) (held : Objects) → AreAllowed devices held → (name : List ℕ) (kind : LinkKind) → Has held (object.Link name kind) → kernel.is_present devices name ≡ false
+absent_link devices held allowed name (Bridge mac filtering) h = allowed.supported (object.Link name (Bridge mac filtering)) h
+absent_link devices held allowed name (Vlan lower id mac) h = (allowed.supported (object.Link name (Vlan lower id mac)) h).0
+
+one_link : (devices : Devices) (held : Objects) → AreAllowed devices held → (name : List ℕ) (kind other : LinkKind) → Has held (object.Link name kind) → Has held (object.Link name other) → object.Link name kind ≡ object.Link name other
+one_link devices held allowed name kind other h g = allowed.apart (object.Link name kind) (object.Link name other) h g (of_left (bytes_eq name name) (are_one_vlan kind other) (same_bytes name name refl))
+
+among_member : (xs : List Object) (o : Object) → is_among xs o ≡ true → Contains xs o
+among_member xs o h = Contains-from_any same_object o xs h
+
+-- a name is used, and below the device of the interface or its layer-3 device
+record IsUnder (facts : Facts) (row : InterfaceRow) (name : List ℕ) : Type 0 where
+  serves : used facts name ≡ true
+  below : is_below facts row name ≡ true
+
+module _ (facts : Facts) (devices : Devices) (sound : IsSound facts.conf) (same_devices : (name : List ℕ) → facts.device name ≡ map.get devices name) (row : InterfaceRow) (held : Objects) (admitted : AreAllowed devices held) (has : (o : Object) → Has (footprint facts row) o → Has held o) where
+  -- a held link of a used name below the interface is of the footprint
+  link_as : (name : List ℕ) (kind : LinkKind) (s : Standing) → standing_at facts name ≡ s → IsUnder facts row name → Has held (object.Link name kind) → Has (footprint facts row) (object.Link name kind)
+  link_as name kind Broken is under h = absurd (not_broken facts sound name is (used_available facts sound name under.serves))
+  link_as name kind (Alone fit) is under h = cc (sym (ap is_some (same_devices name)) ∙ present_alone facts sound name fit is (used_available facts sound name under.serves), absent_link devices held admitted name kind h)
+  link_as name kind (Over lower id) is under h =
+      let made = Vlan lower id (row_at facts.conf.names name).mac in
+      let own = in_footprint facts row (object.Link name made) (has_wanted facts sound (object.Link name made) (record { standing = is; mac_is = refl; used = under.serves })) under.below in
+      subst (Has (footprint facts row)) (one_link devices held admitted name made kind (has (object.Link name made) own) h) own
+  link_as name kind (Ports empty ports) is under h =
+      let made = Bridge (row_at facts.conf.names name).mac (is_filtering facts.conf name) in
+      let b : IsUsedBridge facts name ports = record { empty = empty; standing = is; used = under.serves } in
+      let own = in_footprint facts row (object.Link name made) (has_wanted facts sound (object.Link name made) (record { ports = ports; bridge = b; mac_is = refl; filters = refl })) under.below in
+      subst (Has (footprint facts row)) (one_link devices held admitted name made kind (has (object.Link name made) own) h) own
+
+  lower_under : (name lower : List ℕ) (id : ℕ) → standing_at facts name ≡ Over lower id → IsUnder facts row name → IsUnder facts row lower
+  lower_under name lower id is under = record { serves = lower_used facts devices sound same_devices name lower id is under.serves; below = below_lower facts sound row name lower id under.below is }
+
+  -- a held link that a used name below the interface is over is of the footprint too
+  base_of : (base name : List ℕ) (kind : LinkKind) → Has held (object.Link base kind) → IsOver held base name → IsUnder facts row name → Has (footprint facts row) (object.Link base kind)
+  base_of base name kind h IsOver.itself under = link_as base kind (standing_at facts base) refl under h
+  base_of base top kind h (IsOver.above name lower id mac link over) under =
+      let own = of_footprint facts row (object.Link name (Vlan lower id mac)) (link_as name (Vlan lower id mac) (standing_at facts name) refl under link) in
+      let vlan = of_wanted facts sound (object.Link name (Vlan lower id mac)) own.0 in
+      base_of base lower kind h over (lower_under name lower id vlan.standing under)
+
+  -- the bridge of a VLAN that is set on a port
+  bridge_used : (bridge port : List ℕ) (id : ℕ) (pvid untagged : Bool) → IsWantedPortVlan facts bridge port id pvid untagged → used facts bridge ≡ true
+  bridge_used bridge port id pvid untagged (IsWantedPortVlan.entry r e set member w) = w.bridge_used.used
+  bridge_used bridge port id pvid untagged (IsWantedPortVlan.itself r ports set local b) = b.used
+
+  layer_under : (o : Object) (dev : List ℕ) → ((layer : List ℕ) → IsOn layer o → dev ≡ layer) → used facts dev ≡ true → Contains (given facts row) o → IsUnder facts row dev
+  layer_under o dev on_dev serves h =
+      let on = on_layer facts row o h in
+      record { serves = serves; below = subst (λ n. is_below facts row n ≡ true) (sym (on_dev on.layer on.on)) (below_layer facts sound row on.layer on.layer_is) }
+
+  up_used : (dev : List ℕ) → Has (want facts) (object.Up dev) → used facts dev ≡ true
+  up_used dev h = of_wanted facts sound (object.Up dev) h
+
+  -- the names that an object of the footprint is at
+  place_of : (o : Object) (place : List ℕ) → Has (want facts) o → is_of facts row o ≡ true → Contains (places_of o) place → IsUnder facts row place
+  place_of (object.Link name (Bridge mac filtering)) place h of at = absurd (none_in_nil place at)
+  place_of (object.Link name (Vlan lower id mac)) place h of at =
+      let vlan = of_wanted facts sound (object.Link name (Vlan lower id mac)) h in
+      let under : IsUnder facts row name = record { serves = vlan.used; below = of } in
+      subst (IsUnder facts row) (only lower place at) (lower_under name lower id vlan.standing under)
+  place_of (object.Mtu name mtu) place h of at = subst (IsUnder facts row) (only name place at) (record { serves = (of_wanted facts sound (object.Mtu name mtu) h).used; below = of })
+  place_of (object.Mac name mac) place h of at = subst (IsUnder facts row) (only name place at) (record { serves = (of_wanted facts sound (object.Mac name mac) h).used; below = of })
+  place_of (object.Master port bridge) place h of at = cc of
+  place_of (object.Vlan bridge port id pvid untagged) place h of at =
+      let parts = both (bytes_eq port bridge) (is_below facts row bridge) of in
+      let under : IsUnder facts row bridge = record { serves = bridge_used bridge port id pvid untagged (of_wanted facts sound (object.Vlan bridge port id pvid untagged) h); below = parts.1 } in
+      elim (first_or_later port (bridge ∷ []) place at) as (λ _. IsUnder facts row place) [
+        | inl at_port ↦ subst (IsUnder facts row) (sym (bytes_same port bridge parts.0) ∙ at_port) under
+        | inr at_bridge ↦ subst (IsUnder facts row) (only bridge place at_bridge) under
+      ]
+  place_of (object.Up name) place h of at = subst (IsUnder facts row) (only name place at) (record { serves = up_used name h; below = of })
+  place_of (object.Address dev cidr) place h of at = subst (IsUnder facts row) (only dev place at) (layer_under (object.Address dev cidr) dev (λ layer on. on) (up_used dev ((allowed facts devices sound same_devices).supported (object.Address dev cidr) h)) (among_member (given facts row) (object.Address dev cidr) of))
+  place_of (object.Route r) place h of at = subst (IsUnder facts row) (only r.dev place at) (layer_under (object.Route r) r.dev (λ layer on. on) (up_used r.dev ((allowed facts devices sound same_devices).supported (object.Route r) h)) (among_member (given facts row) (object.Route r) of))
+
+  pub whole_part : (wanted : Objects) → ((o : Object) → Has (footprint facts row) o → Has wanted o) → IsWholePart held wanted (footprint facts row)
+  whole_part wanted stays = record {
+    was = has;
+    stays = stays;
+    whole = λ o place base kind h at link over. let own = of_footprint facts row o h in base_of base place kind link over (place_of o place own.0 own.1 at);
+  }

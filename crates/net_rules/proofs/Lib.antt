@@ -1,0 +1,13 @@
+pub mod Examples
+pub mod ListLemmas
+pub mod LevelLemmas
+pub mod StandingLemmas
+pub mod DeviceLemmas
+pub mod GivenLemmas
+pub mod WantLemmas
+pub mod AllowedLemmas
+pub mod FootprintLemmas
+pub mod TableLemmas
+pub mod MomentLemmas
+pub mod NeedLemmas
+pub mod StretchLemmas

@@ -1,0 +1,51 @@
+-- The objects of what an interface stands on.
+use Rattle.std.specs.Prelude.{ℕ, List, Bool, false, ◌&&◌, ◌||◌, Option, Some, None, bytes_eq}
+use Rattle.std.specs.FinSet as set
+use Rattle.kern_model.specs.declared.object.Object.{Object}
+use Rattle.kern_model.specs.declared.object.Object.TheVariants as object
+use Rattle.kern_model.specs.ObjectOrder.{Objects}
+use Rattle.kern_model.specs.AdmissionTest.{is_among}
+use Rattle.net_rows.specs.declared.rows.InterfaceRow.{InterfaceRow}
+use Rattle.net_rules.specs.Levels.{by_levels}
+use Rattle.net_rules.specs.Facts.{Facts}
+use Rattle.net_rules.specs.RadioPorts.{device_of}
+use Rattle.net_rules.specs.Standing.{Standing, Broken, Alone, Over, Ports, standing_at}
+use Rattle.net_rules.specs.Interfaces.{layer_of}
+use Rattle.net_rules.specs.Want.{given, want}
+
+-- by what is below, whether VLANs lead down to a name
+abbrev pub leads : (List ℕ → Bool) → Standing → Bool
+leads below Broken = false
+leads below (Alone sound) = false
+leads below (Over lower id) = below lower
+leads below (Ports empty ports) = false
+
+abbrev pub leads_at : Facts → List ℕ → (List ℕ → Bool) → List ℕ → Bool
+leads_at facts base below name = bytes_eq name base || leads below (standing_at facts name)
+
+-- the base is the name, or the lower of VLANs from there on down
+unfoldable pub is_down : Facts → List ℕ → List ℕ → Bool
+is_down facts name base = by_levels 8 (leads_at facts base) name
+
+abbrev pub is_down_from : Facts → Option (List ℕ) → List ℕ → Bool
+is_down_from facts None base = false
+is_down_from facts (Some name) base = is_down facts name base
+
+-- the name is the device of an interface or its layer-3 device, or the lower of VLANs among these all the way down
+abbrev pub is_below : Facts → InterfaceRow → List ℕ → Bool
+is_below facts row name = is_down_from facts (device_of facts row) name || is_down_from facts (layer_of facts row) name
+
+-- links, MTUs, hardware addresses and names that are up, of these names; VLANs of bridges that are set on these names
+-- themselves; and the addresses and routes of the interface
+abbrev pub is_of : Facts → InterfaceRow → Object → Bool
+is_of facts row (object.Link name kind) = is_below facts row name
+is_of facts row (object.Mtu name mtu) = is_below facts row name
+is_of facts row (object.Mac name mac) = is_below facts row name
+is_of facts row (object.Master port bridge) = false
+is_of facts row (object.Vlan bridge port id pvid untagged) = bytes_eq port bridge && is_below facts row bridge
+is_of facts row (object.Up name) = is_below facts row name
+is_of facts row (object.Address dev cidr) = is_among (given facts row) (object.Address dev cidr)
+is_of facts row (object.Route r) = is_among (given facts row) (object.Route r)
+
+unfoldable pub footprint : Facts → InterfaceRow → Objects
+footprint facts row = set.retain (want facts) (is_of facts row)

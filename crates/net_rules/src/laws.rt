@@ -1,0 +1,94 @@
+// Laws of the definitions. Each body is empty, and the contract is the law.
+ghost use Rattle.std.specs.Prelude.{◌≡◌, ◌↔◌, ℕ, List, Option, Contains};
+ghost use Rattle.std.specs.FinMap as map;
+ghost use Rattle.kern_model.specs.declared.object.Object.{Object};
+ghost use Rattle.kern_model.specs.declared.object.Call.{Call};
+ghost use Rattle.kern_model.specs.declared.object.Device.{Device};
+ghost use Rattle.kern_model.specs.declared.object.DevEvent.{DevEvent};
+ghost use Rattle.kern_model.specs.ObjectOrder.{Objects, Has};
+ghost use Rattle.kern_model.specs.Kernel.{Devices, map_of, after_event, object_of};
+ghost use Rattle.kern_model.specs.Allowed.{AreAllowed};
+ghost use Rattle.kern_model.specs.CallOrder.{AreCalls};
+ghost use Rattle.net_rows.specs.declared.rows.InterfaceRow.{InterfaceRow};
+ghost use Rattle.net_rules.specs.declared.answer.Answer.{Answer};
+ghost use Rattle.net_rules.specs.declared.inputs.Inputs.{Inputs};
+ghost use Rattle.net_rules.specs.Facts.{Facts};
+ghost use Rattle.net_rules.specs.Sound.{IsSound};
+ghost use Rattle.net_rules.specs.Available.{opens_at, available, links_at, link};
+ghost use Rattle.net_rules.specs.Used.{serves_at, used};
+ghost use Rattle.net_rules.specs.Need.{interface_need};
+ghost use Rattle.net_rules.specs.Want.{want};
+ghost use Rattle.net_rules.specs.Wanted.{IsWanted};
+ghost use Rattle.net_rules.specs.Footprint.{footprint};
+ghost use Rattle.net_rules.specs.After.{devices_after};
+ghost use Rattle.net_rules.specs.Moment.{Moment, devices_of, want_of, footprint_named, AreWithin, IsStretch};
+
+/// Over sound rows eight levels are enough: a name is available, has link and is used as what is below and above it says.
+pub fn answers_follow_the_rows()
+    ensures available { (facts : Facts) → IsSound facts.conf
+        → (name : List ℕ) → available facts name ≡ opens_at facts (available facts) name }
+    ensures link { (facts : Facts) → IsSound facts.conf
+        → (name : List ℕ) → link facts name ≡ links_at facts (link facts) name }
+    ensures used { (facts : Facts) → IsSound facts.conf
+        → (name : List ℕ) → used facts name ≡ serves_at facts (used facts) name }
+{}
+
+/// What is wanted, by the kinds of objects.
+pub fn objects_are_wanted()
+    ensures { (facts : Facts) → IsSound facts.conf
+        → (o : Object) → Has (want facts) o ↔ IsWanted facts o }
+{}
+
+/// What sound rows want is allowed by the kernel beside the present devices, whatever commands and answers there are.
+pub fn want_is_allowed()
+    ensures { (facts : Facts) (devices : Devices) → IsSound facts.conf
+        → ((name : List ℕ) → facts.device name ≡ map.get devices name)
+        → AreAllowed devices (want facts) }
+{}
+
+/// The devices of inputs, as a list, are after an event what those of a kernel are.
+pub fn devices_follow_the_kernel()
+    ensures { (devices : List (List ℕ × Device)) (what : DevEvent)
+        → map_of (devices_after devices what) ≡ after_event (map_of devices) what }
+{}
+
+/// What sound inputs want is allowed beside their devices.
+pub fn inputs_want_what_is_allowed()
+    ensures { (inputs : Inputs) → IsSound inputs.conf
+        → AreAllowed (devices_of inputs) (want_of inputs) }
+{}
+
+/// What the handler of an interface is asked depends on no answer of a handler of an interface. What that of a radio is asked depends
+/// on its row alone, since `radio_need` is given nothing else.
+pub fn no_answer_changes_a_need()
+    ensures { (facts : Facts) (answer : List ℕ → Option Answer) (row : InterfaceRow)
+        → interface_need (record facts { answer = answer }) row ≡ interface_need facts row }
+{}
+
+/// Where an allowed set of held objects and a wanted one both have the footprint of an interface, no call between them names an object
+/// of it. The held ones need not have been wanted as a whole: a settling may have stopped.
+pub fn footprint_is_not_touched()
+    ensures { (facts : Facts) (devices : Devices) (row : InterfaceRow) (held wanted : Objects)
+        → IsSound facts.conf → ((name : List ℕ) → facts.device name ≡ map.get devices name)
+        → AreAllowed devices held → AreWithin (footprint facts row) held
+        → AreWithin (footprint facts row) wanted → (others : Devices) (calls : List Call)
+        → AreCalls others held wanted calls → (call : Call) → Contains calls call
+        → Has (footprint facts row) (object_of call) → ⊥ }
+{}
+
+/// A footprint that is the same in what two inputs want is named by no call from the one to the other.
+pub fn same_footprint_is_not_touched()
+    ensures { (before now : Inputs) (name : List ℕ) (devices : Devices) (calls : List Call)
+        → IsSound before.conf → footprint_named before name ≡ footprint_named now name
+        → AreCalls devices (want_of before) (want_of now) calls → (call : Call)
+        → Contains calls call → Has (footprint_named before name) (object_of call) → ⊥ }
+{}
+
+/// From a settled moment on, no call of a stretch over which the footprint of an interface stayed names an object of it, whatever
+/// events come and wherever settlings stop.
+pub fn no_call_names_what_stayed()
+    ensures { (moment : Moment) (name : List ℕ) (calls : List Call)
+        → IsSound moment.inputs.conf → moment.held ≡ want_of moment.inputs
+        → IsStretch name (footprint_named moment.inputs name) moment calls → (call : Call)
+        → Contains calls call → Has (footprint_named moment.inputs name) (object_of call) → ⊥ }
+{}

@@ -1,0 +1,18 @@
+//! What a network wants of the kernel, as definitions over its rows, with their laws.
+#![tactic(auto)]
+
+mod answer;
+mod ask;
+mod event;
+mod inputs;
+mod laws;
+
+pub use answer::{Answer, AnswerRoute};
+pub use ask::{InterfaceAsk, RadioAsk, WifiAsk};
+pub use event::{Event, Notice};
+pub use inputs::{Command, Inputs, OpenInterface, OpenRadio};
+pub use laws::{
+    answers_follow_the_rows, devices_follow_the_kernel, footprint_is_not_touched,
+    inputs_want_what_is_allowed, no_answer_changes_a_need, no_call_names_what_stayed,
+    objects_are_wanted, same_footprint_is_not_touched, want_is_allowed,
+};
