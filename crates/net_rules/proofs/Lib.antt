@@ -9,5 +9,11 @@ pub mod AllowedLemmas
 pub mod FootprintLemmas
 pub mod TableLemmas
 pub mod MomentLemmas
+pub mod OnceLemmas
+pub mod SameLemmas
+pub mod AskLemmas
+pub mod AfterLemmas
+pub mod ReachedLemmas
+pub mod FreshLemmas
 pub mod NeedLemmas
 pub mod StretchLemmas

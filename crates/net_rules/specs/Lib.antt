@@ -36,3 +36,5 @@ pub mod After
 pub mod Notices
 -- a moment of a network and its kernel
 pub mod Moment
+-- which inputs events lead to, and what a fresh start on them is
+pub mod Fresh

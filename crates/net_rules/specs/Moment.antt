@@ -10,7 +10,6 @@ use Rattle.kern_model.specs.CallOrder.{AreCalls, after_calls}
 use Rattle.net_rules.specs.declared.inputs.Inputs.{Inputs}
 use Rattle.net_rules.specs.declared.event.Event.{Event}
 use Rattle.net_rules.specs.declared.event.Event.TheVariants as event
-use Rattle.net_rules.specs.Facts.{Facts}
 use Rattle.net_rules.specs.Rows.{interface_named}
 use Rattle.net_rules.specs.Sound.{IsSound}
 use Rattle.net_rules.specs.Inputs.{facts_of}

@@ -1,5 +1,5 @@
 // Laws of the definitions. Each body is empty, and the contract is the law.
-ghost use Rattle.std.specs.Prelude.{◌≡◌, ◌↔◌, ℕ, List, Option, Contains};
+ghost use Rattle.std.specs.Prelude.{◌≡◌, ◌↔◌, ℕ, List, Option, Some, Contains};
 ghost use Rattle.std.specs.FinMap as map;
 ghost use Rattle.kern_model.specs.declared.object.Object.{Object};
 ghost use Rattle.kern_model.specs.declared.object.Call.{Call};
@@ -12,6 +12,9 @@ ghost use Rattle.kern_model.specs.CallOrder.{AreCalls};
 ghost use Rattle.net_rows.specs.declared.rows.InterfaceRow.{InterfaceRow};
 ghost use Rattle.net_rules.specs.declared.answer.Answer.{Answer};
 ghost use Rattle.net_rules.specs.declared.inputs.Inputs.{Inputs};
+ghost use Rattle.net_rules.specs.declared.inputs.OpenInterface.{OpenInterface};
+ghost use Rattle.net_rules.specs.declared.inputs.OpenRadio.{OpenRadio};
+ghost use Rattle.net_rules.specs.declared.event.Event.TheVariants as event;
 ghost use Rattle.net_rules.specs.Facts.{Facts};
 ghost use Rattle.net_rules.specs.Sound.{IsSound};
 ghost use Rattle.net_rules.specs.Available.{opens_at, available, links_at, link};
@@ -20,7 +23,9 @@ ghost use Rattle.net_rules.specs.Need.{interface_need};
 ghost use Rattle.net_rules.specs.Want.{want};
 ghost use Rattle.net_rules.specs.Wanted.{IsWanted};
 ghost use Rattle.net_rules.specs.Footprint.{footprint};
-ghost use Rattle.net_rules.specs.After.{devices_after};
+ghost use Rattle.net_rules.specs.Inputs.{facts_of, open_interface, open_radio};
+ghost use Rattle.net_rules.specs.After.{devices_after, after};
+ghost use Rattle.net_rules.specs.Fresh.{IsReached, AreAsked, fresh_start};
 ghost use Rattle.net_rules.specs.Moment.{Moment, devices_of, want_of, footprint_named, AreWithin, IsStretch};
 
 /// Over sound rows eight levels are enough: a name is available, has link and is used as what is below and above it says.
@@ -91,4 +96,31 @@ pub fn no_call_names_what_stayed()
         → IsSound moment.inputs.conf → moment.held ≡ want_of moment.inputs
         → IsStretch name (footprint_named moment.inputs name) moment calls → (call : Call)
         → Contains calls call → Has (footprint_named moment.inputs name) (object_of call) → ⊥ }
+{}
+
+/// Whatever events come, behind each one every interface and every radio has an open ask exactly where it has a need, and that ask is
+/// its need.
+pub fn asks_are_the_needs()
+    ensures { (inputs : Inputs) → IsReached inputs → AreAsked inputs }
+{}
+
+/// An answer to a number that is not that of the open ask changes nothing.
+pub fn stale_answers_change_nothing()
+    ensures interface { (inputs : Inputs) → IsReached inputs → (interface : List ℕ) (number : ℕ)
+        (answer : Answer) → ((o : OpenInterface)
+        → open_interface inputs.interfaces interface ≡ Some o → o.number ≡ number → ⊥)
+        → after inputs (event.Answer interface number answer) ≡ inputs }
+    ensures radio { (inputs : Inputs) → IsReached inputs → (radio : List ℕ) (number : ℕ)
+        (ports : List (Option (List ℕ))) → ((o : OpenRadio)
+        → open_radio inputs.radios radio ≡ Some o → o.number ≡ number → ⊥)
+        → after inputs (event.Radio radio number ports) ≡ inputs }
+{}
+
+/// A fresh start comes to the same facts, and so wants the same: from nothing each present device comes, the rows are loaded, each last
+/// command is given, then the latest answers of radios, and then those of interfaces, to the asks that are open by then.
+pub fn a_fresh_start_wants_the_same()
+    ensures facts { (inputs : Inputs) → IsReached inputs
+        → facts_of (fresh_start inputs) ≡ facts_of inputs }
+    ensures want { (inputs : Inputs) → IsReached inputs
+        → want_of (fresh_start inputs) ≡ want_of inputs }
 {}

@@ -12,7 +12,8 @@ pub use ask::{InterfaceAsk, RadioAsk, WifiAsk};
 pub use event::{Event, Notice};
 pub use inputs::{Command, Inputs, OpenInterface, OpenRadio};
 pub use laws::{
-    answers_follow_the_rows, devices_follow_the_kernel, footprint_is_not_touched,
-    inputs_want_what_is_allowed, no_answer_changes_a_need, no_call_names_what_stayed,
-    objects_are_wanted, same_footprint_is_not_touched, want_is_allowed,
+    a_fresh_start_wants_the_same, answers_follow_the_rows, asks_are_the_needs,
+    devices_follow_the_kernel, footprint_is_not_touched, inputs_want_what_is_allowed,
+    no_answer_changes_a_need, no_call_names_what_stayed, objects_are_wanted,
+    same_footprint_is_not_touched, stale_answers_change_nothing, want_is_allowed,
 };
