@@ -23,6 +23,8 @@ use Rattle.net_rules.specs.Available.{available, link}
 use Rattle.net_rules.specs.Used.{used, users}
 use Rattle.net_rules.specs.Want.{wanted_list}
 use Rattle.net_rules.specs.After.{after}
+use Rattle.net_rules.specs.declared.refusal.Refusal.TheVariants as refused
+use Rattle.net_rules.specs.Refusal.{refusal}
 use Rattle.net_rules.specs.Notices.{notices}
 
 abbrev name_row : List ℕ → NameKind → ℕ → NameRow
@@ -184,3 +186,8 @@ port_joins = refl
 counted : (users (facts_of (router_with ((lan1, present true) ∷ []))) br-lan ≡ 1) × (users (facts_of (router_with ((lan1, present true) ∷ []))) lan1 ≡ 1) × (users (facts_of (router_with ((lan1, present true) ∷ []))) lan2 ≡ 0)
 unfolding available link used by_levels
 counted = (refl, refl, refl)
+
+-- an answer to a number that is not open, a device that is there, and a name that stands for a VLAN
+refusals : (refusal asked (address_given 2) ≡ Some (refused.Stale 2 1)) × (refusal asked (come wan) ≡ Some refused.Known) × (refusal asked (come (codes "wan.7")) ≡ Some refused.Known)
+unfolding after available link by_levels
+refusals = (refl, refl, refl)

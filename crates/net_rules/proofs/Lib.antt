@@ -3,6 +3,7 @@ pub mod ListLemmas
 pub mod LevelLemmas
 pub mod StandingLemmas
 pub mod DeviceLemmas
+pub mod UserLemmas
 pub mod GivenLemmas
 pub mod WantLemmas
 pub mod AllowedLemmas

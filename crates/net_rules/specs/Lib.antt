@@ -38,3 +38,5 @@ pub mod Notices
 pub mod Moment
 -- which inputs events lead to, and what a fresh start on them is
 pub mod Fresh
+-- which events are refused
+pub mod Refusal

@@ -1,5 +1,5 @@
 // Laws of the definitions. Each body is empty, and the contract is the law.
-ghost use Rattle.std.specs.Prelude.{◌≡◌, ◌↔◌, ℕ, List, Option, Some, Contains};
+ghost use Rattle.std.specs.Prelude.{◌≡◌, ◌↔◌, ℕ, List, Option, Some, Contains, true, ◌<◌};
 ghost use Rattle.std.specs.FinMap as map;
 ghost use Rattle.kern_model.specs.declared.object.Object.{Object};
 ghost use Rattle.kern_model.specs.declared.object.Call.{Call};
@@ -18,7 +18,7 @@ ghost use Rattle.net_rules.specs.declared.event.Event.TheVariants as event;
 ghost use Rattle.net_rules.specs.Facts.{Facts};
 ghost use Rattle.net_rules.specs.Sound.{IsSound};
 ghost use Rattle.net_rules.specs.Available.{opens_at, available, links_at, link};
-ghost use Rattle.net_rules.specs.Used.{serves_at, used};
+ghost use Rattle.net_rules.specs.Used.{serves_at, used, users};
 ghost use Rattle.net_rules.specs.Need.{interface_need};
 ghost use Rattle.net_rules.specs.Want.{want};
 ghost use Rattle.net_rules.specs.Wanted.{IsWanted};
@@ -36,6 +36,12 @@ pub fn answers_follow_the_rows()
         → (name : List ℕ) → link facts name ≡ links_at facts (link facts) name }
     ensures used { (facts : Facts) → IsSound facts.conf
         → (name : List ℕ) → used facts name ≡ serves_at facts (used facts) name }
+{}
+
+/// A name is used exactly where it has users.
+pub fn used_names_have_users()
+    ensures { (facts : Facts) → IsSound facts.conf
+        → (name : List ℕ) → (used facts name ≡ true) ↔ (0 < users facts name) }
 {}
 
 /// What is wanted, by the kinds of objects.
