@@ -18,3 +18,4 @@ pub mod ReachedLemmas
 pub mod FreshLemmas
 pub mod NeedLemmas
 pub mod StretchLemmas
+pub mod HistoryLemmas

@@ -102,13 +102,19 @@ allowed_as moment (event.Operator interface up) admits comes = admits
 allowed_as moment (event.Answer interface number answer) admits comes = admits
 allowed_as moment (event.Radio radio number ports) admits comes = admits
 
+pub sound_after : (moment : Moment) (event : Event) → IsSound moment.inputs.conf → MayCome moment event → IsSound (moment_after moment event).inputs.conf
+sound_after moment event sound comes = subst IsSound (sym (conf_follows moment.inputs event)) (sound_as moment event sound comes)
+
+pub allowed_after : (moment : Moment) (event : Event) → AreAllowed (devices_of moment.inputs) moment.held → MayCome moment event → AreAllowed (devices_of (moment_after moment event).inputs) (moment_after moment event).held
+allowed_after moment event admits comes = subst (λ es. AreAllowed (map_of es) (held_after moment.held event)) (sym (present_follows moment.inputs event)) (allowed_as moment event admits comes)
+
 module _ (name : List ℕ) (some : Objects) where
   keeps_after : (moment : Moment) (event : Event) → Keeps name some moment → MayCome moment event → footprint_named (after moment.inputs event) name ≡ some → LeavesHeld some moment.held event → Keeps name some (moment_after moment event)
   keeps_after moment event keeps comes same leaves = record {
-    sound = subst IsSound (sym (conf_follows moment.inputs event)) (sound_as moment event keeps.sound comes);
+    sound = sound_after moment event keeps.sound comes;
     same = same;
     among = λ o h. leaves o h (keeps.among o h);
-    admits = subst (λ es. AreAllowed (map_of es) (held_after moment.held event)) (sym (present_follows moment.inputs event)) (allowed_as moment event keeps.admits comes);
+    admits = allowed_after moment event keeps.admits comes;
   }
 
   -- no call of a settling names an object of the footprint

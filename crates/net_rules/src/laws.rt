@@ -8,7 +8,7 @@ ghost use Rattle.kern_model.specs.declared.object.DevEvent.{DevEvent};
 ghost use Rattle.kern_model.specs.ObjectOrder.{Objects, Has};
 ghost use Rattle.kern_model.specs.Kernel.{Devices, map_of, after_event, object_of};
 ghost use Rattle.kern_model.specs.Allowed.{AreAllowed};
-ghost use Rattle.kern_model.specs.CallOrder.{AreCalls};
+ghost use Rattle.kern_model.specs.CallOrder.{AreCalls, AreAdmitted, after_calls};
 ghost use Rattle.net_rows.specs.declared.rows.InterfaceRow.{InterfaceRow};
 ghost use Rattle.net_rules.specs.declared.answer.Answer.{Answer};
 ghost use Rattle.net_rules.specs.declared.inputs.Inputs.{Inputs};
@@ -26,7 +26,8 @@ ghost use Rattle.net_rules.specs.Footprint.{footprint};
 ghost use Rattle.net_rules.specs.Inputs.{facts_of, open_interface, open_radio};
 ghost use Rattle.net_rules.specs.After.{devices_after, after};
 ghost use Rattle.net_rules.specs.Fresh.{IsReached, AreAsked, fresh_start};
-ghost use Rattle.net_rules.specs.Moment.{Moment, devices_of, want_of, footprint_named, AreWithin, IsStretch};
+ghost use Rattle.net_rules.specs.Moment.{Moment, devices_of, want_of, footprint_named};
+ghost use Rattle.net_rules.specs.Moment.{AreWithin, IsStretch, IsHistory, IsOrderly};
 
 /// Over sound rows eight levels are enough: a name is available, has link and is used as what is below and above it says.
 pub fn answers_follow_the_rows()
@@ -74,6 +75,18 @@ pub fn inputs_want_what_is_allowed()
 pub fn no_answer_changes_a_need()
     ensures { (facts : Facts) (answer : List ℕ → Option Answer) (row : InterfaceRow)
         → interface_need (record facts { answer = answer }) row ≡ interface_need facts row }
+{}
+
+/// Whatever events come and wherever settlings stop, what is held and what is wanted is allowed by the kernel. Each call of a settling
+/// is admitted in its turn, and behind all of them the kernel holds exactly what is wanted.
+pub fn every_history_is_orderly()
+    ensures kept { (moment : Moment) → IsHistory moment → IsOrderly moment }
+    ensures admitted { (moment : Moment) (calls : List Call) → IsHistory moment
+        → AreCalls (devices_of moment.inputs) moment.held (want_of moment.inputs) calls
+        → AreAdmitted (devices_of moment.inputs) moment.held calls }
+    ensures reached { (moment : Moment) (calls : List Call) → IsHistory moment
+        → AreCalls (devices_of moment.inputs) moment.held (want_of moment.inputs) calls
+        → after_calls moment.held calls ≡ want_of moment.inputs }
 {}
 
 /// Where an allowed set of held objects and a wanted one both have the footprint of an interface, no call between them names an object
