@@ -19,3 +19,4 @@ pub mod FreshLemmas
 pub mod NeedLemmas
 pub mod StretchLemmas
 pub mod HistoryLemmas
+pub mod NumberLemmas

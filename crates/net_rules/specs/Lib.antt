@@ -40,3 +40,5 @@ pub mod Moment
 pub mod Fresh
 -- which events are refused
 pub mod Refusal
+-- the numbers of open asks
+pub mod Numbers

@@ -1,5 +1,5 @@
 // Laws of the definitions. Each body is empty, and the contract is the law.
-ghost use Rattle.std.specs.Prelude.{◌≡◌, ◌↔◌, ℕ, List, Option, Some, Contains, true, ◌<◌};
+ghost use Rattle.std.specs.Prelude.{◌≡◌, ◌↔◌, ℕ, List, Option, Some, Contains, true, ◌<◌, ◌≤◌};
 ghost use Rattle.std.specs.FinMap as map;
 ghost use Rattle.kern_model.specs.declared.object.Object.{Object};
 ghost use Rattle.kern_model.specs.declared.object.Call.{Call};
@@ -14,6 +14,7 @@ ghost use Rattle.net_rules.specs.declared.answer.Answer.{Answer};
 ghost use Rattle.net_rules.specs.declared.inputs.Inputs.{Inputs};
 ghost use Rattle.net_rules.specs.declared.inputs.OpenInterface.{OpenInterface};
 ghost use Rattle.net_rules.specs.declared.inputs.OpenRadio.{OpenRadio};
+ghost use Rattle.net_rules.specs.declared.event.Event.{Event};
 ghost use Rattle.net_rules.specs.declared.event.Event.TheVariants as event;
 ghost use Rattle.net_rules.specs.Facts.{Facts};
 ghost use Rattle.net_rules.specs.Sound.{IsSound};
@@ -25,6 +26,7 @@ ghost use Rattle.net_rules.specs.Wanted.{IsWanted};
 ghost use Rattle.net_rules.specs.Footprint.{footprint};
 ghost use Rattle.net_rules.specs.Inputs.{facts_of, open_interface, open_radio};
 ghost use Rattle.net_rules.specs.After.{devices_after, after};
+ghost use Rattle.net_rules.specs.Numbers.{AreNumbered};
 ghost use Rattle.net_rules.specs.Fresh.{IsReached, AreAsked, fresh_start};
 ghost use Rattle.net_rules.specs.Moment.{Moment, devices_of, want_of, footprint_named};
 ghost use Rattle.net_rules.specs.Moment.{AreWithin, IsStretch, IsHistory, IsOrderly};
@@ -121,6 +123,12 @@ pub fn no_call_names_what_stayed()
 /// its need.
 pub fn asks_are_the_needs()
     ensures { (inputs : Inputs) → IsReached inputs → AreAsked inputs }
+{}
+
+/// Each open ask has a number of its own below the next one, which never falls: no number is given twice.
+pub fn no_number_is_given_twice()
+    ensures numbered { (inputs : Inputs) → IsReached inputs → AreNumbered inputs }
+    ensures rises { (inputs : Inputs) (event : Event) → inputs.next ≤ (after inputs event).next }
 {}
 
 /// An answer to a number that is not that of the open ask changes nothing.
