@@ -15,9 +15,12 @@ use Rattle.net_rules.specs.Rows.{is_bridge_kind, ports_of_kind}
 use Rattle.net_rules.specs.Standing.{Standing, Over, standing_of, lowers_of}
 use Rattle.net_rules.specs.Sound.{IsSound}
 use Rattle.net_rules.specs.Inputs.{no_conf}
+use Rattle.net_rules.specs.Want.{want}
+use Rattle.net_rules.specs.Fresh.{IsReached, fresh_start}
 use Rattle.net_rules.specs.Moment.{devices_of, want_of, Moment, IsHistory, IsOrderly}
 use Rattle.net_rules.proofs.StandingLemmas.{rowless_alone, none_owned}
 use Rattle.net_rules.proofs.MomentLemmas.{conf_follows, present_follows}
+use Rattle.net_rules.proofs.FreshLemmas.{fresh_facts}
 use Rattle.net_rules.proofs.StretchLemmas.{inputs_allowed, sound_after, allowed_after}
 
 -- no rows are sound rows
@@ -73,3 +76,11 @@ history_admits moment calls history are = let was = orderly moment history in ad
 
 pub history_reaches : (moment : Moment) (calls : List Call) → IsHistory moment → AreCalls (devices_of moment.inputs) moment.held (want_of moment.inputs) calls → after_calls moment.held calls ≡ want_of moment.inputs
 history_reaches moment calls history are = let was = orderly moment history in reached (devices_of moment.inputs) moment.held (want_of moment.inputs) calls was.held_allowed was.wanted_allowed are
+
+history_reached : (moment : Moment) → IsHistory moment → IsReached moment.inputs
+history_reached moment IsHistory.nothing = IsReached.nothing
+history_reached moment (IsHistory.came before event history comes) = IsReached.behind before.inputs event (history_reached before history)
+history_reached moment (IsHistory.settled before made rest history are) = history_reached before history
+
+pub history_as_fresh : (moment : Moment) (calls : List Call) → IsHistory moment → AreCalls (devices_of moment.inputs) moment.held (want_of moment.inputs) calls → after_calls moment.held calls ≡ want_of (fresh_start moment.inputs)
+history_as_fresh moment calls history are = history_reaches moment calls history are ∙ sym (ap want (fresh_facts moment.inputs (history_reached moment history)))

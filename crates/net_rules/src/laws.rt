@@ -80,7 +80,7 @@ pub fn no_answer_changes_a_need()
 {}
 
 /// Whatever events come and wherever settlings stop, what is held and what is wanted is allowed by the kernel. Each call of a settling
-/// is admitted in its turn, and behind all of them the kernel holds exactly what is wanted.
+/// is admitted in its turn, and behind all of them the kernel holds exactly what is wanted, which is what a fresh start wants.
 pub fn every_history_is_orderly()
     ensures kept { (moment : Moment) → IsHistory moment → IsOrderly moment }
     ensures admitted { (moment : Moment) (calls : List Call) → IsHistory moment
@@ -89,6 +89,9 @@ pub fn every_history_is_orderly()
     ensures reached { (moment : Moment) (calls : List Call) → IsHistory moment
         → AreCalls (devices_of moment.inputs) moment.held (want_of moment.inputs) calls
         → after_calls moment.held calls ≡ want_of moment.inputs }
+    ensures fresh { (moment : Moment) (calls : List Call) → IsHistory moment
+        → AreCalls (devices_of moment.inputs) moment.held (want_of moment.inputs) calls
+        → after_calls moment.held calls ≡ want_of (fresh_start moment.inputs) }
 {}
 
 /// Where an allowed set of held objects and a wanted one both have the footprint of an interface, no call between them names an object
