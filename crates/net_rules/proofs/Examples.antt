@@ -23,6 +23,8 @@ use Rattle.net_rules.specs.Available.{available, link}
 use Rattle.net_rules.specs.Used.{used, users}
 use Rattle.net_rules.specs.Want.{wanted_list}
 use Rattle.net_rules.specs.After.{after}
+use Rattle.net_rules.specs.declared.refusal.Refusal.TheVariants as refused
+use Rattle.net_rules.specs.Refusal.{refusal}
 use Rattle.net_rules.specs.Notices.{notices}
 
 abbrev name_row : List ℕ → NameKind → ℕ → NameRow
@@ -184,3 +186,96 @@ port_joins = refl
 counted : (users (facts_of (router_with ((lan1, present true) ∷ []))) br-lan ≡ 1) × (users (facts_of (router_with ((lan1, present true) ∷ []))) lan1 ≡ 1) × (users (facts_of (router_with ((lan1, present true) ∷ []))) lan2 ≡ 0)
 unfolding available link used by_levels
 counted = (refl, refl, refl)
+
+-- an answer to a number that is not open, a device that is there, and a name that stands for a VLAN
+refusals : (refusal asked (address_given 2) ≡ Some (refused.Stale 2 1)) × (refusal asked (come wan) ≡ Some refused.Known) × (refusal asked (come (codes "wan.7")) ≡ Some refused.Known)
+unfolding after available link by_levels
+refusals = (refl, refl, refl)
+
+abbrev with_names : List NameRow → List InterfaceRow → List (List ℕ × Device) → Inputs
+with_names names interfaces devices = record {
+  conf = record { interfaces = interfaces; devices = []; routes = []; radios = []; names = names; vlans = [] };
+  devices = devices;
+  commands = [];
+  interfaces = [];
+  radios = [];
+  next = 1;
+}
+
+abbrev broken_row : List ℕ → NameKind → ℕ → NameRow
+broken_row name kind level = record (name_row name kind level) { broken = true }
+
+-- a bridge is not available without ports, unless it says that it needs none; nor where a device has its name
+bridges :
+    (available (facts_of (with_names (name_row br0 (Bridge false []) 2 ∷ []) [] [])) br0 ≡ false)
+    × (available (facts_of (with_names (name_row br0 (Bridge true []) 2 ∷ []) [] [])) br0 ≡ true)
+    × (available (facts_of (with_names (name_row br0 (Bridge true []) 2 ∷ []) [] ((br0, present true) ∷ []))) br0 ≡ false)
+unfolding available by_levels
+bridges = (refl, refl, refl)
+
+-- a plain name with a fault is not available, and has link where it is present with carrier
+faulty_plain : (available (facts_of (with_names (broken_row wan Plain 1 ∷ []) [] ((wan, present true) ∷ []))) wan ≡ false) × (link (facts_of (with_names (broken_row wan Plain 1 ∷ []) [] ((wan, present true) ∷ []))) wan ≡ true)
+unfolding available link by_levels
+faulty_plain = (refl, refl)
+
+-- a name of the form X.N without a row is never there
+without_row : (available (facts_of (with_names [] [] ((br0-10, present true) ∷ []))) br0-10 ≡ false) × (link (facts_of (with_names [] [] ((br0-10, present true) ∷ []))) br0-10 ≡ false)
+unfolding available link by_levels
+without_row = (refl, refl)
+
+-- an interface on VLAN 2 over a device: the lower name is used too
+abbrev eth0 : List ℕ
+eth0 = codes "eth0"
+
+abbrev eth0-2 : List ℕ
+eth0-2 = codes "eth0.2"
+
+over_device : wanted_list (facts_of (with_names (name_row eth0 Plain 1 ∷ name_row eth0-2 (Vlan (Some eth0) 2) 2 ∷ []) (interface_row (codes "v") (codes "static") eth0-2 true ((v4 10 0 2 1, 24) ∷ []) ∷ []) ((eth0, present true) ∷ []))) ≡
+    object.Up eth0 ∷ object.Up eth0-2 ∷ object.Link eth0-2 (kind.Vlan eth0 2 None) ∷ object.Address eth0-2 (v4 10 0 2 1, 24) ∷ []
+unfolding available link used by_levels
+over_device = refl
+
+-- the layer-3 device that an answer names serves where it is plain; a bridge that is not the own device does not
+abbrev layer_given : List ℕ → Event
+layer_given layer = event.Answer wan 1 (record { up = true; device = Some layer; addresses = (v4 192 0 2 5, 24) ∷ []; routes = [] })
+
+abbrev with_layer : Inputs
+with_layer = after (after asked (come lan1)) (come (codes "tun0"))
+
+plain_layer : wanted_list (facts_of (after with_layer (layer_given (codes "tun0")))) ≡
+    object.Up br-lan ∷ object.Link br-lan (kind.Bridge None false) ∷ object.Master lan1 br-lan ∷ object.Up lan1 ∷ object.Up wan ∷ object.Up (codes "tun0")
+    ∷ object.Address br-lan (v4 192 168 1 1, 24) ∷ object.Address (codes "tun0") (v4 192 0 2 5, 24) ∷ []
+unfolding after available link used by_levels
+plain_layer = refl
+
+bridge_layer : wanted_list (facts_of (after with_layer (layer_given br-lan))) ≡
+    object.Up br-lan ∷ object.Link br-lan (kind.Bridge None false) ∷ object.Master lan1 br-lan ∷ object.Up lan1 ∷ object.Up wan
+    ∷ object.Address br-lan (v4 192 168 1 1, 24) ∷ []
+unfolding after available link used by_levels
+bridge_layer = refl
+
+-- rows whose options changed: the ask goes with its answer, and a new one gets a number
+abbrev with_options : InterfaceRow → InterfaceRow
+with_options row = record row { options = record { name = codes "hostname"; value = One (codes "r") } ∷ [] }
+
+abbrev router_with_options : Conf
+router_with_options = record router { interfaces = interface_row (codes "lan") (codes "static") br-lan true ((v4 192 168 1 1, 24) ∷ []) ∷ with_options (interface_row wan (codes "dhcp") wan false []) ∷ [] }
+
+other_options : notices (after asked (address_given 1)) (event.Load router_with_options) ≡ notice.Dropped 1 ∷ notice.Interface 2 1 (Some wan) ∷ []
+unfolding after available link by_levels
+other_options = refl
+
+-- the same rows: the ask stays with its answer
+same_rows : after (after asked (address_given 1)) (event.Load router) ≡ after asked (address_given 1)
+unfolding after available link by_levels
+same_rows = refl
+
+-- a command is forgotten when its interface is gone
+forgotten : (after (after (after loaded (event.Operator wan false)) (event.Load (record router { interfaces = [] }))) (event.Load router)).commands ≡ []
+unfolding after available link by_levels
+forgotten = refl
+
+-- interfaces get their numbers before radios
+numbers : notices (after no_inputs (come wan)) (event.Load wireless) ≡ notice.Interface 1 1 (Some wan) ∷ notice.Radio 2 0 ∷ []
+unfolding after available link by_levels
+numbers = refl

@@ -1,8 +1,7 @@
 -- A footprint has with each object the held links that it stands on.
-use Rattle.std.proofs.Common.{arith, ℕ, ◌≡◌, ◌<◌, ◌⊎◌, inl, inr, zero, suc, List, [], ◌∷◌, Option, Some, None, Bool, true, false, Contains, refl, ap, sym, subst, ◌∙◌}
-use Rattle.std.specs.Prelude.{◌&&◌, ◌||◌, bytes_eq, is_some}
+use Rattle.std.proofs.Common.{arith, ℕ, ◌≡◌, ◌<◌, inl, inr, zero, suc, List, [], ◌∷◌, Option, Some, None, Bool, true, false, Contains, refl, ap, sym, subst, ◌∙◌}
+use Rattle.std.specs.Prelude.{◌||◌, bytes_eq, is_some}
 use Rattle.std.specs.FinMap as map
-use Rattle.kern_model.specs.declared.object.Mac.{Mac}
 use Rattle.kern_model.specs.declared.object.LinkKind.{LinkKind}
 use Rattle.kern_model.specs.declared.object.LinkKind.TheVariants.{Bridge, Vlan}
 use Rattle.kern_model.specs.declared.object.Object.{Object}
@@ -24,11 +23,10 @@ use Rattle.net_rules.specs.Rows.{row_at, is_filtering}
 use Rattle.net_rules.specs.RadioPorts.{device_of}
 use Rattle.net_rules.specs.Standing.{Standing, Broken, Alone, Over, Ports, standing_at, lowers_of}
 use Rattle.net_rules.specs.Sound.{IsSound}
-use Rattle.net_rules.specs.Available.{is_present}
 use Rattle.net_rules.specs.Interfaces.{layer_of}
 use Rattle.net_rules.specs.Used.{used}
 use Rattle.net_rules.specs.Want.{want, given}
-use Rattle.net_rules.specs.Wanted.{IsUsedBridge, IsWantedPortVlan, IsGiven}
+use Rattle.net_rules.specs.Wanted.{IsUsedBridge, IsWantedPortVlan}
 use Rattle.net_rules.specs.Footprint.{leads, leads_at, is_down, is_down_from, is_below, is_of, footprint}
 use Rattle.net_rules.proofs.LevelLemmas.{IsLocal, follows}
 use Rattle.net_rules.proofs.StandingLemmas.{vlan_stands, only}

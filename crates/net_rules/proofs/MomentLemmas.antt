@@ -1,6 +1,6 @@
 -- What events make of the rows and devices of inputs.
-use Rattle.std.proofs.Common.{◌≡◌, ℕ, List, [], ◌∷◌, ◌++◌, map, Bool, true, false, cond, Option, Some, None, refl, ap, sym, subst, ◌∙◌}
-use Rattle.std.specs.Prelude.{not, bytes_eq, filter}
+use Rattle.std.proofs.Common.{◌≡◌, ℕ, List, [], ◌∷◌, ◌++◌, map, Bool, true, false, cond, Option, Some, None, refl, ap, sym, ◌∙◌}
+use Rattle.std.specs.Prelude.{bytes_eq}
 use Rattle.std.specs.List.{find}
 use Rattle.std.specs.Option.{option_map, option_map_or}
 use Rattle.std.specs.Ordering.{nat_cmp, eq_by_cmp}
@@ -12,12 +12,12 @@ use Rattle.kern_model.specs.declared.object.DevEvent.{DevEvent}
 use Rattle.kern_model.specs.declared.object.DevEvent.TheVariants as device
 use Rattle.kern_model.specs.Kernel.{Devices, map_of, with_carrier, after_event}
 use Rattle.kern_model.proofs.FindLemmas.{first_of, name_test}
-use Rattle.kern_model.proofs.TestLemmas.{bytes_same, same_bytes}
+use Rattle.kern_model.proofs.TestLemmas.{bytes_same}
 use Rattle.net_rows.specs.declared.rows.Conf.{Conf}
 use Rattle.net_rules.specs.declared.inputs.Inputs.{Inputs}
 use Rattle.net_rules.specs.declared.event.Event.{Event}
 use Rattle.net_rules.specs.declared.event.Event.TheVariants as event
-use Rattle.net_rules.specs.Inputs.{device_in, facts_of}
+use Rattle.net_rules.specs.Inputs.{device_in}
 use Rattle.net_rules.specs.After.{without_device, carrier_set, devices_after, after}
 use Rattle.net_rules.proofs.TableLemmas.{either_way, found_in, first_some, no_value, found_behind, found_without, found_mapped, found_member}
 
@@ -55,7 +55,7 @@ more_step true o name d = refl
 more_step false None name d = refl
 more_step false (Some e) name d = refl
 
-come_in : (name : List ℕ) (d : Device) (es : List (List ℕ × Device)) (q : List ℕ) → device_in (without_device name es ++ (name, d) ∷ []) q ≡ cond (bytes_eq name q) (Some d) (device_in es q)
+pub come_in : (name : List ℕ) (d : Device) (es : List (List ℕ × Device)) (q : List ℕ) → device_in (without_device name es ++ (name, d) ∷ []) q ≡ cond (bytes_eq name q) (Some d) (device_in es q)
 come_in name d es q =
     ap (option_map (λ x. x.1)) (found_behind entry_key (without_device name es) ((name, d) ∷ []) q
     ∙ ap (λ o. first_some o (found_in entry_key ((name, d) ∷ []) q)) (found_without entry_key name es q))

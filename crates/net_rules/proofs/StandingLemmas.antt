@@ -166,7 +166,7 @@ radio_port facts bridge port h =
     }
 
 -- a port that a row owns is named
-none_owned : (b : Bool) (port : List ℕ) → Contains (ports_of_kind (if b then Vlan None 0 else Plain)) port → ⊥
+pub none_owned : (b : Bool) (port : List ℕ) → Contains (ports_of_kind (if b then Vlan None 0 else Plain)) port → ⊥
 none_owned true port h = none_in_nil port h
 none_owned false port h = none_in_nil port h
 
@@ -204,7 +204,7 @@ row_vlan_stands : (facts : Facts) (name lower : List ℕ) (id : ℕ) → standin
 row_vlan_stands facts name lower id is = subst (λ s. Contains (lowers_of s) lower) (sym (vlan_row facts name lower id is).standing) (here lower [])
 
 -- a name that stands on another has a row
-rowless_alone : (b : Bool) (more : List (List ℕ)) (lower : List ℕ) → Contains (lowers_of (standing_of (if b then Vlan None 0 else Plain) b more)) lower → ⊥
+pub rowless_alone : (b : Bool) (more : List (List ℕ)) (lower : List ℕ) → Contains (lowers_of (standing_of (if b then Vlan None 0 else Plain) b more)) lower → ⊥
 rowless_alone true more lower h = none_in_nil lower h
 rowless_alone false more lower h = none_in_nil lower h
 

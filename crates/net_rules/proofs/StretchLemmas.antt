@@ -1,6 +1,6 @@
 -- A footprint that stays is held all along, and no call names an object of it.
-use Rattle.std.proofs.Common.{◌≡◌, ◌⊎◌, inl, inr, ℕ, List, [], ◌∷◌, ◌++◌, Bool, true, false, Option, Some, None, Contains, refl, ap, sym, subst, ◌∙◌}
-use Rattle.std.specs.Prelude.{not, bytes_eq}
+use Rattle.std.proofs.Common.{◌≡◌, inl, inr, ℕ, List, [], ◌∷◌, ◌++◌, true, Option, Some, None, Contains, refl, sym, subst}
+use Rattle.std.specs.Prelude.{not}
 use Rattle.std.specs.Option.{option_map_or}
 use Rattle.std.specs.FinSet as set
 use Rattle.std.specs.FinMap as map
@@ -9,10 +9,10 @@ use Rattle.kern_model.specs.declared.object.Object.{Object}
 use Rattle.kern_model.specs.declared.object.Object.TheVariants as object
 use Rattle.kern_model.specs.declared.object.Call.{Call}
 use Rattle.kern_model.specs.declared.object.Call.TheVariants.{Put, Take}
-use Rattle.kern_model.specs.ObjectOrder.{Objects, Has, object_cmp}
+use Rattle.kern_model.specs.ObjectOrder.{Objects, Has}
 use Rattle.kern_model.specs.Kernel.{Devices, map_of, object_of, replaces, after_call}
 use Rattle.kern_model.specs.Allowed.{exclude, AreAllowed}
-use Rattle.kern_model.specs.CallOrder.{AreCalls, AreAdmitted, after_calls}
+use Rattle.kern_model.specs.CallOrder.{AreCalls, after_calls}
 use Rattle.kern_model.proofs.MemberLemmas.{here, there, none_in_nil}
 use Rattle.kern_model.proofs.TestLemmas.{of_not}
 use Rattle.kern_model.proofs.SetLemmas.{has_before, has_without, has_retained, none_in_empty}
@@ -20,7 +20,6 @@ use Rattle.kern_model.proofs.TouchLemmas.{put_wanted}
 use Rattle.kern_model.proofs.LeadLemmas.{admitted}
 use Rattle.kern_model.proofs.KeepLemmas.{all_keep}
 use Rattle.kern_model.proofs.EventLemmas.{events_keep}
-use Rattle.kern_calls.specs.Kept.{IsWholePart}
 use Rattle.kern_calls.proofs.KeptLemmas.{no_call, part_is_off, front_admitted}
 use Rattle.net_rows.specs.declared.rows.InterfaceRow.{InterfaceRow}
 use Rattle.net_rules.specs.declared.inputs.Inputs.{Inputs}
@@ -30,7 +29,6 @@ use Rattle.net_rules.specs.Facts.{Facts}
 use Rattle.net_rules.specs.Rows.{interface_named}
 use Rattle.net_rules.specs.Sound.{IsSound}
 use Rattle.net_rules.specs.Inputs.{facts_of}
-use Rattle.net_rules.specs.Want.{want}
 use Rattle.net_rules.specs.Footprint.{footprint}
 use Rattle.net_rules.specs.After.{after}
 use Rattle.net_rules.specs.Moment.{devices_of, want_of, Moment, held_after, moment_after, MayCome, footprint_named, AreWithin, LeavesHeld, IsStretch}
@@ -104,13 +102,19 @@ allowed_as moment (event.Operator interface up) admits comes = admits
 allowed_as moment (event.Answer interface number answer) admits comes = admits
 allowed_as moment (event.Radio radio number ports) admits comes = admits
 
+pub sound_after : (moment : Moment) (event : Event) → IsSound moment.inputs.conf → MayCome moment event → IsSound (moment_after moment event).inputs.conf
+sound_after moment event sound comes = subst IsSound (sym (conf_follows moment.inputs event)) (sound_as moment event sound comes)
+
+pub allowed_after : (moment : Moment) (event : Event) → AreAllowed (devices_of moment.inputs) moment.held → MayCome moment event → AreAllowed (devices_of (moment_after moment event).inputs) (moment_after moment event).held
+allowed_after moment event admits comes = subst (λ es. AreAllowed (map_of es) (held_after moment.held event)) (sym (present_follows moment.inputs event)) (allowed_as moment event admits comes)
+
 module _ (name : List ℕ) (some : Objects) where
   keeps_after : (moment : Moment) (event : Event) → Keeps name some moment → MayCome moment event → footprint_named (after moment.inputs event) name ≡ some → LeavesHeld some moment.held event → Keeps name some (moment_after moment event)
   keeps_after moment event keeps comes same leaves = record {
-    sound = subst IsSound (sym (conf_follows moment.inputs event)) (sound_as moment event keeps.sound comes);
+    sound = sound_after moment event keeps.sound comes;
     same = same;
     among = λ o h. leaves o h (keeps.among o h);
-    admits = subst (λ es. AreAllowed (map_of es) (held_after moment.held event)) (sym (present_follows moment.inputs event)) (allowed_as moment event keeps.admits comes);
+    admits = allowed_after moment event keeps.admits comes;
   }
 
   -- no call of a settling names an object of the footprint

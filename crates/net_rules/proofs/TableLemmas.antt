@@ -1,10 +1,10 @@
 -- Lists that are looked up by a key.
-use Rattle.std.proofs.Common.{◌≡◌, ◌⊎◌, inl, inr, ℕ, List, [], ◌∷◌, ◌++◌, map, Bool, true, false, cond, Contains, Option, Some, None, refl, ap, sym, subst, ◌∙◌}
+use Rattle.std.proofs.Common.{◌≡◌, ℕ, List, [], ◌∷◌, ◌++◌, map, Bool, true, false, cond, Contains, Option, Some, None, refl, ap, sym, subst, ◌∙◌}
 use Rattle.std.specs.Prelude.{not, bytes_eq, filter}
 use Rattle.std.specs.List.{find}
 use Rattle.std.specs.Option.{option_map}
-use Rattle.kern_model.proofs.MemberLemmas.{here, there, first_or_later, none_in_nil}
-use Rattle.kern_model.proofs.TestLemmas.{true_of_both_ways, false_of_not, bytes_same, same_bytes}
+use Rattle.kern_model.proofs.MemberLemmas.{here, there}
+use Rattle.kern_model.proofs.TestLemmas.{true_of_both_ways, bytes_same, same_bytes}
 
 pub either_way : (a b : List ℕ) → bytes_eq a b ≡ bytes_eq b a
 either_way a b = true_of_both_ways (bytes_eq a b) (bytes_eq b a) (λ h. same_bytes b a (sym (bytes_same a b h))) (λ h. same_bytes a b (sym (bytes_same b a h)))

@@ -36,3 +36,9 @@ pub mod After
 pub mod Notices
 -- a moment of a network and its kernel
 pub mod Moment
+-- which inputs events lead to, and what a fresh start on them is
+pub mod Fresh
+-- which events are refused
+pub mod Refusal
+-- the numbers of open asks
+pub mod Numbers

@@ -6,14 +6,14 @@ use Rattle.kern_model.specs.declared.object.Object.{Object}
 use Rattle.kern_model.specs.declared.object.Call.{Call}
 use Rattle.kern_model.specs.ObjectOrder.{Objects, Has}
 use Rattle.kern_model.specs.Kernel.{Devices, map_of, MayHappen, objects_after_event}
+use Rattle.kern_model.specs.Allowed.{AreAllowed}
 use Rattle.kern_model.specs.CallOrder.{AreCalls, after_calls}
 use Rattle.net_rules.specs.declared.inputs.Inputs.{Inputs}
 use Rattle.net_rules.specs.declared.event.Event.{Event}
 use Rattle.net_rules.specs.declared.event.Event.TheVariants as event
-use Rattle.net_rules.specs.Facts.{Facts}
 use Rattle.net_rules.specs.Rows.{interface_named}
 use Rattle.net_rules.specs.Sound.{IsSound}
-use Rattle.net_rules.specs.Inputs.{facts_of}
+use Rattle.net_rules.specs.Inputs.{facts_of, no_inputs}
 use Rattle.net_rules.specs.Want.{want}
 use Rattle.net_rules.specs.Footprint.{footprint}
 use Rattle.net_rules.specs.After.{after}
@@ -68,3 +68,18 @@ pub data IsStretch (name : List ℕ) (some : Objects) : Moment → List Call →
   settled : (moment : Moment) (made rest more : List Call)
       → AreCalls (devices_of moment.inputs) moment.held (want_of moment.inputs) (made ++ rest)
       → IsStretch name some (record moment { held = after_calls moment.held made }) more → IsStretch name some moment (made ++ more)
+
+-- The moments that a history leads to: from nothing, events come one after the other, and settlings that may have stopped behind any
+-- of their calls.
+pub data IsHistory : Moment → Type 0 where
+  nothing : IsHistory (record { inputs = no_inputs; held = set.empty })
+  came : (moment : Moment) (event : Event) → IsHistory moment → MayCome moment event → IsHistory (moment_after moment event)
+  settled : (moment : Moment) (made rest : List Call) → IsHistory moment
+      → AreCalls (devices_of moment.inputs) moment.held (want_of moment.inputs) (made ++ rest)
+      → IsHistory (record moment { held = after_calls moment.held made })
+
+-- what every history keeps: the rows are sound, and the kernel's rules allow what is held and what is wanted
+pub record IsOrderly (moment : Moment) : Type 0 where
+  pub sound : IsSound moment.inputs.conf
+  pub held_allowed : AreAllowed (devices_of moment.inputs) moment.held
+  pub wanted_allowed : AreAllowed (devices_of moment.inputs) (want_of moment.inputs)

@@ -1,5 +1,5 @@
 // Laws of the definitions. Each body is empty, and the contract is the law.
-ghost use Rattle.std.specs.Prelude.{◌≡◌, ◌↔◌, ℕ, List, Option, Contains};
+ghost use Rattle.std.specs.Prelude.{◌≡◌, ◌↔◌, ℕ, List, Option, Some, Contains, true, ◌<◌, ◌≤◌};
 ghost use Rattle.std.specs.FinMap as map;
 ghost use Rattle.kern_model.specs.declared.object.Object.{Object};
 ghost use Rattle.kern_model.specs.declared.object.Call.{Call};
@@ -8,20 +8,28 @@ ghost use Rattle.kern_model.specs.declared.object.DevEvent.{DevEvent};
 ghost use Rattle.kern_model.specs.ObjectOrder.{Objects, Has};
 ghost use Rattle.kern_model.specs.Kernel.{Devices, map_of, after_event, object_of};
 ghost use Rattle.kern_model.specs.Allowed.{AreAllowed};
-ghost use Rattle.kern_model.specs.CallOrder.{AreCalls};
+ghost use Rattle.kern_model.specs.CallOrder.{AreCalls, AreAdmitted, after_calls};
 ghost use Rattle.net_rows.specs.declared.rows.InterfaceRow.{InterfaceRow};
 ghost use Rattle.net_rules.specs.declared.answer.Answer.{Answer};
 ghost use Rattle.net_rules.specs.declared.inputs.Inputs.{Inputs};
+ghost use Rattle.net_rules.specs.declared.inputs.OpenInterface.{OpenInterface};
+ghost use Rattle.net_rules.specs.declared.inputs.OpenRadio.{OpenRadio};
+ghost use Rattle.net_rules.specs.declared.event.Event.{Event};
+ghost use Rattle.net_rules.specs.declared.event.Event.TheVariants as event;
 ghost use Rattle.net_rules.specs.Facts.{Facts};
 ghost use Rattle.net_rules.specs.Sound.{IsSound};
 ghost use Rattle.net_rules.specs.Available.{opens_at, available, links_at, link};
-ghost use Rattle.net_rules.specs.Used.{serves_at, used};
+ghost use Rattle.net_rules.specs.Used.{serves_at, used, users};
 ghost use Rattle.net_rules.specs.Need.{interface_need};
 ghost use Rattle.net_rules.specs.Want.{want};
 ghost use Rattle.net_rules.specs.Wanted.{IsWanted};
 ghost use Rattle.net_rules.specs.Footprint.{footprint};
-ghost use Rattle.net_rules.specs.After.{devices_after};
-ghost use Rattle.net_rules.specs.Moment.{Moment, devices_of, want_of, footprint_named, AreWithin, IsStretch};
+ghost use Rattle.net_rules.specs.Inputs.{facts_of, open_interface, open_radio};
+ghost use Rattle.net_rules.specs.After.{devices_after, after};
+ghost use Rattle.net_rules.specs.Numbers.{AreNumbered};
+ghost use Rattle.net_rules.specs.Fresh.{IsReached, AreAsked, fresh_start};
+ghost use Rattle.net_rules.specs.Moment.{Moment, devices_of, want_of, footprint_named};
+ghost use Rattle.net_rules.specs.Moment.{AreWithin, IsStretch, IsHistory, IsOrderly};
 
 /// Over sound rows eight levels are enough: a name is available, has link and is used as what is below and above it says.
 pub fn answers_follow_the_rows()
@@ -31,6 +39,12 @@ pub fn answers_follow_the_rows()
         → (name : List ℕ) → link facts name ≡ links_at facts (link facts) name }
     ensures used { (facts : Facts) → IsSound facts.conf
         → (name : List ℕ) → used facts name ≡ serves_at facts (used facts) name }
+{}
+
+/// A name is used exactly where it has users.
+pub fn used_names_have_users()
+    ensures { (facts : Facts) → IsSound facts.conf
+        → (name : List ℕ) → (used facts name ≡ true) ↔ (0 < users facts name) }
 {}
 
 /// What is wanted, by the kinds of objects.
@@ -65,6 +79,21 @@ pub fn no_answer_changes_a_need()
         → interface_need (record facts { answer = answer }) row ≡ interface_need facts row }
 {}
 
+/// Whatever events come and wherever settlings stop, what is held and what is wanted is allowed by the kernel. Each call of a settling
+/// is admitted in its turn, and behind all of them the kernel holds exactly what is wanted, which is what a fresh start wants.
+pub fn every_history_is_orderly()
+    ensures kept { (moment : Moment) → IsHistory moment → IsOrderly moment }
+    ensures admitted { (moment : Moment) (calls : List Call) → IsHistory moment
+        → AreCalls (devices_of moment.inputs) moment.held (want_of moment.inputs) calls
+        → AreAdmitted (devices_of moment.inputs) moment.held calls }
+    ensures reached { (moment : Moment) (calls : List Call) → IsHistory moment
+        → AreCalls (devices_of moment.inputs) moment.held (want_of moment.inputs) calls
+        → after_calls moment.held calls ≡ want_of moment.inputs }
+    ensures fresh { (moment : Moment) (calls : List Call) → IsHistory moment
+        → AreCalls (devices_of moment.inputs) moment.held (want_of moment.inputs) calls
+        → after_calls moment.held calls ≡ want_of (fresh_start moment.inputs) }
+{}
+
 /// Where an allowed set of held objects and a wanted one both have the footprint of an interface, no call between them names an object
 /// of it. The held ones need not have been wanted as a whole: a settling may have stopped.
 pub fn footprint_is_not_touched()
@@ -91,4 +120,37 @@ pub fn no_call_names_what_stayed()
         → IsSound moment.inputs.conf → moment.held ≡ want_of moment.inputs
         → IsStretch name (footprint_named moment.inputs name) moment calls → (call : Call)
         → Contains calls call → Has (footprint_named moment.inputs name) (object_of call) → ⊥ }
+{}
+
+/// Whatever events come, behind each one every interface and every radio has an open ask exactly where it has a need, and that ask is
+/// its need.
+pub fn asks_are_the_needs()
+    ensures { (inputs : Inputs) → IsReached inputs → AreAsked inputs }
+{}
+
+/// Each open ask has a number of its own below the next one, which never falls: no number is given twice.
+pub fn no_number_is_given_twice()
+    ensures numbered { (inputs : Inputs) → IsReached inputs → AreNumbered inputs }
+    ensures rises { (inputs : Inputs) (event : Event) → inputs.next ≤ (after inputs event).next }
+{}
+
+/// An answer to a number that is not that of the open ask changes nothing.
+pub fn stale_answers_change_nothing()
+    ensures interface { (inputs : Inputs) → IsReached inputs → (interface : List ℕ) (number : ℕ)
+        (answer : Answer) → ((o : OpenInterface)
+        → open_interface inputs.interfaces interface ≡ Some o → o.number ≡ number → ⊥)
+        → after inputs (event.Answer interface number answer) ≡ inputs }
+    ensures radio { (inputs : Inputs) → IsReached inputs → (radio : List ℕ) (number : ℕ)
+        (ports : List (Option (List ℕ))) → ((o : OpenRadio)
+        → open_radio inputs.radios radio ≡ Some o → o.number ≡ number → ⊥)
+        → after inputs (event.Radio radio number ports) ≡ inputs }
+{}
+
+/// A fresh start comes to the same facts, and so wants the same: from nothing each present device comes, the rows are loaded, each last
+/// command is given, then the latest answers of radios, and then those of interfaces, to the asks that are open by then.
+pub fn a_fresh_start_wants_the_same()
+    ensures facts { (inputs : Inputs) → IsReached inputs
+        → facts_of (fresh_start inputs) ≡ facts_of inputs }
+    ensures want { (inputs : Inputs) → IsReached inputs
+        → want_of (fresh_start inputs) ≡ want_of inputs }
 {}

@@ -6,13 +6,17 @@ mod ask;
 mod event;
 mod inputs;
 mod laws;
+mod refusal;
 
 pub use answer::{Answer, AnswerRoute};
 pub use ask::{InterfaceAsk, RadioAsk, WifiAsk};
 pub use event::{Event, Notice};
 pub use inputs::{Command, Inputs, OpenInterface, OpenRadio};
 pub use laws::{
-    answers_follow_the_rows, devices_follow_the_kernel, footprint_is_not_touched,
+    a_fresh_start_wants_the_same, answers_follow_the_rows, asks_are_the_needs,
+    devices_follow_the_kernel, every_history_is_orderly, footprint_is_not_touched,
     inputs_want_what_is_allowed, no_answer_changes_a_need, no_call_names_what_stayed,
-    objects_are_wanted, same_footprint_is_not_touched, want_is_allowed,
+    objects_are_wanted, same_footprint_is_not_touched, stale_answers_change_nothing,
+    used_names_have_users, want_is_allowed,
 };
+pub use refusal::{MOST_DEVICES, MOST_IN_ANSWER, Refusal};

@@ -1,0 +1,21 @@
+-- The numbers of open asks.
+use Rattle.std.specs.Prelude.{ℕ, ◌+◌, ◌<◌, ◌≤◌, List, [], ◌∷◌, map, Contains, ⊤}
+use Rattle.net_rules.specs.declared.inputs.Inputs.{Inputs}
+
+-- numbers that rise, from a least one on and below a bound
+abbrev pub AreRising : ℕ → ℕ → List ℕ → Type 0
+AreRising least bound [] = ⊤
+AreRising least bound (n ∷ ns) = (least ≤ n) × (n < bound) × AreRising (n + 1) bound ns
+
+abbrev pub interface_numbers : Inputs → List ℕ
+interface_numbers inputs = map (λ o. o.number) inputs.interfaces
+
+abbrev pub radio_numbers : Inputs → List ℕ
+radio_numbers inputs = map (λ o. o.number) inputs.radios
+
+-- Each open ask has a number of its own, from 1 and below the next. The asks of interfaces stand by rising number, and so do those of
+-- radios.
+pub record AreNumbered (inputs : Inputs) : Type 0 where
+  pub interfaces : AreRising 1 inputs.next (interface_numbers inputs)
+  pub radios : AreRising 1 inputs.next (radio_numbers inputs)
+  pub apart : (n : ℕ) → Contains (interface_numbers inputs) n → Contains (radio_numbers inputs) n → ⊥
