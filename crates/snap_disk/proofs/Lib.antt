@@ -1,0 +1,12 @@
+pub mod NameLemmas
+pub mod BodyLemmas
+pub mod OldLemmas
+pub mod Moments
+pub mod LayoutLemmas
+pub mod PutLemmas
+pub mod FillLemmas
+pub mod JoinLemmas
+pub mod ReadBackLemmas
+pub mod OpeningLemmas
+pub mod ObjectLemmas
+pub mod LoadLemmas

@@ -1,0 +1,15 @@
+-- What a run of calls leaves of a disk.
+use Rattle.std.specs.Prelude.{ℕ, ◌≡◌, ◌⊎◌, ◌≤◌, Some}
+use Rattle.plane_disk.specs.Files.{Files}
+use Rattle.plane_disk.specs.View.{View, Only}
+
+-- every image since the old moment has P; for a run that began earlier, every image since then was one before or has P
+pub record LeavesOnly (old new : View) (P : Files → Type 0) : Type 0 where
+  pub later : old.moment ≤ new.moment
+  pub each : (image : Files) → new.was_image old.moment image → P image
+  pub before : (from : ℕ) (image : Files) → from ≤ old.moment → new.was_image from image → old.was_image from image ⊎ P image
+
+-- these files are what a read gives, and the only image
+pub record IsOn (view : View) (files : Files) : Type 0 where
+  pub seen : view.seen ≡ Some files
+  pub only : Only files view.is_image
