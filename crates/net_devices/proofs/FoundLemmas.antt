@@ -1,6 +1,6 @@
 -- The maps of sections and of bridges, with one section more.
-use Rattle.std.proofs.Common.{ℕ, suc, ◌≡◌, ◌+◌, ◌<◌, Bool, true, false, cond, List, [], ◌∷◌, ◌++◌, length, take, Option, Some, None, bytes_eq, position, is_some, refl, sym, ap, subst, ◌∙◌}
-use Rattle.std.specs.Prelude.{◌||◌, slice_get}
+use Rattle.std.proofs.Common.{ℕ, suc, ◌≡◌, Bool, true, false, cond, List, [], ◌∷◌, ◌++◌, length, Option, Some, None, bytes_eq, position, is_some, refl, sym, ap, ◌∙◌}
+use Rattle.std.specs.Prelude.{◌||◌}
 use Rattle.std.specs.Option.{option_map}
 use Rattle.std.specs.Ordering.{nat_cmp}
 use Rattle.std.specs.Cmp.Lexicographic.{slice_cmp}
@@ -17,7 +17,7 @@ use Rattle.net_devices.specs.declared.said.Said.TheVariants.{Device, Interface}
 use Rattle.net_devices.specs.EachOnce.{has}
 use Rattle.net_devices.specs.Names.{section_of, is_read}
 use Rattle.net_devices.specs.Kinds.{if_read, is_name, owner_in, owner_or, owner}
-use Rattle.net_devices.specs.Found.{name_of, is_of, section_in, section_at, HasPlaces, HasPlaceToo, HasOwners, HasPortsToo}
+use Rattle.net_devices.specs.Found.{is_of, section_at, HasPlaces, HasPlaceToo, HasOwners, HasPortsToo}
 use Rattle.net_devices.proofs.KeyLemmas.{name_key}
 
 -- the section at the first place of a name is the section of the name

@@ -1,5 +1,5 @@
 -- Names and pairs as the keys of sets and maps.
-use Rattle.std.proofs.Common.{ℕ, ◌≡◌, ◌+◌, ◌<◌, Bool, true, false, cond, List, [], ◌∷◌, ◌++◌, length, take, get_or, refl, sym, ap, ◌∙◌, add-one}
+use Rattle.std.proofs.Common.{ℕ, suc, ◌≡◌, ◌+◌, ◌-◌, ◌<◌, ◌≤◌, Bool, true, false, cond, List, [], ◌∷◌, ◌++◌, length, take, drop, drop-cons, get_or, arith, refl, sym, ap, ◌∙◌, add-one}
 use Rattle.std.proofs.Math.Seq.{take-suc}
 use Rattle.std.specs.Prelude.{◌||◌, ◌&&◌, ◌==◌, bytes_eq}
 use Rattle.std.specs.List.{list_any}
@@ -47,3 +47,9 @@ knows_one_more old new names name known put q =
 -- the items so far, with one more
 pub take_more : {X : Type 0} (xs : List X) (i : ℕ) (x : X) → i < length xs → x ≡ get_or xs i x → take (i + 1) xs ≡ take i xs ++ x ∷ []
 take_more xs i x h e = ap (λ (n : ℕ). take n xs) (add-one i) ∙ (take-suc xs i x h ∙ ap (λ z. take i xs ++ z ∷ []) (sym e))
+
+-- the items from here on, with the one before them
+pub drop_before : {X : Type 0} (xs : List X) (p : ℕ) (x : X) → 0 < p → p ≤ length xs → x ≡ get_or xs (p - 1) x → drop (p - 1) xs ≡ x ∷ drop p xs
+drop_before xs p x some bound e =
+    let next : suc (p - 1) ≡ p = omega arith in
+    drop-cons xs (p - 1) x (omega arith) ∙ (ap (λ z. z ∷ drop (suc (p - 1)) xs) (sym e) ∙ ap (λ (n : ℕ). x ∷ drop n xs) next)

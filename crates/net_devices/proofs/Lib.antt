@@ -5,3 +5,4 @@ pub mod LevelLemmas
 pub mod LowerLaws
 pub mod SaidLemmas
 pub mod TableLemmas
+pub mod VlanLemmas

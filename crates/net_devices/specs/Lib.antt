@@ -26,5 +26,7 @@ pub mod Devices
 pub mod OnceInside
 pub mod Found
 pub mod SaidInside
+pub mod FoundNames
 pub mod FoundLevels
+pub mod FoundVlans
 pub mod VlanTable

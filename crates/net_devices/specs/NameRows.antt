@@ -42,18 +42,19 @@ vlan_of Plain = None
 vlan_of (Bridge empty ports) = None
 vlan_of (Vlan lower id) = told_vlan lower id
 
-abbrev pub is_one_vlan : Option VlanParts → Option VlanParts → Bool
-is_one_vlan None other = false
-is_one_vlan (Some vlan) None = false
-is_one_vlan (Some vlan) (Some other) = (vlan.id == other.id) && bytes_eq vlan.lower other.lower
+-- it is the VLAN of this identifier over this name
+abbrev pub is_vlan_at : List ℕ → ℕ → Option VlanParts → Bool
+is_vlan_at lower id None = false
+is_vlan_at lower id (Some vlan) = bytes_eq vlan.lower lower && (vlan.id == id)
 
--- both are VLANs of one identifier over one name
-abbrev pub is_same_vlan : NameKind → NameKind → Bool
-is_same_vlan kind other = is_one_vlan (vlan_of kind) (vlan_of other)
+-- one of these names is the same VLAN
+abbrev pub is_vlan_of_some : List Said → List (List ℕ) → Option VlanParts → Bool
+is_vlan_of_some said names None = false
+is_vlan_of_some said names (Some vlan) = list_any (λ name. is_vlan_at vlan.lower vlan.id (vlan_of (kind_of said name))) names
 
--- an earlier name is the same VLAN
+-- an earlier name is the same VLAN as a name of this kind
 abbrev pub has_same_vlan : List Said → List (List ℕ) → NameKind → Bool
-has_same_vlan said earlier kind = list_any (λ name. is_same_vlan kind (kind_of said name)) earlier
+has_same_vlan said earlier kind = is_vlan_of_some said earlier (vlan_of kind)
 
 abbrev pub is_too_high : List Said → List ℕ → Bool
 is_too_high said name = nat_lt MOST_LEVELS (level said name)
@@ -63,9 +64,9 @@ abbrev pub name_faults : List Said → Bool → Bool → Option DeviceSection �
 name_faults said is_same is_too_high None = if_so is_same fault.SameVlan ++ if_so is_too_high fault.TooHigh
 name_faults said is_same is_too_high (Some section) = kind_faults said section.kind ++ if_so is_same fault.SameVlan ++ if_so is_too_high fault.TooHigh ++ value_faults section
 
--- the faults of a name behind these
-abbrev pub faults_of : List Said → List (List ℕ) → List ℕ → List RowFault
-faults_of said earlier name = name_faults said (has_same_vlan said earlier (kind_of said name)) (is_too_high said name) (section_of said name)
+-- the faults of a name, where an earlier one is the same VLAN or not
+abbrev pub faults_of : List Said → Bool → List ℕ → List RowFault
+faults_of said is_same name = name_faults said is_same (is_too_high said name) (section_of said name)
 
 -- a fault makes the device unavailable, but for one of a port or of an option that is passed over
 abbrev pub breaks : FaultName → Bool
@@ -86,17 +87,21 @@ abbrev pub mac_of : Option DeviceSection → Option Mac
 mac_of None = None
 mac_of (Some section) = if_read section.mac
 
--- the row of a name behind these
-abbrev pub name_row : List Said → List (List ℕ) → List ℕ → NameRow
-name_row said earlier name = record {
+-- the row of a name, where an earlier one is the same VLAN or not
+abbrev pub row_of : List Said → Bool → List ℕ → NameRow
+row_of said is_same name = record {
   name = name;
   kind = kind_of said name;
   level = level said name;
-  broken = is_broken (faults_of said earlier name);
+  broken = is_broken (faults_of said is_same name);
   mtu = mtu_of (section_of said name);
   mac = mac_of (section_of said name);
-  faults = faults_of said earlier name;
+  faults = faults_of said is_same name;
 }
+
+-- the row of a name behind these
+abbrev pub name_row : List Said → List (List ℕ) → List ℕ → NameRow
+name_row said earlier name = row_of said (has_same_vlan said earlier (kind_of said name)) name
 
 -- the rows of names that stand behind these
 abbrev pub rows_behind : List Said → List (List ℕ) → List (List ℕ) → List NameRow

@@ -1,12 +1,14 @@
 ghost use Rattle.std.specs.Prelude.{◌≡◌, ◌++◌, IfOk, OnOk};
-ghost use Rattle.std.specs.List.{list_any};
 ghost use Rattle.net_devices.specs.Counted as spec;
-ghost use Rattle.net_devices.specs.Names as names;
+ghost use Rattle.net_devices.specs.EachOnce.{has, with_name};
+ghost use Rattle.net_devices.specs.FoundNames.{own_name, is_among, unless_named, with_own_name};
 ghost use Rattle.net_devices.specs.Said.{said_by};
 
+use crate::each_once::NamesOnce;
+use crate::kinds::name_if_read;
 use crate::said::{Said, said_in};
 use kern_model::DevName;
-use net_options::{Stated, stated_name};
+use net_options::stated_name;
 use plane_io::{Items, Memory};
 use std::alloc::Global;
 use uci_tree::Section;
@@ -16,64 +18,63 @@ use uci_tree::Section;
 pub fn all_said(alloc: Global, sections: &[Section]) -> Result<Items<Said>, Memory>
     ensures { IfOk result (λ said. said ≡ spec.all_said sections.now) }
 {
-    let mut said = Items::new(alloc);
-    let mut rest = sections;
-    while let Some((section, later)) = rest.split_first() {
-        add_said(alloc, &mut said, section, later)?;
-        rest = later;
+    let mut said = Vec::new(alloc);
+    let mut names = NamesOnce::new(alloc);
+    for place in (0..sections.len()).rev() {
+        add_said(alloc, &mut said, &mut names, &sections[place])?;
     }
-    Ok(said)
+    said.reverse();
+    Ok(Items::from_vec(said))
 }
 
+// Adds what a section says, where it is not of one of the names. They are those of later sections.
 fn add_said(
     alloc: Global,
-    said: &mut Items<Said>,
+    said: &mut Vec<Said>,
+    names: &mut NamesOnce,
     section: &Section,
-    later: &[Section],
 ) -> Result<(), Memory>
-    ensures { OnOk result (said.new ≡ said.old ++ said_by (spec.if_counted section.now later.now)) }
+    ensures said { OnOk result
+        (said.new.items ≡ said.old.items ++ said_by (unless_named names.old section.now)) }
+    ensures names { OnOk result (names.new ≡ with_own_name names.old section.now) }
 {
-    if is_overridden(section, later) {
+    if note_name(names, section)? {
         return Ok(());
     }
     let Some(saying) = said_in(alloc, section)? else {
         return Ok(());
     };
-    said.push(saying)
+    said.push(saying)?;
+    Ok(())
 }
 
-fn is_overridden(section: &Section, later: &[Section]) -> bool
-    ensures { result ≡ spec.is_overridden section.now later.now }
+// Notes the name of a `device` section, and tells whether it was there.
+fn note_name(names: &mut NamesOnce, section: &Section) -> Result<bool, Memory>
+    ensures same { IfOk result (λ same. same ≡ is_among names.old (own_name section.now)) }
+    ensures names { OnOk result (names.new ≡ with_own_name names.old section.now) }
+{
+    match own_name(section) {
+        Some(name) => add_own_name(names, &name),
+        None => Ok(false),
+    }
+}
+
+fn add_own_name(names: &mut NamesOnce, name: &DevName) -> Result<bool, Memory>
+    ensures same { IfOk result (λ same. same ≡ has names.old name.now) }
+    ensures names { OnOk result (names.new ≡ with_name names.old name.now) }
+{
+    let added = names.add(name)?;
+    Ok(!added)
+}
+
+// The name that a `device` section gives.
+fn own_name(section: &Section) -> Option<DevName>
+    ensures { result ≡ own_name section.now }
 {
     if !is_device(section) {
-        return false;
+        return None;
     }
-    is_named_in(later, &section_name(section))
-}
-
-fn is_named_in(sections: &[Section], name: &Stated<DevName>) -> bool
-    ensures { result ≡ spec.is_named_in sections.now name.now }
-{
-    match name {
-        Stated::Read(name) => has_section_of(sections, name),
-        Stated::Absent => false,
-        Stated::Unread => false,
-    }
-}
-
-fn has_section_of(sections: &[Section], name: &DevName) -> bool
-    ensures { result ≡ list_any (spec.is_section_of name.now) sections.now }
-{
-    sections.iter().any(|section| is_section_of(section, name))
-}
-
-fn is_section_of(section: &Section, name: &DevName) -> bool
-    ensures { result ≡ spec.is_section_of name.now section.now }
-{
-    if !is_device(section) {
-        return false;
-    }
-    is_read(&section_name(section), name)
+    name_if_read(&stated_name(section.options.as_slice(), b"name"))
 }
 
 /// Whether it is a `device` section.
@@ -81,21 +82,4 @@ pub fn is_device(section: &Section) -> bool
     ensures { result ≡ spec.is_device section.now }
 {
     section.kind.as_bytes() == b"device".as_slice()
-}
-
-fn section_name(section: &Section) -> Stated<DevName>
-    ensures { result ≡ spec.section_name section.now }
-{
-    stated_name(section.options.as_slice(), b"name")
-}
-
-// Whether the name was read.
-fn is_read(stated: &Stated<DevName>, name: &DevName) -> bool
-    ensures { result ≡ names.is_read name.now stated.now }
-{
-    match stated {
-        Stated::Read(other) => other.text() == name.text(),
-        Stated::Absent => false,
-        Stated::Unread => false,
-    }
 }

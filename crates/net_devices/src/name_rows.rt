@@ -1,7 +1,7 @@
-ghost use Rattle.std.specs.Prelude.{◌≡◌, IfOk};
-ghost use Rattle.std.specs.List.{list_any};
+ghost use Rattle.std.specs.Prelude.{◌≡◌, Some, IfOk, OnOk};
 ghost use Rattle.std.specs.Option.{option_copied};
 ghost use Rattle.net_devices.specs.Faults as faults_spec;
+ghost use Rattle.net_devices.specs.FoundVlans.{has_vlan, HasVlanToo};
 ghost use Rattle.net_devices.specs.NameRows as spec;
 ghost use Rattle.net_devices.specs.Kinds as kinds;
 ghost use Rattle.net_devices.specs.Levels as levels;
@@ -17,6 +17,7 @@ use net_options::{Stated, VlanParts};
 use net_rows::{DeviceRow, FaultName, NameKind, NameRow, RowFault};
 use plane_io::{Items, Memory};
 use std::alloc::Global;
+use std::collections::BTreeSet;
 use uci_tree::Section;
 
 /// The rows of all `device` sections, in file order. `said` is what the sections that count say.
@@ -59,10 +60,13 @@ pub fn rows_of_names(
     ensures { IfOk result (λ rows. rows ≡ spec.name_rows said.now names.now) }
 {
     let mut levels = FoundLevels::new(alloc);
+    let mut vlans = BTreeSet::new(alloc);
     let mut rows = Items::new(alloc);
-    for (place, name) in names.iter().enumerate() {
+    for name in names {
+        let kind = kind_of(alloc, said, name)?;
+        let is_same = note_vlan(&mut vlans, &kind)?;
         let level = level(alloc, said, &mut levels, name)?;
-        rows.push(name_row(alloc, said, &names[..place], name, level)?)?;
+        rows.push(name_row(alloc, said, is_same, name, kind, level)?)?;
     }
     Ok(rows)
 }
@@ -70,15 +74,15 @@ pub fn rows_of_names(
 fn name_row(
     alloc: Global,
     said: &SaidIndex,
-    earlier: &[DevName],
+    is_same: bool,
     name: &DevName,
+    kind: NameKind,
     level: u8,
 ) -> Result<NameRow, Memory>
-    requires { level ≡ levels.level said.now name.now }
-    ensures { IfOk result (λ row. row ≡ spec.name_row said.now earlier.now name.now) }
+    requires kind { kind ≡ kinds.kind_of said.now name.now }
+    requires level { level ≡ levels.level said.now name.now }
+    ensures { IfOk result (λ row. row ≡ spec.row_of said.now is_same name.now) }
 {
-    let kind = kind_of(alloc, said, name)?;
-    let is_same = has_same_vlan(alloc, said, earlier, &kind)?;
     let section = said.section_of(name);
     let faults = name_faults(alloc, said, section, is_same, level > MOST_LEVELS)?;
     Ok(NameRow {
@@ -162,34 +166,23 @@ fn if_read<T: Copy>(stated: &Stated<T>) -> Option<T>
     }
 }
 
-// Whether an earlier name is a VLAN of the same identifier over the same name.
-fn has_same_vlan(
-    alloc: Global,
-    said: &SaidIndex,
-    earlier: &[DevName],
-    kind: &NameKind,
-) -> Result<bool, Memory>
-    ensures { IfOk result (λ same. same ≡ spec.has_same_vlan said.now earlier.now kind.now) }
+// Notes the VLAN that a name of this kind is, and tells whether it was there.
+fn note_vlan(vlans: &mut BTreeSet<(DevName, u16)>, kind: &NameKind) -> Result<bool, Memory>
+    ensures same { IfOk result (λ same. same ≡ has_vlan vlans.old (spec.vlan_of kind.now)) }
+    ensures noted { OnOk result (HasVlanToo vlans.old vlans.new (spec.vlan_of kind.now)) }
 {
-    for name in earlier {
-        let other = kind_of(alloc, said, name)?;
-        if is_same_vlan(kind, &other) {
-            return Ok(true);
-        }
+    match vlan_of(kind) {
+        Some(vlan) => add_vlan(vlans, &vlan),
+        None => Ok(false),
     }
-    Ok(false)
 }
 
-fn is_same_vlan(kind: &NameKind, other: &NameKind) -> bool
-    ensures { result ≡ spec.is_same_vlan kind.now other.now }
+fn add_vlan(vlans: &mut BTreeSet<(DevName, u16)>, vlan: &VlanParts) -> Result<bool, Memory>
+    ensures same { IfOk result (λ same. same ≡ has_vlan vlans.old (Some vlan.now)) }
+    ensures noted { OnOk result (HasVlanToo vlans.old vlans.new (Some vlan.now)) }
 {
-    let Some(vlan) = vlan_of(kind) else {
-        return false;
-    };
-    let Some(other) = vlan_of(other) else {
-        return false;
-    };
-    vlan.id == other.id && vlan.lower.text() == other.lower.text()
+    let added = vlans.insert((vlan.lower, vlan.id))?;
+    Ok(!added)
 }
 
 // The VLAN that a name is, where its section tells the identifier and the lower name.

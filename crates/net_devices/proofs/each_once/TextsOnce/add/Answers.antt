@@ -1,4 +1,4 @@
-use Rattle.std.proofs.Common.{◌≡◌, ℕ, List, ◌∷◌, [], ◌++◌, ap, sym, subst, ◌∙◌}
+use Rattle.std.proofs.Common.{◌≡◌, ℕ, List, ◌∷◌, [], ◌++◌, ap, sym, ◌∙◌}
 use Rattle.net_devices.specs.EachOnce.{has}
 use Rattle.net_devices.proofs.KeyLemmas.{knows_one_more}
 use Rattle.net_devices.proofs.each_once.TextsOnce.add.Goals as goal

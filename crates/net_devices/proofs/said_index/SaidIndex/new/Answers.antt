@@ -1,4 +1,4 @@
-use Rattle.std.proofs.Common.{List, position, ap, sym, ◌∙◌}
+use Rattle.std.proofs.Common.{List, position, ap, ◌∙◌}
 use Rattle.net_devices.specs.declared.said.Said.{Said}
 use Rattle.net_devices.specs.Kinds.{owner}
 use Rattle.net_devices.specs.Found.{section_at, is_of}
