@@ -24,7 +24,7 @@ use Rattle.net_rules.proofs.StandingLemmas.{Stands, stands_by_test, test_of_stan
 abbrev pub rank_down : Conf → List ℕ → ℕ
 rank_down conf name = 7 - (8 - level_at conf name)
 
-abbrev rank_up : Conf → List ℕ → ℕ
+abbrev pub rank_up : Conf → List ℕ → ℕ
 rank_up conf name = 8 - level_at conf name
 
 pub lower_rank : (facts : Facts) → IsSound facts.conf → (upper lower : List ℕ) → Stands facts upper lower → rank_down facts.conf lower < rank_down facts.conf upper
@@ -34,7 +34,7 @@ lower_rank facts sound upper lower h =
     let within = most facts sound upper lower h in
     omega arith
 
-upper_rank : (facts : Facts) → IsSound facts.conf → (upper lower : List ℕ) → Stands facts upper lower → rank_up facts.conf upper < rank_up facts.conf lower
+pub upper_rank : (facts : Facts) → IsSound facts.conf → (upper lower : List ℕ) → Stands facts upper lower → rank_up facts.conf upper < rank_up facts.conf lower
 upper_rank facts sound upper lower h =
     let below = rises facts sound upper lower h in
     let within = most facts sound upper lower h in
@@ -46,7 +46,7 @@ opens_same present f g (Alone fit) same = refl
 opens_same present f g (Over lower id) same = ap (λ b. not present && b) (same lower (here lower []))
 opens_same present f g (Ports empty ports) same = ap (λ b. not present && (empty || b)) (any_same f g ports same)
 
-links_same : (carrier ready : Bool) (f g : List ℕ → Bool) (s : Standing) → ((lower : List ℕ) → Contains (lowers_of s) lower → f lower ≡ g lower) → links carrier ready f s ≡ links carrier ready g s
+pub links_same : (carrier ready : Bool) (f g : List ℕ → Bool) (s : Standing) → ((lower : List ℕ) → Contains (lowers_of s) lower → f lower ≡ g lower) → links carrier ready f s ≡ links carrier ready g s
 links_same carrier ready f g Broken same = refl
 links_same carrier ready f g (Alone fit) same = refl
 links_same carrier ready f g (Over lower id) same = ap (λ b. ready && b) (same lower (here lower []))

@@ -1,5 +1,5 @@
 -- What every history keeps.
-use Rattle.std.proofs.Common.{arith, ◌≡◌, ◌≤◌, ℕ, List, [], ◌∷◌, ◌++◌, Bool, true, false, Contains, Option, Some, None, refl, ap, sym, subst, ◌∙◌}
+use Rattle.std.proofs.Common.{arith, ◌≡◌, ℕ, List, [], ◌++◌, Bool, true, false, None, refl, ap, sym, ◌∙◌}
 use Rattle.std.specs.Prelude.{is_some, if◌then◌else◌}
 use Rattle.kern_model.specs.declared.object.Call.{Call}
 use Rattle.kern_model.specs.CallOrder.{AreCalls, AreAdmitted, after_calls}
@@ -9,17 +9,15 @@ use Rattle.kern_model.proofs.KeepLemmas.{all_keep}
 use Rattle.kern_model.proofs.AllowedLemmas.{nothing_allowed}
 use Rattle.kern_calls.proofs.KeptLemmas.{front_admitted}
 use Rattle.net_options.specs.Dotted.{vlan_parts}
-use Rattle.net_rows.specs.declared.rows.NameKind.{NameKind}
-use Rattle.net_rows.specs.declared.rows.NameKind.TheVariants.{Plain, Bridge, Vlan}
-use Rattle.net_rules.specs.Rows.{is_bridge_kind, ports_of_kind}
-use Rattle.net_rules.specs.Standing.{Standing, Over, standing_of, lowers_of}
+use Rattle.net_rows.specs.declared.rows.NameKind.TheVariants.{Plain, Vlan}
+use Rattle.net_rules.specs.Rows.{is_bridge_kind}
+use Rattle.net_rules.specs.Standing.{Over, standing_of}
 use Rattle.net_rules.specs.Sound.{IsSound}
 use Rattle.net_rules.specs.Inputs.{no_conf}
 use Rattle.net_rules.specs.Want.{want}
 use Rattle.net_rules.specs.Fresh.{IsReached, fresh_start}
 use Rattle.net_rules.specs.Moment.{devices_of, want_of, Moment, IsHistory, IsOrderly}
 use Rattle.net_rules.proofs.StandingLemmas.{rowless_alone, none_owned}
-use Rattle.net_rules.proofs.MomentLemmas.{conf_follows, present_follows}
 use Rattle.net_rules.proofs.FreshLemmas.{fresh_facts}
 use Rattle.net_rules.proofs.StretchLemmas.{inputs_allowed, sound_after, allowed_after}
 

@@ -20,3 +20,4 @@ pub mod NeedLemmas
 pub mod StretchLemmas
 pub mod HistoryLemmas
 pub mod NumberLemmas
+pub mod AloneLemmas

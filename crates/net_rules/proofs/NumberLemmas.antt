@@ -1,6 +1,6 @@
 -- No number is given to two asks.
-use Rattle.std.proofs.Common.{arith, ◌≡◌, ◌⊎◌, inl, inr, ℕ, zero, suc, ◌+◌, ◌<◌, ◌≤◌, List, [], ◌∷◌, ◌++◌, map, length, Bool, true, false, cond, Contains, Option, Some, None, refl, ap, sym, subst, ◌∙◌}
-use Rattle.std.specs.Prelude.{bytes_eq, filter, ◌&&◌, ◌==◌, ⊤}
+use Rattle.std.proofs.Common.{arith, ◌≡◌, ◌⊎◌, inl, inr, ℕ, ◌+◌, ◌<◌, ◌≤◌, List, [], ◌∷◌, ◌++◌, map, length, Bool, true, false, cond, Contains, Option, Some, refl, ap, sym, subst, ◌∙◌}
+use Rattle.std.specs.Prelude.{bytes_eq, filter, ◌&&◌, ◌==◌}
 use Rattle.std.proofs.lemmas.List.Elements.{Contains-append_cases}
 use Rattle.kern_model.proofs.MemberLemmas.{here, there, first_or_later, none_in_nil}
 use Rattle.net_rules.specs.declared.answer.Answer.{Answer}

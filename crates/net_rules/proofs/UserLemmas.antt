@@ -1,11 +1,10 @@
 -- A name is used exactly where it has users.
-use Rattle.std.proofs.Common.{arith, ◌≡◌, ◌⊎◌, inl, inr, ℕ, zero, suc, ◌+◌, ◌<◌, List, [], ◌∷◌, Bool, true, false, Contains, length, refl, ap, sym, ◌∙◌}
+use Rattle.std.proofs.Common.{arith, ◌≡◌, ◌⊎◌, inl, inr, ℕ, zero, suc, ◌+◌, ◌<◌, List, [], ◌∷◌, Bool, true, false, Contains, length, refl, sym, ◌∙◌}
 use Rattle.std.specs.Prelude.{◌&&◌, ◌||◌, filter, if◌then◌else◌}
 use Rattle.std.specs.List.{list_any}
 use Rattle.kern_model.proofs.MemberLemmas.{here}
 use Rattle.kern_model.proofs.TestLemmas.{both, of_both, either, of_left, of_right, from_any, of_any}
 use Rattle.kern_calls.proofs.FilterLemmas.{from_filter, in_filter}
-use Rattle.net_rows.specs.declared.rows.InterfaceRow.{InterfaceRow}
 use Rattle.net_rules.specs.Facts.{Facts}
 use Rattle.net_rules.specs.Rows.{names_of, interfaces_of}
 use Rattle.net_rules.specs.Standing.{stands}

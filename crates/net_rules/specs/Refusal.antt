@@ -1,5 +1,5 @@
 -- Which events are refused for what the inputs are, and what the others come to.
-use Rattle.std.specs.Prelude.{ℕ, List, length, Bool, true, false, not, ◌||◌, Option, Some, None, is_some, is_none, if◌then◌else◌, nat_lt, nat_le, ◌==◌}
+use Rattle.std.specs.Prelude.{ℕ, List, length, Bool, true, false, not, ◌||◌, Option, Some, None, is_some, is_none, nat_lt, nat_le, ◌==◌}
 use Rattle.std.specs.Option.{option_map_or}
 use Rattle.kern_model.specs.declared.object.DevEvent.{DevEvent}
 use Rattle.kern_model.specs.declared.object.DevEvent.TheVariants as device

@@ -1,12 +1,13 @@
 -- What every list of rows keeps that is read from a configuration.
-use Rattle.std.specs.Prelude.{ℕ, ◌≡◌, ◌≤◌, ◌<◌, List, [], Contains, true, false}
+use Rattle.std.specs.Prelude.{ℕ, ◌≡◌, ◌≤◌, ◌<◌, List, [], Contains, Bool, true, false}
 use Rattle.kern_model.specs.declared.vlan_name.TheConstants.{LEAST_VLAN_ID, MOST_VLAN_ID}
 use Rattle.net_rows.specs.declared.rows.Conf.{Conf}
 use Rattle.net_rows.specs.declared.rows.NameKind.TheVariants.{Plain}
 use Rattle.net_rows.specs.declared.rows.VlanRow.{VlanRow}
 use Rattle.net_rows.specs.declared.rows.VlanEntry.{VlanEntry}
 use Rattle.net_rules.specs.Rows.{row_at, kind_at, is_bridge, ports_of_kind, names_of, is_vlan_of}
-use Rattle.net_rules.specs.Standing.{Standing, Over, standing_of_row, lowers_of}
+use Rattle.net_rules.specs.Facts.{Facts}
+use Rattle.net_rules.specs.Standing.{Standing, Over, standing_of_row, standing_at, lowers_of}
 
 abbrev pub level_at : Conf → List ℕ → ℕ
 level_at conf name = (row_at conf.names name).level
@@ -60,3 +61,10 @@ pub record IsSound (conf : Conf) : Type 0 where
   pub levels : HasSoundLevels conf
   pub names : HasSoundNames conf
   pub vlans : HasSoundVlans conf
+
+-- names, by a test, that have with each one those that it stands on; and names that have with each one those that stand on it
+abbrev pub AreClosedDown : Facts → (List ℕ → Bool) → Type 0
+AreClosedDown facts among = (upper lower : List ℕ) → among upper ≡ true → Contains (lowers_of (standing_at facts upper)) lower → among lower ≡ true
+
+abbrev pub AreClosedUp : Facts → (List ℕ → Bool) → Type 0
+AreClosedUp facts among = (upper lower : List ℕ) → among lower ≡ true → Contains (lowers_of (standing_at facts upper)) lower → among upper ≡ true

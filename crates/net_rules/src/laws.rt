@@ -1,5 +1,5 @@
 // Laws of the definitions. Each body is empty, and the contract is the law.
-ghost use Rattle.std.specs.Prelude.{◌≡◌, ◌↔◌, ℕ, List, Option, Some, Contains, true, ◌<◌, ◌≤◌};
+ghost use Rattle.std.specs.Prelude.{◌≡◌, ◌↔◌, ℕ, List, Bool, Option, Some, Contains, true, ◌<◌, ◌≤◌};
 ghost use Rattle.std.specs.FinMap as map;
 ghost use Rattle.kern_model.specs.declared.object.Object.{Object};
 ghost use Rattle.kern_model.specs.declared.object.Call.{Call};
@@ -17,7 +17,7 @@ ghost use Rattle.net_rules.specs.declared.inputs.OpenRadio.{OpenRadio};
 ghost use Rattle.net_rules.specs.declared.event.Event.{Event};
 ghost use Rattle.net_rules.specs.declared.event.Event.TheVariants as event;
 ghost use Rattle.net_rules.specs.Facts.{Facts};
-ghost use Rattle.net_rules.specs.Sound.{IsSound};
+ghost use Rattle.net_rules.specs.Sound.{IsSound, AreClosedDown, AreClosedUp};
 ghost use Rattle.net_rules.specs.Available.{opens_at, available, links_at, link};
 ghost use Rattle.net_rules.specs.Used.{serves_at, used, users};
 ghost use Rattle.net_rules.specs.Need.{interface_need};
@@ -39,6 +39,23 @@ pub fn answers_follow_the_rows()
         → (name : List ℕ) → link facts name ≡ links_at facts (link facts) name }
     ensures used { (facts : Facts) → IsSound facts.conf
         → (name : List ℕ) → used facts name ≡ serves_at facts (used facts) name }
+{}
+
+/// Nothing else answers so: what follows the rows among names that have with each one those below it, or those above it, gives there
+/// the same answers.
+pub fn no_other_answers_follow_the_rows()
+    ensures available { (facts : Facts) → IsSound facts.conf → (among : List ℕ → Bool)
+        (answer : List ℕ → Bool) → AreClosedDown facts among
+        → ((name : List ℕ) → among name ≡ true → answer name ≡ opens_at facts answer name)
+        → (name : List ℕ) → among name ≡ true → answer name ≡ available facts name }
+    ensures link { (facts : Facts) → IsSound facts.conf → (among : List ℕ → Bool)
+        (answer : List ℕ → Bool) → AreClosedDown facts among
+        → ((name : List ℕ) → among name ≡ true → answer name ≡ links_at facts answer name)
+        → (name : List ℕ) → among name ≡ true → answer name ≡ link facts name }
+    ensures used { (facts : Facts) → IsSound facts.conf → (among : List ℕ → Bool)
+        (answer : List ℕ → Bool) → AreClosedUp facts among
+        → ((name : List ℕ) → among name ≡ true → answer name ≡ serves_at facts answer name)
+        → (name : List ℕ) → among name ≡ true → answer name ≡ used facts name }
 {}
 
 /// A name is used exactly where it has users.
