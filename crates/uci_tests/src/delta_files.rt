@@ -2,7 +2,7 @@ use crate::packages::shown;
 use std::alloc::Global;
 use std::process::Abort;
 use std::test::Fail;
-use uci_delta::{apply, print_delta, read_deltas};
+use uci_delta::{apply, apply_all, print_delta, read_deltas};
 use uci_tree::read_package;
 
 /// A text of a delta file, and what the deltas of the package `p` in it are printed as, one a line.
@@ -216,7 +216,8 @@ fn delta_files_are_applied(rt: HostRuntime) -> Result<(), Fail> {
         assert!(rt; text.len() < 4096);
         let mut tree = read_package(alloc, b"p", text)?;
         let mut refused: usize = 0;
-        for delta in read_deltas(alloc, b"p", deltas)?.as_slice() {
+        let list = read_deltas(alloc, b"p", deltas)?;
+        for delta in list.as_slice() {
             if apply(alloc, &mut tree, delta).is_err() {
                 refused = refused.saturating_add(1);
             }
@@ -225,6 +226,11 @@ fn delta_files_are_applied(rt: HostRuntime) -> Result<(), Fail> {
         assert_eq!(rt; out.as_slice(), wanted, "{deltas:?}");
         assert_eq!(rt; tree.made, made, "{deltas:?}");
         assert_eq!(rt; refused, lost, "{deltas:?}");
+        let mut whole = read_package(alloc, b"p", text)?;
+        apply_all(alloc, &mut whole, list.as_slice())?;
+        let out = shown(alloc, &whole)?;
+        assert_eq!(rt; out.as_slice(), wanted, "{deltas:?}");
+        assert_eq!(rt; whole.made, made, "{deltas:?}");
     }
     Ok(())
 }
