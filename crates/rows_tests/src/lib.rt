@@ -4,6 +4,8 @@
 #[cfg(test)]
 mod interfaces;
 #[cfg(test)]
+mod limits;
+#[cfg(test)]
 mod radios;
 #[cfg(test)]
 mod routes;
