@@ -1,11 +1,12 @@
 -- Rows of usual routers, and what they want, as the checker computes it.
 use Rattle.std.proofs.Common.{◌≡◌, ℕ, List, [], ◌∷◌, Bool, true, false, Some, None, codes, refl}
-use Rattle.std.specs.Prelude.{replicate}
+use Rattle.std.specs.Prelude.{◌+◌, map, filter, replicate}
 use Rattle.net_addr.specs.declared.address.Addr.{Addr}
 use Rattle.net_addr.specs.declared.address.Addr.TheVariants.{V4}
 use Rattle.kern_model.specs.declared.object.Device.{Device}
 use Rattle.kern_model.specs.declared.object.DevEvent.TheVariants as device
 use Rattle.kern_model.specs.declared.object.LinkKind.TheVariants as kind
+use Rattle.kern_model.specs.declared.object.Object.{Object}
 use Rattle.kern_model.specs.declared.object.Object.TheVariants as object
 use Rattle.uci_tree.specs.declared.package.Value.TheVariants.{One}
 use Rattle.net_rows.specs.declared.rows.Conf.{Conf}
@@ -22,6 +23,8 @@ use Rattle.net_rules.specs.Inputs.{facts_of, no_inputs}
 use Rattle.net_rules.specs.Available.{available, link}
 use Rattle.net_rules.specs.Used.{used, users}
 use Rattle.net_rules.specs.Want.{wanted_list}
+use Rattle.net_rules.specs.Down.{leads_down}
+use Rattle.net_rules.specs.Footprint.{is_of}
 use Rattle.net_rules.specs.After.{after}
 use Rattle.net_rules.specs.declared.refusal.Refusal.TheVariants as refused
 use Rattle.net_rules.specs.Refusal.{refusal}
@@ -279,3 +282,91 @@ forgotten = refl
 numbers : notices (after no_inputs (come wan)) (event.Load wireless) ≡ notice.Interface 1 1 (Some wan) ∷ notice.Radio 2 0 ∷ []
 unfolding after available link by_levels
 numbers = refl
+
+-- What the footprint of an interface has, in the order of what is wanted.
+abbrev footprint_list : Inputs → InterfaceRow → List Object
+footprint_list inputs row = filter (is_of (facts_of inputs) row) (wanted_list (facts_of inputs))
+
+abbrev on_eth0 : InterfaceRow
+on_eth0 = interface_row (codes "b") (codes "none") eth0 false []
+
+abbrev v1 : List ℕ
+v1 = codes "v1"
+
+abbrev v2 : List ℕ
+v2 = codes "v2"
+
+abbrev on_v1 : InterfaceRow
+on_v1 = interface_row (codes "a") (codes "static") v1 true ((v4 10 0 2 1, 24) ∷ [])
+
+abbrev on_v2 : InterfaceRow
+on_v2 = interface_row (codes "a") (codes "static") v2 true ((v4 10 0 2 1, 24) ∷ [])
+
+-- a VLAN without a number that reads is broken: the device below it is of the footprint, where another interface uses it
+bad_number : footprint_list (with_names (broken_row v1 (Vlan (Some eth0) 0) 2 ∷ name_row eth0 Plain 1 ∷ []) (on_v1 ∷ on_eth0 ∷ []) ((eth0, present true) ∷ [])) on_v1 ≡
+    object.Up eth0 ∷ []
+unfolding available link used by_levels leads_down
+bad_number = refl
+
+-- so it is where the VLAN has the lower and the number of an earlier one
+same_vlan : footprint_list (with_names (name_row v1 (Vlan (Some eth0) 7) 2 ∷ name_row eth0 Plain 1 ∷ broken_row v2 (Vlan (Some eth0) 7) 2 ∷ []) (on_v2 ∷ on_eth0 ∷ []) ((eth0, present true) ∷ [])) on_v2 ≡
+    object.Up eth0 ∷ []
+unfolding available link used by_levels leads_down
+same_vlan = refl
+
+-- and where an answer names a device of the form X.N that has no row
+abbrev two_rows : Conf
+two_rows = record router { interfaces = interface_row wan (codes "dhcp") wan false [] ∷ on_eth0 ∷ []; names = name_row wan Plain 1 ∷ name_row eth0 Plain 1 ∷ [] }
+
+abbrev eth0-9_told : Inputs
+eth0-9_told = after (after (after (after no_inputs (event.Load two_rows)) (come eth0)) (come wan)) (layer_given (codes "eth0.9"))
+
+without_a_row : footprint_list eth0-9_told (interface_row wan (codes "dhcp") wan false []) ≡ object.Up wan ∷ object.Up eth0 ∷ []
+unfolding after available link used by_levels leads_down
+without_a_row = refl
+
+-- a layer-3 device that is not the own one: both are of the footprint
+own_and_layer : footprint_list (after with_layer (layer_given (codes "tun0"))) (interface_row wan (codes "dhcp") wan false []) ≡
+    object.Up wan ∷ object.Up (codes "tun0") ∷ object.Address (codes "tun0") (v4 192 0 2 5, 24) ∷ []
+unfolding after available link used by_levels leads_down
+own_and_layer = refl
+
+-- a bridge below a VLAN is of the footprint, with the VLAN that is set on the bridge itself, but not its ports
+over_bridge : footprint_list (record { conf = filtering; devices = (lan1, present true) ∷ []; commands = []; interfaces = []; radios = []; next = 1 }) (interface_row (codes "x") (codes "static") br0-10 true ((v4 10 0 10 1, 24) ∷ [])) ≡
+    object.Up br0 ∷ object.Link br0 (kind.Bridge None true) ∷ object.Vlan br0 br0 10 false false
+    ∷ object.Up br0-10 ∷ object.Link br0-10 (kind.Vlan br0 10 None) ∷ object.Address br0-10 (v4 10 0 10 1, 24) ∷ []
+unfolding available link used by_levels leads_down
+over_bridge = refl
+
+-- names without rows lead down dot by dot; a row without a lower ends the way; a ring leads to all that are on it, and nowhere else
+ways_down :
+    (leads_down [] (codes "eth0.9.3") eth0 ≡ true)
+    × (leads_down (broken_row eth0-2 (Vlan None 0) 1 ∷ []) eth0-2 eth0 ≡ false)
+    × (leads_down (broken_row v1 (Vlan (Some v2) 1) 9 ∷ broken_row v2 (Vlan (Some v1) 1) 9 ∷ []) v1 v2 ≡ true)
+    × (leads_down (broken_row v1 (Vlan (Some v2) 1) 9 ∷ broken_row v2 (Vlan (Some v1) 1) 9 ∷ []) v1 eth0 ≡ false)
+    × (leads_down (name_row br0 (Bridge false (lan1 ∷ [])) 2 ∷ name_row lan1 Plain 1 ∷ []) br0 lan1 ≡ false)
+unfolding leads_down
+ways_down = (refl, refl, refl, refl, refl)
+
+-- a chain that is too high leads down to its end all the same
+abbrev digit_name : ℕ → List ℕ
+digit_name n = (48 + n) ∷ []
+
+abbrev chain : List NameRow
+chain = map (λ n. broken_row (digit_name (n + 1)) (Vlan (Some (digit_name n)) 1) 9) (0 ∷ 1 ∷ 2 ∷ 3 ∷ 4 ∷ 5 ∷ 6 ∷ 7 ∷ 8 ∷ [])
+
+too_high : leads_down chain (digit_name 9) (digit_name 0) ≡ true
+unfolding leads_down
+too_high = refl
+
+-- a VLAN goes with its lower, and is not made where a device has its name
+abbrev vlan_with : List (List ℕ × Device) → Inputs
+vlan_with devices = with_names (name_row eth0 Plain 1 ∷ name_row eth0-2 (Vlan (Some eth0) 2) 2 ∷ []) (interface_row (codes "v") (codes "static") eth0-2 true ((v4 10 0 2 1, 24) ∷ []) ∷ []) devices
+
+lower_gone : wanted_list (facts_of (after (vlan_with ((eth0, present true) ∷ [])) (event.Device (device.Remove eth0)))) ≡ []
+unfolding after available link used by_levels
+lower_gone = refl
+
+name_taken : wanted_list (facts_of (vlan_with ((eth0, present true) ∷ (eth0-2, present true) ∷ []))) ≡ []
+unfolding available link used by_levels
+name_taken = refl

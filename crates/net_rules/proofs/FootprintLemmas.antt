@@ -1,6 +1,6 @@
 -- A footprint has with each object the held links that it stands on.
-use Rattle.std.proofs.Common.{arith, ℕ, ◌≡◌, ◌<◌, inl, inr, zero, suc, List, [], ◌∷◌, Option, Some, None, Bool, true, false, Contains, refl, ap, sym, subst, ◌∙◌}
-use Rattle.std.specs.Prelude.{◌||◌, bytes_eq, is_some}
+use Rattle.std.proofs.Common.{ℕ, ◌≡◌, inl, inr, List, [], ◌∷◌, Option, Some, None, Bool, true, false, Contains, refl, ap, sym, subst, ◌∙◌}
+use Rattle.std.specs.Prelude.{bytes_eq, is_some}
 use Rattle.std.specs.FinMap as map
 use Rattle.kern_model.specs.declared.object.LinkKind.{LinkKind}
 use Rattle.kern_model.specs.declared.object.LinkKind.TheVariants.{Bridge, Vlan}
@@ -12,7 +12,7 @@ use Rattle.kern_model.specs.Kernel.{Devices}
 use Rattle.kern_model.specs.Standing.{places_of, IsOver}
 use Rattle.kern_model.specs.AdmissionTest.{is_among}
 use Rattle.kern_model.specs.Allowed.{are_one_vlan, AreAllowed}
-use Rattle.kern_model.proofs.MemberLemmas.{here, first_or_later, none_in_nil}
+use Rattle.kern_model.proofs.MemberLemmas.{first_or_later, none_in_nil}
 use Rattle.kern_model.proofs.TestLemmas.{both, either, of_left, of_right, bytes_same, same_bytes}
 use Rattle.kern_model.proofs.SetLemmas.{has_retained, of_retained, same_object}
 use Rattle.std.proofs.lemmas.Map.Views.{Contains-from_any}
@@ -20,61 +20,32 @@ use Rattle.kern_calls.specs.Kept.{IsWholePart}
 use Rattle.net_rows.specs.declared.rows.InterfaceRow.{InterfaceRow}
 use Rattle.net_rules.specs.Facts.{Facts}
 use Rattle.net_rules.specs.Rows.{row_at, is_filtering}
-use Rattle.net_rules.specs.RadioPorts.{device_of}
-use Rattle.net_rules.specs.Standing.{Standing, Broken, Alone, Over, Ports, standing_at, lowers_of}
+use Rattle.net_rules.specs.RadioPorts.{device_of, radio_ports_of}
+use Rattle.net_rules.specs.Standing.{Standing, Broken, Alone, Over, Ports, standing_at}
 use Rattle.net_rules.specs.Sound.{IsSound}
 use Rattle.net_rules.specs.Interfaces.{layer_of}
 use Rattle.net_rules.specs.Used.{used}
 use Rattle.net_rules.specs.Want.{want, given}
 use Rattle.net_rules.specs.Wanted.{IsUsedBridge, IsWantedPortVlan}
-use Rattle.net_rules.specs.Footprint.{leads, leads_at, is_down, is_down_from, is_below, is_of, footprint}
-use Rattle.net_rules.proofs.LevelLemmas.{IsLocal, follows}
-use Rattle.net_rules.proofs.StandingLemmas.{vlan_stands, only}
-use Rattle.net_rules.proofs.DeviceLemmas.{rank_down, lower_rank, not_broken, present_alone, used_available}
+use Rattle.net_rules.specs.Down.{LeadsDown, leads_down}
+use Rattle.net_rules.specs.Footprint.{is_down_from, is_below, is_of, footprint}
+use Rattle.net_rules.proofs.DownLemmas.{down_test, down_joined, down_of_test, standing_lower}
+use Rattle.net_rules.proofs.StandingLemmas.{only}
+use Rattle.net_rules.proofs.DeviceLemmas.{not_broken, present_alone, used_available}
 use Rattle.net_rules.proofs.GivenLemmas.{IsOn, on_layer}
 use Rattle.net_rules.proofs.WantLemmas.{has_wanted, of_wanted}
 use Rattle.net_rules.proofs.AllowedLemmas.{lower_used, allowed}
 
-leads_same : (f g : List ℕ → Bool) (s : Standing) → ((lower : List ℕ) → Contains (lowers_of s) lower → f lower ≡ g lower) → leads f s ≡ leads g s
-leads_same f g Broken same = refl
-leads_same f g (Alone fit) same = refl
-leads_same f g (Over lower id) same = same lower (here lower [])
-leads_same f g (Ports empty ports) same = refl
+module _ (facts : Facts) where
+  down_itself : (name : List ℕ) → leads_down facts.conf.names name name ≡ true
+  down_itself name = down_test facts.conf.names name name LeadsDown.itself
 
-module _ (facts : Facts) (sound : IsSound facts.conf) where
-  leads_local : (base : List ℕ) → IsLocal (leads_at facts base) (rank_down facts.conf)
-  leads_local base f g name same = ap (λ b. bytes_eq name base || b) (leads_same f g (standing_at facts name) (λ lower h. same lower (lower_rank facts sound name lower h)))
-
-  down_follows : (name base : List ℕ) → is_down facts name base ≡ leads_at facts base (λ other. is_down facts other base) name
-  unfolding is_down
-  down_follows name base = follows (leads_at facts base) (rank_down facts.conf) (leads_local base) (λ other. omega arith) name
-
-  down_itself : (name : List ℕ) → is_down facts name name ≡ true
-  down_itself name = down_follows name name ∙ of_left (bytes_eq name name) (leads (λ other. is_down facts other name) (standing_at facts name)) (same_bytes name name refl)
-
-  -- what is down from the lower of a VLAN is down from the VLAN
-  down_over : (name lower : List ℕ) (id : ℕ) (base : List ℕ) → standing_at facts name ≡ Over lower id → is_down facts lower base ≡ true → is_down facts name base ≡ true
-  down_over name lower id base is h =
-      down_follows name base ∙ of_right (bytes_eq name base) (leads (λ other. is_down facts other base) (standing_at facts name))
-      (ap (leads (λ other. is_down facts other base)) is ∙ h)
-
-  -- from one name down to a second, and on to a third
-  on_behind : (name second third : List ℕ) (s : Standing) → standing_at facts name ≡ s → ((lower : List ℕ) → rank_down facts.conf lower < rank_down facts.conf name → is_down facts lower second ≡ true → is_down facts lower third ≡ true) → leads (λ other. is_down facts other second) s ≡ true → is_down facts name third ≡ true
-  on_behind name second third Broken is further h = cc h
-  on_behind name second third (Alone fit) is further h = cc h
-  on_behind name second third (Over lower id) is further h = down_over name lower id third is (further lower (lower_rank facts sound name lower (vlan_stands facts name lower id is)) h)
-  on_behind name second third (Ports empty ports) is further h = cc h
-
-  down_on : (fuel : ℕ) (name second third : List ℕ) → rank_down facts.conf name < fuel → is_down facts name second ≡ true → is_down facts second third ≡ true → is_down facts name third ≡ true
-  down_on zero name second third few p q = absurd (omega arith)
-  down_on (suc fuel) name second third few p q =
-      elim (either (bytes_eq name second) (leads (λ other. is_down facts other second) (standing_at facts name)) (sym (down_follows name second) ∙ p)) as (λ _. is_down facts name third ≡ true) [
-        | inl same ↦ subst (λ n. is_down facts n third ≡ true) (sym (bytes_same name second same)) q
-        | inr behind ↦ on_behind name second third (standing_at facts name) refl (λ lower falls h. down_on fuel lower second third (omega arith) h q) behind
-      ]
-
-  down_lower : (name second lower : List ℕ) (id : ℕ) → is_down facts name second ≡ true → standing_at facts second ≡ Over lower id → is_down facts name lower ≡ true
-  down_lower name second lower id p is = down_on 8 name second lower (omega arith) p (down_over second lower id lower is (down_itself lower))
+  -- what is down to a VLAN is down to its lower
+  down_lower : (name second lower : List ℕ) (id : ℕ) → leads_down facts.conf.names name second ≡ true → standing_at facts second ≡ Over lower id → leads_down facts.conf.names name lower ≡ true
+  down_lower name second lower id p is =
+      let names = facts.conf.names in
+      let step = LeadsDown.over second lower (standing_lower names second (radio_ports_of facts second) lower id is) LeadsDown.itself in
+      down_test names name lower (down_joined names lower second name step (down_of_test names name second p))
 
   from_lower : (from : Option (List ℕ)) (name lower : List ℕ) (id : ℕ) → is_down_from facts from name ≡ true → standing_at facts name ≡ Over lower id → is_down_from facts from lower ≡ true
   from_lower None name lower id p is = cc p
@@ -130,7 +101,7 @@ module _ (facts : Facts) (devices : Devices) (sound : IsSound facts.conf) (same_
       subst (Has (footprint facts row)) (one_link devices held admitted name made kind (has (object.Link name made) own) h) own
 
   lower_under : (name lower : List ℕ) (id : ℕ) → standing_at facts name ≡ Over lower id → IsUnder facts row name → IsUnder facts row lower
-  lower_under name lower id is under = record { serves = lower_used facts devices sound same_devices name lower id is under.serves; below = below_lower facts sound row name lower id under.below is }
+  lower_under name lower id is under = record { serves = lower_used facts devices sound same_devices name lower id is under.serves; below = below_lower facts row name lower id under.below is }
 
   -- a held link that a used name below the interface is over is of the footprint too
   base_of : (base name : List ℕ) (kind : LinkKind) → Has held (object.Link base kind) → IsOver held base name → IsUnder facts row name → Has (footprint facts row) (object.Link base kind)
@@ -148,7 +119,7 @@ module _ (facts : Facts) (devices : Devices) (sound : IsSound facts.conf) (same_
   layer_under : (o : Object) (dev : List ℕ) → ((layer : List ℕ) → IsOn layer o → dev ≡ layer) → used facts dev ≡ true → Contains (given facts row) o → IsUnder facts row dev
   layer_under o dev on_dev serves h =
       let on = on_layer facts row o h in
-      record { serves = serves; below = subst (λ n. is_below facts row n ≡ true) (sym (on_dev on.layer on.on)) (below_layer facts sound row on.layer on.layer_is) }
+      record { serves = serves; below = subst (λ n. is_below facts row n ≡ true) (sym (on_dev on.layer on.on)) (below_layer facts row on.layer on.layer_is) }
 
   up_used : (dev : List ℕ) → Has (want facts) (object.Up dev) → used facts dev ≡ true
   up_used dev h = of_wanted facts sound (object.Up dev) h

@@ -7,6 +7,7 @@ pub mod UserLemmas
 pub mod GivenLemmas
 pub mod WantLemmas
 pub mod AllowedLemmas
+pub mod DownLemmas
 pub mod FootprintLemmas
 pub mod TableLemmas
 pub mod MomentLemmas

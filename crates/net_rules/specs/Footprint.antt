@@ -6,34 +6,21 @@ use Rattle.kern_model.specs.declared.object.Object.TheVariants as object
 use Rattle.kern_model.specs.ObjectOrder.{Objects}
 use Rattle.kern_model.specs.AdmissionTest.{is_among}
 use Rattle.net_rows.specs.declared.rows.InterfaceRow.{InterfaceRow}
-use Rattle.net_rules.specs.Levels.{by_levels}
 use Rattle.net_rules.specs.Facts.{Facts}
 use Rattle.net_rules.specs.RadioPorts.{device_of}
-use Rattle.net_rules.specs.Standing.{Standing, Broken, Alone, Over, Ports, standing_at}
+use Rattle.net_rules.specs.Down.{leads_down}
 use Rattle.net_rules.specs.Interfaces.{layer_of}
 use Rattle.net_rules.specs.Want.{given, want}
 
--- by what is below, whether VLANs lead down to a name
-abbrev pub leads : (List ℕ → Bool) → Standing → Bool
-leads below Broken = false
-leads below (Alone sound) = false
-leads below (Over lower id) = below lower
-leads below (Ports empty ports) = false
-
-abbrev pub leads_at : Facts → List ℕ → (List ℕ → Bool) → List ℕ → Bool
-leads_at facts base below name = bytes_eq name base || leads below (standing_at facts name)
-
--- the base is the name, or the lower of VLANs from there on down
-unfoldable pub is_down : Facts → List ℕ → List ℕ → Bool
-is_down facts name base = by_levels 8 (leads_at facts base) name
-
+-- VLANs lead from a name, where there is one, down to the base
 abbrev pub is_down_from : Facts → Option (List ℕ) → List ℕ → Bool
 is_down_from facts None base = false
-is_down_from facts (Some name) base = is_down facts name base
+is_down_from facts (Some name) base = leads_down facts.conf.names name base
 
--- the name is the device of an interface or its layer-3 device, or the lower of VLANs among these all the way down
+-- the name is the device of an interface or its layer-3 device, or the lower of VLANs among these all the way down, broken or not
 abbrev pub is_below : Facts → InterfaceRow → List ℕ → Bool
-is_below facts row name = is_down_from facts (device_of facts row) name || is_down_from facts (layer_of facts row) name
+is_below facts row name =
+    is_down_from facts (device_of facts row) name || is_down_from facts (layer_of facts row) name
 
 -- links, MTUs, hardware addresses and names that are up, of these names; VLANs of bridges that are set on these names
 -- themselves; and the addresses and routes of the interface

@@ -49,7 +49,7 @@ abbrev pub is_answered_up : Option Answer → Bool
 is_answered_up None = false
 is_answered_up (Some answer) = answer.up
 
--- An interface is up where it is ready. One of whom handlers are asked also needs that the latest answer is up, and that its
+-- An interface is up where it is ready. One whose protocol has a handler also needs that the latest answer is up, and that its
 -- layer-3 device serves.
 abbrev pub is_up : Facts → InterfaceRow → Bool
 is_up facts row = is_ready facts row && (asks_nothing row.proto || (is_answered_up (answer_of facts row) && serves_layer facts (device_of facts row) (layer_of facts row)))

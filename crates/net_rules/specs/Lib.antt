@@ -26,6 +26,8 @@ pub mod Need
 pub mod Want
 -- the same by the kinds of objects
 pub mod Wanted
+-- where VLANs lead down to
+pub mod Down
 -- the objects of what an interface stands on
 pub mod Footprint
 -- the facts of inputs

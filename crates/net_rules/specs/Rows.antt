@@ -18,7 +18,7 @@ abbrev pub is_name : Option (List ℕ) → List ℕ → Bool
 is_name None name = false
 is_name (Some other) name = bytes_eq other name
 
--- the kind of a name without a row: plain, but a VLAN of nothing where it is of the form X.N
+-- the kind of a name without a row: plain, but a VLAN where it is of the form X.N, whose lower `lower_in` says
 abbrev pub rowless_kind : List ℕ → NameKind
 rowless_kind name = if is_some (vlan_parts name) then Vlan None 0 else Plain
 

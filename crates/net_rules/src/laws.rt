@@ -9,6 +9,7 @@ ghost use Rattle.kern_model.specs.ObjectOrder.{Objects, Has};
 ghost use Rattle.kern_model.specs.Kernel.{Devices, map_of, after_event, object_of};
 ghost use Rattle.kern_model.specs.Allowed.{AreAllowed};
 ghost use Rattle.kern_model.specs.CallOrder.{AreCalls, AreAdmitted, after_calls};
+ghost use Rattle.net_rows.specs.declared.rows.NameRow.{NameRow};
 ghost use Rattle.net_rows.specs.declared.rows.InterfaceRow.{InterfaceRow};
 ghost use Rattle.net_rules.specs.declared.answer.Answer.{Answer};
 ghost use Rattle.net_rules.specs.declared.inputs.Inputs.{Inputs};
@@ -23,6 +24,7 @@ ghost use Rattle.net_rules.specs.Used.{serves_at, used, users};
 ghost use Rattle.net_rules.specs.Need.{interface_need};
 ghost use Rattle.net_rules.specs.Want.{want};
 ghost use Rattle.net_rules.specs.Wanted.{IsWanted};
+ghost use Rattle.net_rules.specs.Down.{LeadsDown, leads_down};
 ghost use Rattle.net_rules.specs.Footprint.{footprint};
 ghost use Rattle.net_rules.specs.Inputs.{facts_of, open_interface, open_radio};
 ghost use Rattle.net_rules.specs.After.{devices_after, after};
@@ -109,6 +111,12 @@ pub fn every_history_is_orderly()
     ensures fresh { (moment : Moment) (calls : List Call) → IsHistory moment
         → AreCalls (devices_of moment.inputs) moment.held (want_of moment.inputs) calls
         → after_calls moment.held calls ≡ want_of (fresh_start moment.inputs) }
+{}
+
+/// VLANs lead from a name down to a base exactly where the test of it says so, however long their chain is.
+pub fn what_vlans_lead_to_is_tested()
+    ensures { (rows : List NameRow) (name base : List ℕ)
+        → (leads_down rows name base ≡ true) ↔ LeadsDown rows base name }
 {}
 
 /// Where an allowed set of held objects and a wanted one both have the footprint of an interface, no call between them names an object
