@@ -1,5 +1,5 @@
 // Laws of the definitions. Each body is empty, and the contract is the law.
-ghost use Rattle.std.specs.Prelude.{◌≡◌, ◌↔◌, ℕ, List, Bool, Option, Some, Contains, true, ◌<◌, ◌≤◌};
+ghost use Rattle.std.specs.Prelude.{◌≡◌, ◌↔◌, ℕ, List, length, Bool, Option, Some, Contains, true, ◌+◌, ◌<◌, ◌≤◌};
 ghost use Rattle.std.specs.FinMap as map;
 ghost use Rattle.kern_model.specs.declared.object.Object.{Object};
 ghost use Rattle.kern_model.specs.declared.object.Call.{Call};
@@ -153,10 +153,14 @@ pub fn asks_are_the_needs()
     ensures { (inputs : Inputs) → IsReached inputs → AreAsked inputs }
 {}
 
-/// Each open ask has a number of its own below the next one, which never falls: no number is given twice.
+/// Each open ask has a number of its own below the next one, which never falls: no number is given twice. An event raises it by one at
+/// most for each interface and each radio of the rows.
 pub fn no_number_is_given_twice()
     ensures numbered { (inputs : Inputs) → IsReached inputs → AreNumbered inputs }
     ensures rises { (inputs : Inputs) (event : Event) → inputs.next ≤ (after inputs event).next }
+    ensures few { (inputs : Inputs) (event : Event) → (after inputs event).next
+        ≤ inputs.next + (length (after inputs event).conf.interfaces
+        + length (after inputs event).conf.radios) }
 {}
 
 /// An answer to a number that is not that of the open ask changes nothing.
