@@ -17,19 +17,21 @@ abbrev pub is_down_from : Facts → Option (List ℕ) → List ℕ → Bool
 is_down_from facts None base = false
 is_down_from facts (Some name) base = leads_down facts.conf.names name base
 
--- the name is the device of an interface or its layer-3 device, or the lower of VLANs among these all the way down, broken or not
+-- the name is the device of an interface or its layer-3 device, or the lower of VLANs among these
+-- all the way down, broken or not
 abbrev pub is_below : Facts → InterfaceRow → List ℕ → Bool
 is_below facts row name =
     is_down_from facts (device_of facts row) name || is_down_from facts (layer_of facts row) name
 
--- links, MTUs, hardware addresses and names that are up, of these names; VLANs of bridges that are set on these names
--- themselves; and the addresses and routes of the interface
+-- links, MTUs, hardware addresses and names that are up, of these names; VLANs of bridges that are
+-- set on these names themselves; and the addresses and routes of the interface
 abbrev pub is_of : Facts → InterfaceRow → Object → Bool
 is_of facts row (object.Link name kind) = is_below facts row name
 is_of facts row (object.Mtu name mtu) = is_below facts row name
 is_of facts row (object.Mac name mac) = is_below facts row name
 is_of facts row (object.Master port bridge) = false
-is_of facts row (object.Vlan bridge port id pvid untagged) = bytes_eq port bridge && is_below facts row bridge
+is_of facts row (object.Vlan bridge port id pvid untagged) =
+    bytes_eq port bridge && is_below facts row bridge
 is_of facts row (object.Up name) = is_below facts row name
 is_of facts row (object.Address dev cidr) = is_among (given facts row) (object.Address dev cidr)
 is_of facts row (object.Route r) = is_among (given facts row) (object.Route r)

@@ -33,7 +33,8 @@ refused_if true refusal = Some refusal
 abbrev pub is_held_link : Objects → List ℕ → Bool
 is_held_link held name = list_any (is_link_of name) (set.items held)
 
--- the name is that of a present device, of a bridge or a VLAN of the rows, one of the form X.N among them, or of a held link
+-- the name is that of a present device, of a bridge or a VLAN of the rows, one of the form X.N
+-- among them, or of a held link
 abbrev pub is_known : Moment → List ℕ → Bool
 is_known moment name =
     is_some (device_in moment.inputs.devices name)
@@ -51,7 +52,8 @@ device_refusal moment (device.Carrier name on) =
 -- a number is stale that is not that of the open ask; without an open ask every number is
 abbrev pub stale_number : ℕ → Option ℕ → Option Refusal
 stale_number given None = Some (refused.Stale given 0)
-stale_number given (Some current) = refused_if (not (given == current)) (refused.Stale given current)
+stale_number given (Some current) =
+    refused_if (not (given == current)) (refused.Stale given current)
 
 abbrev pub number_of_interface : Option OpenInterface → Option ℕ
 number_of_interface None = None
@@ -62,12 +64,14 @@ number_of_radio None = None
 number_of_radio (Some o) = Some o.number
 
 abbrev pub is_too_long : Answer → Bool
-is_too_long answer = nat_lt MOST_IN_ANSWER (length answer.addresses) || nat_lt MOST_IN_ANSWER (length answer.routes)
+is_too_long answer =
+    nat_lt MOST_IN_ANSWER (length answer.addresses) || nat_lt MOST_IN_ANSWER (length answer.routes)
 
 -- an answer of a radio has a port, or none, for each row of its ask
 abbrev pub wrong_ports : ℕ → Option OpenRadio → Option Refusal
 wrong_ports given None = None
-wrong_ports given (Some o) = refused_if (not (given == length o.ask.rows)) (refused.WrongPorts (length o.ask.rows))
+wrong_ports given (Some o) =
+    refused_if (not (given == length o.ask.rows)) (refused.WrongPorts (length o.ask.rows))
 
 -- an answer to the ask of an interface is refused for its length, its name, or its number
 abbrev pub answer_refusal : Inputs → List ℕ → ℕ → Answer → Option Refusal
@@ -83,15 +87,18 @@ radio_refusal inputs radio number ports =
     (or_else (stale_number number (number_of_radio (open_radio inputs.radios radio)))
     (wrong_ports (length ports) (open_radio inputs.radios radio)))
 
--- Why an event is refused: what is too long, then what is not there, then a number that is stale, then a wrong number of ports.
+-- Why an event is refused: what is too long, then what is not there, then a number that is stale,
+-- then a wrong number of ports.
 abbrev pub refusal : Moment → Event → Option Refusal
 refusal moment (event.Load conf) = None
 refusal moment (event.Device what) = device_refusal moment what
 refusal moment (event.Operator interface up) =
     refused_if (is_none (interface_named moment.inputs.conf interface)) refused.NoInterface
-refusal moment (event.Answer interface number answer) = answer_refusal moment.inputs interface number answer
+refusal moment (event.Answer interface number answer) =
+    answer_refusal moment.inputs interface number answer
 refusal moment (event.Radio radio number ports) = radio_refusal moment.inputs radio number ports
 
 -- what a moment comes to: a refused event changes nothing
 abbrev pub moved : Moment → Event → Moment
-moved moment event = option_map_or (λ refusal. moment) (refusal moment event) (moment_after moment event)
+moved moment event =
+    option_map_or (λ refusal. moment) (refusal moment event) (moment_after moment event)
