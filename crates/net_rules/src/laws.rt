@@ -26,7 +26,7 @@ ghost use Rattle.net_rules.specs.Need.{interface_need};
 ghost use Rattle.net_rules.specs.Want.{want};
 ghost use Rattle.net_rules.specs.Wanted.{IsWanted};
 ghost use Rattle.net_rules.specs.Down.{LeadsDown, leads_down};
-ghost use Rattle.net_rules.specs.Footprint.{footprint};
+ghost use Rattle.net_rules.specs.Footprint.{footprint, IsOf};
 ghost use Rattle.net_rules.specs.Inputs.{facts_of, open_interface, open_radio};
 ghost use Rattle.net_rules.specs.After.{devices_after, after};
 ghost use Rattle.net_rules.specs.Numbers.{AreNumbered};
@@ -130,6 +130,12 @@ pub fn events_that_are_not_refused_may_come()
     ensures history { (moment : Moment) (what : Event) → IsHistory moment
         → ((conf : Conf) → what ≡ event.Load conf → IsSound conf)
         → IsHistory (moved moment what) }
+{}
+
+/// What a footprint has, by the kinds of objects.
+pub fn footprints_are_what_is_below()
+    ensures { (facts : Facts) (row : InterfaceRow) (o : Object)
+        → Has (footprint facts row) o ↔ (Has (want facts) o × IsOf facts row o) }
 {}
 
 /// Where an allowed set of held objects and a wanted one both have the footprint of an interface, no call between them names an object
