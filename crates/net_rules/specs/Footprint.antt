@@ -39,8 +39,8 @@ is_of facts row (object.Route r) = is_among (given facts row) (object.Route r)
 unfoldable pub footprint : Facts → InterfaceRow → Objects
 footprint facts row = set.retain (want facts) (is_of facts row)
 
--- What is of a footprint, told by the relation that `is_below` tests: VLANs lead down to the name from
--- the device of an interface, or from its layer-3 device.
+-- What is of a footprint, told by the relation that `is_below` tests: VLANs lead down to the name
+-- from the device of an interface, or from its layer-3 device.
 pub data IsBelow (facts : Facts) (row : InterfaceRow) (name : List ℕ) : Type 0 where
   own : (device : List ℕ) → device_of facts row ≡ Some device
       → LeadsDown facts.conf.names name device → IsBelow facts row name
@@ -52,7 +52,8 @@ IsOf facts row (object.Link name kind) = IsBelow facts row name
 IsOf facts row (object.Mtu name mtu) = IsBelow facts row name
 IsOf facts row (object.Mac name mac) = IsBelow facts row name
 IsOf facts row (object.Master port bridge) = ⊥
-IsOf facts row (object.Vlan bridge port id pvid untagged) = (port ≡ bridge) × IsBelow facts row bridge
+IsOf facts row (object.Vlan bridge port id pvid untagged) =
+    (port ≡ bridge) × IsBelow facts row bridge
 IsOf facts row (object.Up name) = IsBelow facts row name
 IsOf facts row (object.Address dev cidr) = Contains (given facts row) (object.Address dev cidr)
 IsOf facts row (object.Route r) = Contains (given facts row) (object.Route r)
