@@ -1,6 +1,7 @@
 -- Rows of usual routers, and what they want, as the checker computes it.
-use Rattle.std.proofs.Common.{◌≡◌, ℕ, List, [], ◌∷◌, Bool, true, false, Some, None, codes, refl}
+use Rattle.std.proofs.Common.{◌≡◌, ℕ, List, [], ◌∷◌, inr, Bool, true, false, Some, None, codes, refl}
 use Rattle.std.specs.Prelude.{◌+◌, map, filter, replicate}
+use Rattle.std.specs.FinSet as set
 use Rattle.net_addr.specs.declared.address.Addr.{Addr}
 use Rattle.net_addr.specs.declared.address.Addr.TheVariants.{V4}
 use Rattle.kern_model.specs.declared.object.Device.{Device}
@@ -8,6 +9,9 @@ use Rattle.kern_model.specs.declared.object.DevEvent.TheVariants as device
 use Rattle.kern_model.specs.declared.object.LinkKind.TheVariants as kind
 use Rattle.kern_model.specs.declared.object.Object.{Object}
 use Rattle.kern_model.specs.declared.object.Object.TheVariants as object
+use Rattle.kern_model.specs.ObjectOrder.{set_of}
+use Rattle.kern_model.proofs.MemberLemmas.{here}
+use Rattle.kern_model.proofs.SetLemmas.{set_of_member}
 use Rattle.uci_tree.specs.declared.package.Value.TheVariants.{One}
 use Rattle.net_rows.specs.declared.rows.Conf.{Conf}
 use Rattle.net_rows.specs.declared.rows.NameRow.{NameRow}
@@ -27,8 +31,10 @@ use Rattle.net_rules.specs.Down.{leads_down}
 use Rattle.net_rules.specs.Footprint.{is_of}
 use Rattle.net_rules.specs.After.{after}
 use Rattle.net_rules.specs.declared.refusal.Refusal.TheVariants as refused
-use Rattle.net_rules.specs.Refusal.{refusal}
+use Rattle.net_rules.specs.Moment.{Moment}
+use Rattle.net_rules.specs.Refusal.{is_known, refusal}
 use Rattle.net_rules.specs.Notices.{notices}
+use Rattle.net_rules.proofs.RefusalLemmas.{known}
 
 abbrev name_row : List ℕ → NameKind → ℕ → NameRow
 name_row name kind level = record { name = name; kind = kind; level = level; broken = false; mtu = None; mac = None; faults = [] }
@@ -191,9 +197,22 @@ unfolding available link used by_levels
 counted = (refl, refl, refl)
 
 -- an answer to a number that is not open, a device that is there, and a name that stands for a VLAN
-refusals : (refusal asked (address_given 2) ≡ Some (refused.Stale 2 1)) × (refusal asked (come wan) ≡ Some refused.Known) × (refusal asked (come (codes "wan.7")) ≡ Some refused.Known)
+abbrev asked_moment : Moment
+asked_moment = record { inputs = asked; held = set.empty }
+
+refusals : (refusal asked_moment (address_given 2) ≡ Some (refused.Stale 2 1)) × (refusal asked_moment (come wan) ≡ Some refused.Known) × (refusal asked_moment (come (codes "wan.7")) ≡ Some refused.Known)
 unfolding after available link by_levels
 refusals = (refl, refl, refl)
+
+-- a name that the rows do not have, and that is still held as a link
+abbrev old_bridge : Object
+old_bridge = object.Link (codes "br-old") (kind.Bridge None false)
+
+abbrev still_held : Moment
+still_held = record { inputs = asked; held = set_of (old_bridge ∷ []) }
+
+held_name : is_known still_held (codes "br-old") ≡ true
+held_name = known still_held (codes "br-old") (inr (kind.Bridge None false, set_of_member (old_bridge ∷ []) old_bridge (here old_bridge [])))
 
 abbrev with_names : List NameRow → List InterfaceRow → List (List ℕ × Device) → Inputs
 with_names names interfaces devices = record {

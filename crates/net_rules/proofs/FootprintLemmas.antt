@@ -1,20 +1,21 @@
 -- A footprint has with each object the held links that it stands on.
 use Rattle.std.proofs.Common.{ℕ, ◌≡◌, inl, inr, List, [], ◌∷◌, Option, Some, None, Bool, true, false, Contains, refl, ap, sym, subst, ◌∙◌}
 use Rattle.std.specs.Prelude.{bytes_eq, is_some}
+use Rattle.std.specs.Ordering.{eq_by_cmp}
 use Rattle.std.specs.FinMap as map
 use Rattle.kern_model.specs.declared.object.LinkKind.{LinkKind}
 use Rattle.kern_model.specs.declared.object.LinkKind.TheVariants.{Bridge, Vlan}
 use Rattle.kern_model.specs.declared.object.Object.{Object}
 use Rattle.kern_model.specs.declared.object.Object.TheVariants as object
-use Rattle.kern_model.specs.ObjectOrder.{Objects, Has}
+use Rattle.kern_model.specs.ObjectOrder.{object_cmp, Objects, Has}
 use Rattle.kern_model.specs.Kernel as kernel
 use Rattle.kern_model.specs.Kernel.{Devices}
 use Rattle.kern_model.specs.Standing.{places_of, IsOver}
 use Rattle.kern_model.specs.AdmissionTest.{is_among}
 use Rattle.kern_model.specs.Allowed.{are_one_vlan, AreAllowed}
 use Rattle.kern_model.proofs.MemberLemmas.{first_or_later, none_in_nil}
-use Rattle.kern_model.proofs.TestLemmas.{both, either, of_left, of_right, bytes_same, same_bytes}
-use Rattle.kern_model.proofs.SetLemmas.{has_retained, of_retained, same_object}
+use Rattle.kern_model.proofs.TestLemmas.{both, of_both, of_any, either, of_left, of_right, bytes_same, same_bytes}
+use Rattle.kern_model.proofs.SetLemmas.{has_retained, of_retained, same_object, test_of_same}
 use Rattle.std.proofs.lemmas.Map.Views.{Contains-from_any}
 use Rattle.kern_calls.specs.Kept.{IsWholePart}
 use Rattle.net_rows.specs.declared.rows.InterfaceRow.{InterfaceRow}
@@ -28,7 +29,7 @@ use Rattle.net_rules.specs.Used.{used}
 use Rattle.net_rules.specs.Want.{want, given}
 use Rattle.net_rules.specs.Wanted.{IsUsedBridge, IsWantedPortVlan}
 use Rattle.net_rules.specs.Down.{LeadsDown, leads_down}
-use Rattle.net_rules.specs.Footprint.{is_down_from, is_below, is_of, footprint}
+use Rattle.net_rules.specs.Footprint.{is_down_from, is_below, is_of, footprint, IsBelow, IsOf}
 use Rattle.net_rules.proofs.DownLemmas.{down_test, down_joined, down_of_test, standing_lower}
 use Rattle.net_rules.proofs.StandingLemmas.{only}
 use Rattle.net_rules.proofs.DeviceLemmas.{not_broken, present_alone, used_available}
@@ -69,6 +70,25 @@ pub of_footprint : (facts : Facts) (row : InterfaceRow) (o : Object) → Has (fo
 unfolding footprint
 of_footprint facts row o h = of_retained (want facts) (is_of facts row) o h
 
+-- the tests and what they say
+down_from : (facts : Facts) (from : Option (List ℕ)) (name : List ℕ) → is_down_from facts from name ≡ true → (device : List ℕ) × (from ≡ Some device) × LeadsDown facts.conf.names name device
+down_from facts None name h = cc h
+down_from facts (Some device) name h = (device, refl, down_of_test facts.conf.names device name h)
+
+from_down : (facts : Facts) (from : Option (List ℕ)) (name device : List ℕ) → from ≡ Some device → LeadsDown facts.conf.names name device → is_down_from facts from name ≡ true
+from_down facts from name device is p = subst (λ o. is_down_from facts o name ≡ true) (sym is) (down_test facts.conf.names device name p)
+
+below : (facts : Facts) (row : InterfaceRow) (name : List ℕ) → is_below facts row name ≡ true → IsBelow facts row name
+below facts row name h =
+    elim (either (is_down_from facts (device_of facts row) name) (is_down_from facts (layer_of facts row) name) h) as (λ _. IsBelow facts row name) [
+      | inl p ↦ let d = down_from facts (device_of facts row) name p in IsBelow.own d.0 d.1 d.2
+      | inr p ↦ let d = down_from facts (layer_of facts row) name p in IsBelow.layer d.0 d.1 d.2
+    ]
+
+test_below : (facts : Facts) (row : InterfaceRow) (name : List ℕ) → IsBelow facts row name → is_below facts row name ≡ true
+test_below facts row name (IsBelow.own device is p) = of_left (is_down_from facts (device_of facts row) name) (is_down_from facts (layer_of facts row) name) (from_down facts (device_of facts row) name device is p)
+test_below facts row name (IsBelow.layer device is p) = of_right (is_down_from facts (device_of facts row) name) (is_down_from facts (layer_of facts row) name) (from_down facts (layer_of facts row) name device is p)
+
 -- in an allowed set
 absent_link : (devices : Devices) (held : Objects) → AreAllowed devices held → (name : List ℕ) (kind : LinkKind) → Has held (object.Link name kind) → kernel.is_present devices name ≡ false
 absent_link devices held allowed name (Bridge mac filtering) h = allowed.supported (object.Link name (Bridge mac filtering)) h
@@ -79,6 +99,38 @@ one_link devices held allowed name kind other h g = allowed.apart (object.Link n
 
 among_member : (xs : List Object) (o : Object) → is_among xs o ≡ true → Contains xs o
 among_member xs o h = Contains-from_any same_object o xs h
+
+member_among : (xs : List Object) (o : Object) → Contains xs o → is_among xs o ≡ true
+member_among xs o h = of_any (eq_by_cmp object_cmp o) xs o h (sym (test_of_same true o o (λ h. refl) (λ same. refl)))
+
+is_of_says : (facts : Facts) (row : InterfaceRow) (o : Object) → is_of facts row o ≡ true → IsOf facts row o
+is_of_says facts row (object.Link name kind) h = below facts row name h
+is_of_says facts row (object.Mtu name mtu) h = below facts row name h
+is_of_says facts row (object.Mac name mac) h = below facts row name h
+is_of_says facts row (object.Master port bridge) h = cc h
+is_of_says facts row (object.Vlan bridge port id pvid untagged) h =
+    let parts = both (bytes_eq port bridge) (is_below facts row bridge) h in
+    (bytes_same port bridge parts.0, below facts row bridge parts.1)
+is_of_says facts row (object.Up name) h = below facts row name h
+is_of_says facts row (object.Address dev cidr) h = among_member (given facts row) (object.Address dev cidr) h
+is_of_says facts row (object.Route r) h = among_member (given facts row) (object.Route r) h
+
+test_is_of : (facts : Facts) (row : InterfaceRow) (o : Object) → IsOf facts row o → is_of facts row o ≡ true
+test_is_of facts row (object.Link name kind) h = test_below facts row name h
+test_is_of facts row (object.Mtu name mtu) h = test_below facts row name h
+test_is_of facts row (object.Mac name mac) h = test_below facts row name h
+test_is_of facts row (object.Master port bridge) h = absurd h
+test_is_of facts row (object.Vlan bridge port id pvid untagged) h =
+    of_both (bytes_eq port bridge) (is_below facts row bridge) (same_bytes port bridge h.0) (test_below facts row bridge h.1)
+test_is_of facts row (object.Up name) h = test_below facts row name h
+test_is_of facts row (object.Address dev cidr) h = member_among (given facts row) (object.Address dev cidr) h
+test_is_of facts row (object.Route r) h = member_among (given facts row) (object.Route r) h
+
+pub footprint_says : (facts : Facts) (row : InterfaceRow) (o : Object) → Has (footprint facts row) o → Has (want facts) o × IsOf facts row o
+footprint_says facts row o h = let own = of_footprint facts row o h in (own.0, is_of_says facts row o own.1)
+
+pub said_footprint : (facts : Facts) (row : InterfaceRow) (o : Object) → Has (want facts) o × IsOf facts row o → Has (footprint facts row) o
+said_footprint facts row o h = in_footprint facts row o h.0 (test_is_of facts row o h.1)
 
 -- a name is used, and below the device of the interface or its layer-3 device
 record IsUnder (facts : Facts) (row : InterfaceRow) (name : List ℕ) : Type 0 where

@@ -22,3 +22,4 @@ pub mod StretchLemmas
 pub mod HistoryLemmas
 pub mod NumberLemmas
 pub mod AloneLemmas
+pub mod RefusalLemmas

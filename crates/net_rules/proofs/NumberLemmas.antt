@@ -1,6 +1,7 @@
 -- No number is given to two asks.
-use Rattle.std.proofs.Common.{arith, ◌≡◌, ◌⊎◌, inl, inr, ℕ, ◌+◌, ◌<◌, ◌≤◌, List, [], ◌∷◌, ◌++◌, map, length, Bool, true, false, cond, Contains, Option, Some, refl, ap, sym, subst, ◌∙◌}
-use Rattle.std.specs.Prelude.{bytes_eq, filter, ◌&&◌, ◌==◌}
+use Rattle.std.proofs.Common.{arith, ◌≡◌, ◌⊎◌, inl, inr, ℕ, ◌+◌, ◌<◌, ◌≤◌, List, [], ◌∷◌, ◌++◌, map, length, Bool, true, false, cond, Contains, Option, Some, None, refl, ap, sym, subst, ◌∙◌}
+use Rattle.std.specs.Prelude.{bytes_eq, filter, ◌&&◌, ◌==◌, not, is_none}
+use Rattle.std.specs.List.{filter_map, cons_option}
 use Rattle.std.proofs.lemmas.List.Elements.{Contains-append_cases}
 use Rattle.kern_model.proofs.MemberLemmas.{here, there, first_or_later, none_in_nil}
 use Rattle.net_rules.specs.declared.answer.Answer.{Answer}
@@ -11,6 +12,10 @@ use Rattle.net_rules.specs.declared.inputs.OpenInterface.{OpenInterface}
 use Rattle.net_rules.specs.declared.inputs.OpenRadio.{OpenRadio}
 use Rattle.net_rules.specs.declared.event.Event.{Event}
 use Rattle.net_rules.specs.declared.event.Event.TheVariants as event
+use Rattle.net_rules.specs.Firsts.{firsts}
+use Rattle.net_rules.specs.Rows.{interfaces_of, radios_of}
+use Rattle.net_rules.specs.Inputs.{facts_of, open_interface, open_radio}
+use Rattle.net_rules.specs.Need.{interface_need, radio_need}
 use Rattle.net_rules.specs.After.{answered_interface, answered_radio, changed, radios_dropped, interfaces_dropped, new_interface_asks, new_radio_asks, opened_interfaces, opened_radios, asked, after}
 use Rattle.net_rules.specs.Fresh.{IsReached}
 use Rattle.net_rules.specs.Numbers.{AreRising, interface_numbers, radio_numbers, AreNumbered}
@@ -170,6 +175,57 @@ changed_numbered inputs (event.Radio radio number ports) numbered = numbered_by 
 pub next_rises : (inputs : Inputs) (event : Event) → inputs.next ≤ (after inputs event).next
 unfolding after
 next_rises inputs event = let same = changed_next inputs event in let rises = asked_next (changed inputs event) in omega arith
+
+-- no more asks than rows
+few_kept : {X : Type 0} (b : Bool) (x : X) (xs : List X) (n : ℕ) → length xs ≤ n → length (cond b (x ∷ xs) xs) ≤ n + 1
+few_kept true x xs n few = omega arith
+few_kept false x xs n few = omega arith
+
+few_filtered : {X : Type 0} (p : X → Bool) → (xs : List X) → length (filter p xs) ≤ length xs
+few_filtered p [] = omega arith
+few_filtered p (x ∷ xs) = let few = few_kept (p x) x (filter p xs) (length xs) (few_filtered p xs) in omega arith
+
+few_in_cons : {Y : Type 0} (o : Option Y) (ys : List Y) (n : ℕ) → length ys ≤ n → length (cons_option o ys) ≤ n + 1
+few_in_cons None ys n few = omega arith
+few_in_cons (Some y) ys n few = omega arith
+
+few_given : {X Y : Type 0} (f : X → Option Y) → (xs : List X) → length (filter_map f xs) ≤ length xs
+few_given f [] = omega arith
+few_given f (x ∷ xs) = let few = few_in_cons (f x) (filter_map f xs) (length xs) (few_given f xs) in omega arith
+
+few_firsts : {X : Type 0} (key : X → List ℕ) → (xs : List X) → length (firsts key xs) ≤ length xs
+few_firsts key [] = omega arith
+few_firsts key (x ∷ xs) =
+    let rest = few_firsts key xs in
+    let few = few_filtered (λ y. not (bytes_eq (key y) (key x))) (firsts key xs) in
+    omega arith
+
+few_interfaces : (inputs : Inputs) → length (new_interface_asks inputs) ≤ length inputs.conf.interfaces
+few_interfaces inputs =
+    let needs = filter_map (interface_need (facts_of inputs)) (interfaces_of inputs.conf) in
+    let new = few_filtered (λ ask. is_none (open_interface inputs.interfaces ask.name)) needs in
+    let given = few_given (interface_need (facts_of inputs)) (interfaces_of inputs.conf) in
+    let rows = few_firsts (λ row. row.name) inputs.conf.interfaces in
+    omega arith
+
+few_radios : (inputs : Inputs) → length (new_radio_asks inputs) ≤ length inputs.conf.radios
+few_radios inputs =
+    let needs = filter_map radio_need (radios_of inputs.conf) in
+    let new = few_filtered (λ ask. is_none (open_radio inputs.radios ask.name)) needs in
+    let given = few_given radio_need (radios_of inputs.conf) in
+    let rows = few_firsts (λ row. row.name) inputs.conf.radios in
+    omega arith
+
+asked_few : (inputs : Inputs) → (asked inputs).next ≤ inputs.next + (length inputs.conf.interfaces + length inputs.conf.radios)
+asked_few inputs =
+    let dropped = interfaces_dropped (radios_dropped inputs) in
+    let interfaces = few_interfaces dropped in
+    let radios = few_radios dropped in
+    omega arith
+
+pub next_few : (inputs : Inputs) (event : Event) → (after inputs event).next ≤ inputs.next + (length (after inputs event).conf.interfaces + length (after inputs event).conf.radios)
+unfolding after
+next_few inputs event = let same = changed_next inputs event in let few = asked_few (changed inputs event) in omega arith
 
 record IsNumberedFrom (inputs : Inputs) : Type 0 where
   least : 1 ≤ inputs.next

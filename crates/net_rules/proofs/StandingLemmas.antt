@@ -71,7 +71,7 @@ vlan_by facts name lower id more (Vlan (Some other) number) false is breaks h =
     let lowers : other ≡ lower = cc h in
     let ids : number ≡ id = cc h in
     record {
-      standing = cc (ap (λ k. standing_of k (row_at facts.conf.names name).broken []) is, ap (λ b. standing_of (Vlan (Some other) number) b []) breaks, lowers, ids);
+      standing = ap (λ k. standing_of k (row_at facts.conf.names name).broken []) is ∙ ap (λ b. standing_of (Vlan (Some other) number) b []) breaks ∙ ap (λ l. Over l number) lowers ∙ ap (Over lower) ids;
       sound = breaks;
       made = cc (is, lowers, ids);
     }

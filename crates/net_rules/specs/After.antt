@@ -1,5 +1,5 @@
--- What an event makes of the inputs, in four steps: one field changes; radios lose their asks; interfaces lose theirs; and new asks
--- get numbers.
+-- What an event makes of the inputs, in four steps: one field changes; radios lose their asks;
+-- interfaces lose theirs; and new asks get numbers.
 use Rattle.std.specs.Prelude.{ℕ, ◌+◌, List, [], ◌∷◌, ◌++◌, map, filter, length, Bool, false, not, ◌&&◌, Option, Some, None, is_some, is_none, if◌then◌else◌, bytes_eq, ◌==◌}
 use Rattle.std.specs.List.{filter_map}
 use Rattle.std.specs.Option.{option_and_then}
@@ -31,7 +31,8 @@ carrier_set name on e = if bytes_eq e.0 name then (e.0, with_carrier on e.1) els
 
 -- the present devices after what happens to one
 abbrev pub devices_after : List (List ℕ × Device) → DevEvent → List (List ℕ × Device)
-devices_after devices (device.Add name carrier mtu mac) = without_device name devices ++ (name, record { carrier = carrier; mtu = mtu; mac = mac }) ∷ []
+devices_after devices (device.Add name carrier mtu mac) =
+    without_device name devices ++ (name, record { carrier = carrier; mtu = mtu; mac = mac }) ∷ []
 devices_after devices (device.Remove name) = without_device name devices
 devices_after devices (device.Carrier name on) = map (carrier_set name on) devices
 
@@ -41,26 +42,39 @@ kept_commands conf commands = filter (λ c. is_some (interface_named conf c.inte
 
 -- a command takes the place of an earlier one for the interface
 abbrev pub commands_after : List Command → List ℕ → Bool → List Command
-commands_after commands interface up = filter (λ c. not (bytes_eq c.interface interface)) commands ++ record { interface = interface; up = up } ∷ []
+commands_after commands interface up =
+    filter (λ c. not (bytes_eq c.interface interface)) commands
+    ++ record { interface = interface; up = up } ∷ []
 
--- an answer takes the place of an earlier one to the ask that it names; one to another number changes nothing
+-- an answer takes the place of an earlier one to the ask that it names; one to another number
+-- changes nothing
 abbrev pub answered_interface : List ℕ → ℕ → Answer → OpenInterface → OpenInterface
-answered_interface interface number answer o = if bytes_eq o.ask.name interface && (o.number == number) then record o { answer = Some answer } else o
+answered_interface interface number answer o =
+    if bytes_eq o.ask.name interface && (o.number == number)
+    then record o { answer = Some answer } else o
 
 abbrev pub answered_radio : List ℕ → ℕ → List (Option (List ℕ)) → OpenRadio → OpenRadio
-answered_radio radio number ports o = if bytes_eq o.ask.name radio && (o.number == number) then record o { ports = Some ports } else o
+answered_radio radio number ports o =
+    if bytes_eq o.ask.name radio && (o.number == number)
+    then record o { ports = Some ports } else o
 
 -- the first step: the one field that the event names changes
 abbrev pub changed : Inputs → Event → Inputs
-changed inputs (event.Load conf) = record inputs { conf = conf; commands = kept_commands conf inputs.commands }
+changed inputs (event.Load conf) =
+    record inputs { conf = conf; commands = kept_commands conf inputs.commands }
 changed inputs (event.Device what) = record inputs { devices = devices_after inputs.devices what }
-changed inputs (event.Operator interface up) = record inputs { commands = commands_after inputs.commands interface up }
-changed inputs (event.Answer interface number answer) = record inputs { interfaces = map (answered_interface interface number answer) inputs.interfaces }
-changed inputs (event.Radio radio number ports) = record inputs { radios = map (answered_radio radio number ports) inputs.radios }
+changed inputs (event.Operator interface up) =
+    record inputs { commands = commands_after inputs.commands interface up }
+changed inputs (event.Answer interface number answer) = record inputs {
+  interfaces = map (answered_interface interface number answer) inputs.interfaces;
+}
+changed inputs (event.Radio radio number ports) =
+    record inputs { radios = map (answered_radio radio number ports) inputs.radios }
 
 -- the needs of the interface and of the radio of a name
 abbrev pub interface_need_of : Facts → List ℕ → Option InterfaceAsk
-interface_need_of facts name = option_and_then (interface_need facts) (interface_named facts.conf name)
+interface_need_of facts name =
+    option_and_then (interface_need facts) (interface_named facts.conf name)
 
 abbrev pub radio_need_of : Conf → List ℕ → Option RadioAsk
 radio_need_of conf name = option_and_then radio_need (radio_named conf name)
@@ -72,27 +86,41 @@ is_same_need same (Some need) ask = same need ask
 
 -- the second step: each radio whose need changed loses its ask with its answer
 abbrev pub radios_dropped : Inputs → Inputs
-radios_dropped inputs = record inputs { radios = filter (λ o. is_same_need same_radio_ask (radio_need_of inputs.conf o.ask.name) o.ask) inputs.radios }
+radios_dropped inputs = record inputs {
+  radios = filter
+      (λ o. is_same_need same_radio_ask (radio_need_of inputs.conf o.ask.name) o.ask) inputs.radios;
+}
 
--- the third step: each interface whose need changed, with the radio answers that are left, loses its ask with its answer
+-- the third step: each interface whose need changed, with the radio answers that are left, loses
+-- its ask with its answer
 abbrev pub interfaces_dropped : Inputs → Inputs
-interfaces_dropped inputs = record inputs { interfaces = filter (λ o. is_same_need same_interface_ask (interface_need_of (facts_of inputs) o.ask.name) o.ask) inputs.interfaces }
+interfaces_dropped inputs = record inputs {
+  interfaces = filter
+      (λ o. is_same_need same_interface_ask (interface_need_of (facts_of inputs) o.ask.name) o.ask)
+      inputs.interfaces;
+}
 
 -- the asks of rows that have none, in file order
 abbrev pub new_interface_asks : Inputs → List InterfaceAsk
-new_interface_asks inputs = filter (λ ask. is_none (open_interface inputs.interfaces ask.name)) (filter_map (interface_need (facts_of inputs)) (interfaces_of inputs.conf))
+new_interface_asks inputs =
+    filter (λ ask. is_none (open_interface inputs.interfaces ask.name))
+    (filter_map (interface_need (facts_of inputs)) (interfaces_of inputs.conf))
 
 abbrev pub new_radio_asks : Inputs → List RadioAsk
-new_radio_asks inputs = filter (λ ask. is_none (open_radio inputs.radios ask.name)) (filter_map radio_need (radios_of inputs.conf))
+new_radio_asks inputs =
+    filter (λ ask. is_none (open_radio inputs.radios ask.name))
+    (filter_map radio_need (radios_of inputs.conf))
 
 -- asks with rising numbers, and no answers
 abbrev pub opened_interfaces : ℕ → List InterfaceAsk → List OpenInterface
 opened_interfaces next [] = []
-opened_interfaces next (ask ∷ asks) = record { number = next; ask = ask; answer = None } ∷ opened_interfaces (next + 1) asks
+opened_interfaces next (ask ∷ asks) =
+    record { number = next; ask = ask; answer = None } ∷ opened_interfaces (next + 1) asks
 
 abbrev pub opened_radios : ℕ → List RadioAsk → List OpenRadio
 opened_radios next [] = []
-opened_radios next (ask ∷ asks) = record { number = next; ask = ask; ports = None } ∷ opened_radios (next + 1) asks
+opened_radios next (ask ∷ asks) =
+    record { number = next; ask = ask; ports = None } ∷ opened_radios (next + 1) asks
 
 -- the fourth step: each row with a need and no ask gets the next number, interfaces first
 abbrev pub asks_opened : Inputs → Inputs

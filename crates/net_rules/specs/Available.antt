@@ -12,8 +12,9 @@ is_present facts name = is_some (facts.device name)
 abbrev pub has_carrier : Facts → List ℕ → Bool
 has_carrier facts name = option_map_or (λ device. device.carrier) (facts.device name) false
 
--- By what is below, whether a name is available: a plain name where it is present, a VLAN where its lower is, a bridge where it
--- needs no port or a port of its own is. A made name that is present is taken, and not available.
+-- By what is below, whether a name is available: a plain name where it is present, a VLAN where its
+-- lower is, a bridge where it needs no port or a port of its own is. A made name that is present is
+-- taken, and not available.
 abbrev pub opens : Bool → (List ℕ → Bool) → Standing → Bool
 opens present below Broken = false
 opens present below (Alone sound) = present && sound
@@ -27,8 +28,9 @@ opens_at facts below name = opens (is_present facts name) below (standing_at fac
 unfoldable pub available : Facts → List ℕ → Bool
 available facts name = by_levels 8 (opens_at facts) name
 
--- By what is below, whether a name has link: a plain name where it is present with carrier, a VLAN where it is available and
--- its lower has link, a bridge where it is available and a port of its own has link.
+-- By what is below, whether a name has link: a plain name where it is present with carrier, a VLAN
+-- where it is available and its lower has link, a bridge where it is available and a port of its
+-- own has link.
 abbrev pub links : Bool → Bool → (List ℕ → Bool) → Standing → Bool
 links carrier ready below Broken = false
 links carrier ready below (Alone sound) = carrier
@@ -36,7 +38,8 @@ links carrier ready below (Over lower id) = ready && below lower
 links carrier ready below (Ports empty ports) = ready && list_any below ports
 
 abbrev pub links_at : Facts → (List ℕ → Bool) → List ℕ → Bool
-links_at facts below name = links (has_carrier facts name) (available facts name) below (standing_at facts name)
+links_at facts below name =
+    links (has_carrier facts name) (available facts name) below (standing_at facts name)
 
 -- a name has link; the answer looks eight levels down
 unfoldable pub link : Facts → List ℕ → Bool

@@ -23,7 +23,8 @@ lower_of_parts (Some parts) = Some parts.lower
 -- X.N without a row is over X (OpenWrt's device names).
 abbrev pub lower_in : List NameRow → List ℕ → Option (List ℕ)
 lower_in [] name = lower_of_parts (vlan_parts name)
-lower_in (row ∷ rows) name = if bytes_eq row.name name then lower_of_kind row.kind else lower_in rows name
+lower_in (row ∷ rows) name =
+    if bytes_eq row.name name then lower_of_kind row.kind else lower_in rows name
 
 -- VLANs lead from a name down to a base: the name is the base, or it is a VLAN whose lower leads
 -- there. Chains may have any length, and may come back to where they were.
@@ -49,7 +50,8 @@ abbrev pub all_dotted : List ℕ → List (List ℕ)
 all_dotted name = dotted (length name) name
 
 abbrev pub names_on_way : List NameRow → List ℕ → List (List ℕ)
-names_on_way rows name = flat_map all_dotted (name ∷ filter_map (λ row. lower_of_kind row.kind) rows)
+names_on_way rows name =
+    flat_map all_dotted (name ∷ filter_map (λ row. lower_of_kind row.kind) rows)
 
 -- a step from the lower of a name up to the name, where it has a lower
 abbrev pub step_to : List ℕ → Option (List ℕ) → Option Step
@@ -57,7 +59,8 @@ step_to name None = None
 step_to name (Some lower) = Some (record { lower = lower; name = name })
 
 abbrev pub steps_on_way : List NameRow → List ℕ → List Step
-steps_on_way rows name = filter_map (λ other. step_to other (lower_in rows other)) (names_on_way rows name)
+steps_on_way rows name =
+    filter_map (λ other. step_to other (lower_in rows other)) (names_on_way rows name)
 
 -- the test: VLANs lead from the name down to the base
 unfoldable pub leads_down : List NameRow → List ℕ → List ℕ → Bool

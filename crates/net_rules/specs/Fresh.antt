@@ -19,10 +19,14 @@ pub data IsReached : Inputs → Type 0 where
   nothing : IsReached no_inputs
   behind : (inputs : Inputs) (event : Event) → IsReached inputs → IsReached (after inputs event)
 
--- each interface and each radio has an open ask exactly where it has a need, and that ask is its need
+-- each interface and each radio has an open ask exactly where it has a need, and that ask is its
+-- need
 pub record AreAsked (inputs : Inputs) : Type 0 where
-  pub interfaces : (name : List ℕ) → option_map (λ o. o.ask) (open_interface inputs.interfaces name) ≡ interface_need_of (facts_of inputs) name
-  pub radios : (name : List ℕ) → option_map (λ o. o.ask) (open_radio inputs.radios name) ≡ radio_need_of inputs.conf name
+  pub interfaces : (name : List ℕ)
+      → option_map (λ o. o.ask) (open_interface inputs.interfaces name)
+      ≡ interface_need_of (facts_of inputs) name
+  pub radios : (name : List ℕ)
+      → option_map (λ o. o.ask) (open_radio inputs.radios name) ≡ radio_need_of inputs.conf name
 
 -- a present device comes, with the carrier that it has
 abbrev pub device_given : Inputs → List ℕ × Device → Inputs
@@ -32,7 +36,8 @@ abbrev pub command_given : Inputs → Command → Inputs
 command_given inputs c = after inputs (event.Operator c.interface c.up)
 
 -- the latest answer to an ask of a radio, to the ask that it now has open
-abbrev pub ports_given : Inputs → List ℕ → Option OpenRadio → Option (List (Option (List ℕ))) → Inputs
+abbrev pub ports_given : Inputs → List ℕ → Option OpenRadio → Option (List (Option (List ℕ)))
+    → Inputs
 ports_given inputs radio None ports = inputs
 ports_given inputs radio (Some now) None = inputs
 ports_given inputs radio (Some now) (Some ports) = after inputs (event.Radio radio now.number ports)
@@ -44,13 +49,15 @@ radio_given inputs o = ports_given inputs o.ask.name (open_radio inputs.radios o
 abbrev pub answer_given : Inputs → List ℕ → Option OpenInterface → Option Answer → Inputs
 answer_given inputs interface None answer = inputs
 answer_given inputs interface (Some now) None = inputs
-answer_given inputs interface (Some now) (Some answer) = after inputs (event.Answer interface now.number answer)
+answer_given inputs interface (Some now) (Some answer) =
+    after inputs (event.Answer interface now.number answer)
 
 abbrev pub interface_given : Inputs → OpenInterface → Inputs
-interface_given inputs o = answer_given inputs o.ask.name (open_interface inputs.interfaces o.ask.name) o.answer
+interface_given inputs o =
+    answer_given inputs o.ask.name (open_interface inputs.interfaces o.ask.name) o.answer
 
--- A fresh start: from nothing each present device comes, the rows are loaded, each last command is given, then the latest answers of
--- radios, and then those of interfaces.
+-- A fresh start: from nothing each present device comes, the rows are loaded, each last command is
+-- given, then the latest answers of radios, and then those of interfaces.
 abbrev pub fresh_with_devices : Inputs → Inputs
 fresh_with_devices inputs = fold device_given no_inputs inputs.devices
 

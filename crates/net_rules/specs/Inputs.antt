@@ -41,4 +41,5 @@ no_conf = record { interfaces = []; devices = []; routes = []; radios = []; name
 
 -- no rows and no devices; the first ask gets the number 1
 abbrev pub no_inputs : Inputs
-no_inputs = record { conf = no_conf; devices = []; commands = []; interfaces = []; radios = []; next = 1 }
+no_inputs =
+    record { conf = no_conf; devices = []; commands = []; interfaces = []; radios = []; next = 1 }

@@ -1,4 +1,5 @@
--- A test of names that asks itself about other names, by plain recursion as many levels far as a number says.
+-- A test of names that asks itself about other names, by plain recursion as many levels far as a
+-- number says.
 use Rattle.std.specs.Prelude.{ℕ, zero, suc, List, Bool, false}
 
 unfoldable pub by_levels : ℕ → ((List ℕ → Bool) → List ℕ → Bool) → List ℕ → Bool

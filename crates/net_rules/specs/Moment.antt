@@ -38,7 +38,8 @@ held_after held _ = held
 
 -- the moment after an event
 abbrev pub moment_after : Moment → Event → Moment
-moment_after moment event = record { inputs = after moment.inputs event; held = held_after moment.held event }
+moment_after moment event =
+    record { inputs = after moment.inputs event; held = held_after moment.held event }
 
 -- Which events may come: devices do what the kernel allows, and rows are sound.
 abbrev pub MayCome : Moment → Event → Type 0
@@ -48,7 +49,8 @@ MayCome moment _ = ⊤
 
 -- the footprint of the interface of a name; across loads an interface is the same by its name
 abbrev pub footprint_named : Inputs → List ℕ → Objects
-footprint_named inputs name = option_map_or (footprint (facts_of inputs)) (interface_named inputs.conf name) set.empty
+footprint_named inputs name =
+    option_map_or (footprint (facts_of inputs)) (interface_named inputs.conf name) set.empty
 
 -- the objects of the one set are in the other
 abbrev pub AreWithin : Objects → Objects → Type 0
@@ -58,8 +60,9 @@ AreWithin some objects = (o : Object) → Has some o → Has objects o
 abbrev pub LeavesHeld : Objects → Objects → Event → Type 0
 LeavesHeld some held event = (o : Object) → Has some o → Has held o → Has (held_after held event) o
 
--- From one moment on these calls were done while the footprint of an interface stayed: it is the same behind each event, and none of
--- it went with a device. A settling may have stopped behind any of its calls.
+-- From one moment on these calls were done while the footprint of an interface stayed: it is the
+-- same behind each event, and none of it went with a device. A settling may have stopped behind any
+-- of its calls.
 pub data IsStretch (name : List ℕ) (some : Objects) : Moment → List Call → Type 0 where
   ended : (moment : Moment) → IsStretch name some moment []
   came : (moment : Moment) (event : Event) (calls : List Call) → MayCome moment event
@@ -67,18 +70,21 @@ pub data IsStretch (name : List ℕ) (some : Objects) : Moment → List Call →
       → IsStretch name some (moment_after moment event) calls → IsStretch name some moment calls
   settled : (moment : Moment) (made rest more : List Call)
       → AreCalls (devices_of moment.inputs) moment.held (want_of moment.inputs) (made ++ rest)
-      → IsStretch name some (record moment { held = after_calls moment.held made }) more → IsStretch name some moment (made ++ more)
+      → IsStretch name some (record moment { held = after_calls moment.held made }) more
+      → IsStretch name some moment (made ++ more)
 
--- The moments that a history leads to: from nothing, events come one after the other, and settlings that may have stopped behind any
--- of their calls.
+-- The moments that a history leads to: from nothing, events come one after the other, and settlings
+-- that may have stopped behind any of their calls.
 pub data IsHistory : Moment → Type 0 where
   nothing : IsHistory (record { inputs = no_inputs; held = set.empty })
-  came : (moment : Moment) (event : Event) → IsHistory moment → MayCome moment event → IsHistory (moment_after moment event)
+  came : (moment : Moment) (event : Event) → IsHistory moment → MayCome moment event
+      → IsHistory (moment_after moment event)
   settled : (moment : Moment) (made rest : List Call) → IsHistory moment
       → AreCalls (devices_of moment.inputs) moment.held (want_of moment.inputs) (made ++ rest)
       → IsHistory (record moment { held = after_calls moment.held made })
 
--- what every history keeps: the rows are sound, and the kernel's rules allow what is held and what is wanted
+-- what every history keeps: the rows are sound, and the kernel's rules allow what is held and what
+-- is wanted
 pub record IsOrderly (moment : Moment) : Type 0 where
   pub sound : IsSound moment.inputs.conf
   pub held_allowed : AreAllowed (devices_of moment.inputs) moment.held

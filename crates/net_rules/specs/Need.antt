@@ -19,7 +19,8 @@ use Rattle.net_rules.specs.Rows.{asks_nothing, enabled_rows}
 use Rattle.net_rules.specs.RadioPorts.{device_of}
 use Rattle.net_rules.specs.Interfaces.{is_ready}
 
--- options in byte order of their names: those of two rows are one map exactly where these lists are equal
+-- options in byte order of their names: those of two rows are one map exactly where these lists are
+-- equal
 abbrev pub option_cmp : Opt → Opt → Ordering
 option_cmp a b = slice_cmp nat_cmp a.name b.name
 
@@ -28,22 +29,35 @@ in_order options = ordered option_cmp options
 
 -- what the handler of an interface is asked
 abbrev pub interface_ask : Facts → InterfaceRow → InterfaceAsk
-interface_ask facts row = record { name = row.name; proto = row.proto; options = in_order row.options; device = device_of facts row }
+interface_ask facts row = record {
+  name = row.name;
+  proto = row.proto;
+  options = in_order row.options;
+  device = device_of facts row;
+}
 
 -- an interface that is ready has an ask, unless the configuration says all of it
 abbrev pub interface_need : Facts → InterfaceRow → Option InterfaceAsk
-interface_need facts row = if is_ready facts row && not (asks_nothing row.proto) then Some (interface_ask facts row) else None
+interface_need facts row =
+    if is_ready facts row && not (asks_nothing row.proto)
+    then Some (interface_ask facts row) else None
 
 abbrev pub wifi_ask : WifiRow → WifiAsk
 wifi_ask row = record { options = in_order row.options }
 
 -- what the handler of a radio is asked
 abbrev pub radio_ask : RadioRow → RadioAsk
-radio_ask radio = record { name = radio.name; options = in_order radio.options; rows = map wifi_ask (enabled_rows radio) }
+radio_ask radio = record {
+  name = radio.name;
+  options = in_order radio.options;
+  rows = map wifi_ask (enabled_rows radio);
+}
 
 -- a radio that is not disabled and has a row that is not has an ask
 abbrev pub radio_need : RadioRow → Option RadioAsk
-radio_need radio = if not radio.disabled && list_any (λ row. not row.disabled) radio.rows then Some (radio_ask radio) else None
+radio_need radio =
+    if not radio.disabled && list_any (λ row. not row.disabled) radio.rows
+    then Some (radio_ask radio) else None
 
 -- tests of equal options and asks
 abbrev pub same_value : Value → Value → Bool
@@ -65,7 +79,13 @@ same_device (Some a) None = false
 same_device (Some a) (Some b) = bytes_eq a b
 
 abbrev pub same_interface_ask : InterfaceAsk → InterfaceAsk → Bool
-same_interface_ask a b = bytes_eq a.name b.name && (bytes_eq a.proto b.proto && (same_options a.options b.options && same_device a.device b.device))
+same_interface_ask a b =
+    bytes_eq a.name b.name
+    && (bytes_eq a.proto b.proto
+    && (same_options a.options b.options && same_device a.device b.device))
 
 abbrev pub same_radio_ask : RadioAsk → RadioAsk → Bool
-same_radio_ask a b = bytes_eq a.name b.name && (same_options a.options b.options && pointwise (λ x y. same_options x.options y.options) a.rows b.rows)
+same_radio_ask a b =
+    bytes_eq a.name b.name
+    && (same_options a.options b.options
+    && pointwise (λ x y. same_options x.options y.options) a.rows b.rows)

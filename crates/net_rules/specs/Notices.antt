@@ -1,5 +1,5 @@
--- What is told of asks after an event: the numbers of those that were lost, rising, then the new ones, interfaces in file order and
--- then radios.
+-- What is told of asks after an event: the numbers of those that were lost, rising, then the new
+-- ones, interfaces in file order and then radios.
 use Rattle.std.specs.Prelude.{ℕ, List, ◌++◌, map, filter, not, nat_le, unwrap_or, bytes_eq, ◌==◌}
 use Rattle.std.specs.List.{list_any, position}
 use Rattle.std.specs.Ordering.{nat_cmp}
@@ -30,10 +30,12 @@ interface_notice conf o = notice.Interface o.number (interface_place conf o.ask.
 abbrev pub radio_notice : Conf → OpenRadio → Notice
 radio_notice conf o = notice.Radio o.number (radio_place conf o.ask.name)
 
--- between two moments: what was open and is not, and what is open and has a number that was not given before
+-- between two moments: what was open and is not, and what is open and has a number that was not
+-- given before
 abbrev pub notices_between : Inputs → Inputs → List Notice
 notices_between before now =
-    map notice.Dropped (ordered nat_cmp (filter (λ n. not (list_any (λ m. m == n) (numbers_of now))) (numbers_of before)))
+    map notice.Dropped (ordered nat_cmp
+    (filter (λ n. not (list_any (λ m. m == n) (numbers_of now))) (numbers_of before)))
     ++ (map (interface_notice now.conf) (filter (λ o. nat_le before.next o.number) now.interfaces)
     ++ map (radio_notice now.conf) (filter (λ o. nat_le before.next o.number) now.radios))
 

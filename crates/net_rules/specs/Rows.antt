@@ -18,7 +18,8 @@ abbrev pub is_name : Option (List ℕ) → List ℕ → Bool
 is_name None name = false
 is_name (Some other) name = bytes_eq other name
 
--- the kind of a name without a row: plain, but a VLAN where it is of the form X.N, whose lower `lower_in` says
+-- the kind of a name without a row: plain, but a VLAN where it is of the form X.N, whose lower
+-- `lower_in` says
 abbrev pub rowless_kind : List ℕ → NameKind
 rowless_kind name = if is_some (vlan_parts name) then Vlan None 0 else Plain
 
@@ -66,7 +67,8 @@ ports_of_kind (Vlan lower id) = []
 
 -- a bridge of the rows owns the port
 abbrev pub is_named_port : Conf → List ℕ → Bool
-is_named_port conf port = list_any (λ row. list_any (λ other. bytes_eq other port) (ports_of_kind row.kind)) conf.names
+is_named_port conf port =
+    list_any (λ row. list_any (λ other. bytes_eq other port) (ports_of_kind row.kind)) conf.names
 
 -- the names that have a row
 abbrev pub names_of : Conf → List (List ℕ)
@@ -107,7 +109,8 @@ is_filtering conf bridge = list_any (is_vlan_of bridge) conf.vlans
 abbrev pub is_faultless : {X : Type 0} → List X → Bool
 is_faultless faults = nat_eq (length faults) 0
 
--- the configuration itself says all of an interface of these protocols; handlers are asked of every other
+-- the configuration itself says all of an interface of these protocols; handlers are asked of every
+-- other
 abbrev pub is_static : List ℕ → Bool
 is_static proto = bytes_eq proto (codes "static")
 
@@ -116,9 +119,12 @@ asks_nothing proto = is_static proto || bytes_eq proto (codes "none")
 
 -- the protocols that do nothing without a device
 abbrev pub needs_device : List ℕ → Bool
-needs_device proto = list_any (bytes_eq proto) (codes "static" ∷ codes "none" ∷ codes "dhcp" ∷ codes "dhcpv6" ∷ codes "pppoe" ∷ [])
+needs_device proto =
+    list_any (bytes_eq proto)
+    (codes "static" ∷ codes "none" ∷ codes "dhcp" ∷ codes "dhcpv6" ∷ codes "pppoe" ∷ [])
 
 -- the interface of a place in the rows has that name
 abbrev pub is_place_of : Conf → List ℕ → Option ℕ → Bool
 is_place_of conf name None = false
-is_place_of conf name (Some place) = option_map_or (λ row. bytes_eq row.name name) (slice_get conf.interfaces place) false
+is_place_of conf name (Some place) =
+    option_map_or (λ row. bytes_eq row.name name) (slice_get conf.interfaces place) false

@@ -8,15 +8,16 @@ use Rattle.net_rules.specs.Facts.{Facts}
 use Rattle.net_rules.specs.Rows.{row_at}
 use Rattle.net_rules.specs.RadioPorts.{radio_ports_of}
 
--- What a name is: a made one that a fault makes unavailable; one that is there or not, and may be available; a VLAN of an id
--- over a name; or a bridge with its own ports.
+-- What a name is: a made one that a fault makes unavailable; one that is there or not, and may be
+-- available; a VLAN of an id over a name; or a bridge with its own ports.
 pub data Standing : Type 0 where
   Broken : Standing
   Alone : (sound : Bool) → Standing
   Over : (lower : List ℕ) → (id : ℕ) → Standing
   Ports : (empty : Bool) → (ports : List (List ℕ)) → Standing
 
--- by the kind and whether a fault makes the name unavailable; the last list is that of a bridge's ports of radios
+-- by the kind and whether a fault makes the name unavailable; the last list is that of a bridge's
+-- ports of radios
 abbrev pub standing_of : NameKind → Bool → List (List ℕ) → Standing
 standing_of Plain broken more = Alone (not broken)
 standing_of (Bridge empty ports) true more = Broken
@@ -40,4 +41,5 @@ lowers_of (Ports empty ports) = ports
 
 -- one name stands on the other
 abbrev pub stands : Facts → List ℕ → List ℕ → Bool
-stands facts lower upper = list_any (λ name. bytes_eq name lower) (lowers_of (standing_at facts upper))
+stands facts lower upper =
+    list_any (λ name. bytes_eq name lower) (lowers_of (standing_at facts upper))

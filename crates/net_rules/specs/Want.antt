@@ -38,7 +38,8 @@ masters_of facts bridge ports = map (λ port. object.Master port bridge) (filter
 
 -- an entry counts where its port is a used own port of the bridge
 abbrev pub entry_counts : Facts → List (List ℕ) → VlanEntry → Bool
-entry_counts facts ports entry = used facts entry.port && list_any (λ port. bytes_eq port entry.port) ports
+entry_counts facts ports entry =
+    used facts entry.port && list_any (λ port. bytes_eq port entry.port) ports
 
 -- a VLAN of a bridge: on its ports, and on the bridge itself where the row says `local`
 abbrev pub local_vlan : List ℕ → ℕ → Bool → List Object
@@ -47,25 +48,30 @@ local_vlan bridge id true = object.Vlan bridge bridge id false false ∷ []
 
 abbrev pub vlan_objects : Facts → List ℕ → List (List ℕ) → VlanRow → List Object
 vlan_objects facts bridge ports row =
-    map (λ entry. object.Vlan bridge entry.port row.id entry.pvid entry.untagged) (filter (entry_counts facts ports) row.entries)
+    map (λ entry. object.Vlan bridge entry.port row.id entry.pvid entry.untagged)
+    (filter (entry_counts facts ports) row.entries)
     ++ local_vlan bridge row.id row.local
 
--- the objects of a used name beside its MTU: it is up, and of a plain one the hardware address, of a made one the link, of a
--- bridge the masters and VLANs of its ports
+-- the objects of a used name beside its MTU: it is up, and of a plain one the hardware address, of
+-- a made one the link, of a bridge the masters and VLANs of its ports
 abbrev pub objects_by : Facts → List ℕ → Option Mac → Standing → List Object
 objects_by facts name mac Broken = []
 objects_by facts name mac (Alone sound) = object.Up name ∷ mac_of name mac
-objects_by facts name mac (Over lower id) = object.Up name ∷ object.Link name (kind.Vlan lower id mac) ∷ []
+objects_by facts name mac (Over lower id) =
+    object.Up name ∷ object.Link name (kind.Vlan lower id mac) ∷ []
 objects_by facts name mac (Ports empty ports) =
     object.Up name ∷ object.Link name (kind.Bridge mac (is_filtering facts.conf name))
-    ∷ (masters_of facts name ports ++ flat_map (vlan_objects facts name ports) (vlans_of facts.conf name))
+    ∷ (masters_of facts name ports
+    ++ flat_map (vlan_objects facts name ports) (vlans_of facts.conf name))
 
 abbrev pub objects_of_row : Facts → List ℕ → NameRow → List Object
-objects_of_row facts name row = mtu_of name row.mtu ++ objects_by facts name row.mac (standing_at facts name)
+objects_of_row facts name row =
+    mtu_of name row.mtu ++ objects_by facts name row.mac (standing_at facts name)
 
 -- the objects of a name, where it is used
 abbrev pub objects_at : Facts → List ℕ → List Object
-objects_at facts name = if used facts name then objects_of_row facts name (row_at facts.conf.names name) else []
+objects_at facts name =
+    if used facts name then objects_of_row facts name (row_at facts.conf.names name) else []
 
 -- everything: 0.0.0.0/0 or ::/0 (RFC 4632, RFC 4291)
 abbrev pub everything : Addr → Addr × ℕ
@@ -78,29 +84,53 @@ main_table = 254
 
 -- a route to everything by a gateway
 abbrev pub default_route : List ℕ → ℕ → Addr → Object
-default_route dev metric gateway = object.Route (record { target = everything gateway; via = Some gateway; dev = dev; metric = metric; table = main_table })
+default_route dev metric gateway = object.Route (record {
+  target = everything gateway;
+  via = Some gateway;
+  dev = dev;
+  metric = metric;
+  table = main_table;
+})
 
 -- what the options of a static interface give
 abbrev pub of_options : InterfaceRow → List ℕ → List Object
-of_options row dev = map (object.Address dev) row.addresses ++ map (default_route dev row.metric) row.gateways
+of_options row dev =
+    map (object.Address dev) row.addresses ++ map (default_route dev row.metric) row.gateways
 
 -- what an answer gives
 abbrev pub of_answer : List ℕ → Option Answer → List Object
 of_answer dev None = []
 of_answer dev (Some answer) =
     map (object.Address dev) answer.addresses
-    ++ map (λ r. object.Route (record { target = r.target; via = r.via; dev = dev; metric = r.metric; table = main_table })) answer.routes
+    ++ map (λ r. object.Route (record {
+      target = r.target;
+      via = r.via;
+      dev = dev;
+      metric = r.metric;
+      table = main_table;
+    })) answer.routes
 
 -- the route of a section that names the interface, has no fault and is not disabled
 abbrev pub is_route_of : Facts → InterfaceRow → RouteRow → Bool
-is_route_of facts row r = is_faultless r.faults && (not r.disabled && is_place_of facts.conf row.name r.interface)
+is_route_of facts row r =
+    is_faultless r.faults && (not r.disabled && is_place_of facts.conf row.name r.interface)
 
 abbrev pub of_sections : Facts → InterfaceRow → List ℕ → List Object
-of_sections facts row dev = map (λ r. object.Route (record { target = r.target; via = r.via; dev = dev; metric = r.metric; table = r.table })) (filter (is_route_of facts row) facts.conf.routes)
+of_sections facts row dev =
+    map (λ r. object.Route (record {
+      target = r.target;
+      via = r.via;
+      dev = dev;
+      metric = r.metric;
+      table = r.table;
+    })) (filter (is_route_of facts row) facts.conf.routes)
 
--- the addresses and routes of an interface on a device: of its options or of its answer, then of the sections that name it
+-- the addresses and routes of an interface on a device: of its options or of its answer, then of
+-- the sections that name it
 abbrev pub given_on : Facts → InterfaceRow → List ℕ → List Object
-given_on facts row dev = (if is_static row.proto then of_options row dev else of_answer dev (answer_of facts row)) ++ of_sections facts row dev
+given_on facts row dev =
+    (if is_static row.proto then of_options row dev else of_answer dev (answer_of facts row))
+    ++ of_sections facts row dev
 
 abbrev pub given_by : Facts → InterfaceRow → Option (List ℕ) → List Object
 given_by facts row None = []
@@ -110,16 +140,20 @@ given_by facts row (Some dev) = given_on facts row dev
 abbrev pub given : Facts → InterfaceRow → List Object
 given facts row = if is_up facts row then given_by facts row (layer_of facts row) else []
 
--- the names that can be used, each once: those with a row, the ports of radios, and the devices of interfaces
+-- the names that can be used, each once: those with a row, the ports of radios, and the devices of
+-- interfaces
 abbrev pub known_names : Facts → List (List ℕ)
 known_names facts =
     firsts (λ name. name) (names_of facts.conf
     ++ (map (λ joins. joins.port) (radio_ports facts)
-    ++ (filter_map (device_of facts) (interfaces_of facts.conf) ++ filter_map (layer_of facts) (interfaces_of facts.conf))))
+    ++ (filter_map (device_of facts) (interfaces_of facts.conf)
+    ++ filter_map (layer_of facts) (interfaces_of facts.conf))))
 
 -- what is wanted, as a list
 abbrev pub wanted_list : Facts → List Object
-wanted_list facts = flat_map (objects_at facts) (known_names facts) ++ flat_map (given facts) (interfaces_of facts.conf)
+wanted_list facts =
+    flat_map (objects_at facts) (known_names facts)
+    ++ flat_map (given facts) (interfaces_of facts.conf)
 
 -- what is wanted
 unfoldable pub want : Facts → Objects

@@ -19,7 +19,8 @@ pub record IsUsedBridge (facts : Facts) (name : List ℕ) (ports : List (List �
   pub standing : standing_at facts name ≡ Ports empty ports
   pub used : used facts name ≡ true
 
--- the link of a used bridge, with the hardware address of its row, filtering where a VLAN is set on it
+-- the link of a used bridge, with the hardware address of its row, filtering where a VLAN is set on
+-- it
 pub record IsWantedBridge (facts : Facts) (name : List ℕ) (mac : Option Mac) (filtering : Bool) : Type 0 where
   pub ports : List (List ℕ)
   pub bridge : IsUsedBridge facts name ports
@@ -56,11 +57,12 @@ pub record IsSetOn (facts : Facts) (bridge : List ℕ) (row : VlanRow) : Type 0 
   pub member : Contains facts.conf.vlans row
   pub on : is_vlan_of bridge row ≡ true
 
--- a VLAN on a used own port of a used bridge, by an entry of a row; or on the bridge itself, by a row with `local`, tagged and
--- without PVID
+-- a VLAN on a used own port of a used bridge, by an entry of a row; or on the bridge itself, by a
+-- row with `local`, tagged and without PVID
 pub data IsWantedPortVlan (facts : Facts) (bridge : List ℕ) : List ℕ → ℕ → Bool → Bool → Type 0 where
   entry : (row : VlanRow) (e : VlanEntry) → IsSetOn facts bridge row → Contains row.entries e
-      → IsWantedMaster facts e.port bridge → IsWantedPortVlan facts bridge e.port row.id e.pvid e.untagged
+      → IsWantedMaster facts e.port bridge
+      → IsWantedPortVlan facts bridge e.port row.id e.pvid e.untagged
   itself : (row : VlanRow) (ports : List (List ℕ)) → IsSetOn facts bridge row → row.local ≡ true
       → IsUsedBridge facts bridge ports → IsWantedPortVlan facts bridge bridge row.id false false
 
@@ -76,7 +78,8 @@ IsWanted facts (object.Link name (Vlan lower id mac)) = IsWantedVlan facts name 
 IsWanted facts (object.Mtu name mtu) = IsWantedMtu facts name mtu
 IsWanted facts (object.Mac name mac) = IsWantedMac facts name mac
 IsWanted facts (object.Master port bridge) = IsWantedMaster facts port bridge
-IsWanted facts (object.Vlan bridge port id pvid untagged) = IsWantedPortVlan facts bridge port id pvid untagged
+IsWanted facts (object.Vlan bridge port id pvid untagged) =
+    IsWantedPortVlan facts bridge port id pvid untagged
 IsWanted facts (object.Up name) = used facts name ≡ true
 IsWanted facts (object.Address dev cidr) = IsGiven facts (object.Address dev cidr)
 IsWanted facts (object.Route r) = IsGiven facts (object.Route r)

@@ -39,6 +39,6 @@ pub struct Inputs {
     pub interfaces: Items<OpenInterface>,
     /// By rising number.
     pub radios: Items<OpenRadio>,
-    /// The number of the next ask, from 1.
+    /// The number of the next ask, from 1. The definitions count without end; `AreCountable` is the premise that it is below 2^63.
     pub next: u64,
 }

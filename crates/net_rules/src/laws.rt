@@ -1,14 +1,15 @@
 // Laws of the definitions. Each body is empty, and the contract is the law.
-ghost use Rattle.std.specs.Prelude.{◌≡◌, ◌↔◌, ℕ, List, Bool, Option, Some, Contains, true, ◌<◌, ◌≤◌};
+ghost use Rattle.std.specs.Prelude.{◌≡◌, ◌↔◌, ℕ, List, length, Bool, Option, Some, None, Contains, true, ◌+◌, ◌<◌, ◌≤◌};
 ghost use Rattle.std.specs.FinMap as map;
 ghost use Rattle.kern_model.specs.declared.object.Object.{Object};
 ghost use Rattle.kern_model.specs.declared.object.Call.{Call};
 ghost use Rattle.kern_model.specs.declared.object.Device.{Device};
 ghost use Rattle.kern_model.specs.declared.object.DevEvent.{DevEvent};
 ghost use Rattle.kern_model.specs.ObjectOrder.{Objects, Has};
-ghost use Rattle.kern_model.specs.Kernel.{Devices, map_of, after_event, object_of};
+ghost use Rattle.kern_model.specs.Kernel.{Devices, map_of, MayHappen, after_event, object_of};
 ghost use Rattle.kern_model.specs.Allowed.{AreAllowed};
 ghost use Rattle.kern_model.specs.CallOrder.{AreCalls, AreAdmitted, after_calls};
+ghost use Rattle.net_rows.specs.declared.rows.Conf.{Conf};
 ghost use Rattle.net_rows.specs.declared.rows.NameRow.{NameRow};
 ghost use Rattle.net_rows.specs.declared.rows.InterfaceRow.{InterfaceRow};
 ghost use Rattle.net_rules.specs.declared.answer.Answer.{Answer};
@@ -25,12 +26,13 @@ ghost use Rattle.net_rules.specs.Need.{interface_need};
 ghost use Rattle.net_rules.specs.Want.{want};
 ghost use Rattle.net_rules.specs.Wanted.{IsWanted};
 ghost use Rattle.net_rules.specs.Down.{LeadsDown, leads_down};
-ghost use Rattle.net_rules.specs.Footprint.{footprint};
+ghost use Rattle.net_rules.specs.Footprint.{footprint, IsOf};
 ghost use Rattle.net_rules.specs.Inputs.{facts_of, open_interface, open_radio};
 ghost use Rattle.net_rules.specs.After.{devices_after, after};
 ghost use Rattle.net_rules.specs.Numbers.{AreNumbered};
 ghost use Rattle.net_rules.specs.Fresh.{IsReached, AreAsked, fresh_start};
 ghost use Rattle.net_rules.specs.Moment.{Moment, devices_of, want_of, footprint_named};
+ghost use Rattle.net_rules.specs.Refusal.{refusal, moved};
 ghost use Rattle.net_rules.specs.Moment.{AreWithin, IsStretch, IsHistory, IsOrderly};
 
 /// Over sound rows eight levels are enough: a name is available, has link and is used as what is below and above it says.
@@ -119,6 +121,23 @@ pub fn what_vlans_lead_to_is_tested()
         → (leads_down rows name base ≡ true) ↔ LeadsDown rows base name }
 {}
 
+/// A device event that is not refused may happen to the kernel. So every event leads from a history to a history, refused or not, as long
+/// as loaded rows are sound.
+pub fn events_that_are_not_refused_may_come()
+    ensures device { (moment : Moment) (what : DevEvent)
+        → refusal moment (event.Device what) ≡ None
+        → MayHappen (devices_of moment.inputs) moment.held what }
+    ensures history { (moment : Moment) (what : Event) → IsHistory moment
+        → ((conf : Conf) → what ≡ event.Load conf → IsSound conf)
+        → IsHistory (moved moment what) }
+{}
+
+/// What a footprint has, by the kinds of objects.
+pub fn footprints_are_what_is_below()
+    ensures { (facts : Facts) (row : InterfaceRow) (o : Object)
+        → Has (footprint facts row) o ↔ (Has (want facts) o × IsOf facts row o) }
+{}
+
 /// Where an allowed set of held objects and a wanted one both have the footprint of an interface, no call between them names an object
 /// of it. The held ones need not have been wanted as a whole: a settling may have stopped.
 pub fn footprint_is_not_touched()
@@ -153,10 +172,14 @@ pub fn asks_are_the_needs()
     ensures { (inputs : Inputs) → IsReached inputs → AreAsked inputs }
 {}
 
-/// Each open ask has a number of its own below the next one, which never falls: no number is given twice.
+/// Each open ask has a number of its own below the next one, which never falls: no number is given twice. An event raises it by one at
+/// most for each interface and each radio of the rows.
 pub fn no_number_is_given_twice()
     ensures numbered { (inputs : Inputs) → IsReached inputs → AreNumbered inputs }
     ensures rises { (inputs : Inputs) (event : Event) → inputs.next ≤ (after inputs event).next }
+    ensures few { (inputs : Inputs) (event : Event) → (after inputs event).next
+        ≤ inputs.next + (length (after inputs event).conf.interfaces
+        + length (after inputs event).conf.radios) }
 {}
 
 /// An answer to a number that is not that of the open ask changes nothing.

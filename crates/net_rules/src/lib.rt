@@ -14,10 +14,11 @@ pub use event::{Event, Notice};
 pub use inputs::{Command, Inputs, OpenInterface, OpenRadio};
 pub use laws::{
     a_fresh_start_wants_the_same, answers_follow_the_rows, asks_are_the_needs,
-    devices_follow_the_kernel, every_history_is_orderly, footprint_is_not_touched,
-    inputs_want_what_is_allowed, no_answer_changes_a_need, no_call_names_what_stayed,
-    no_number_is_given_twice, no_other_answers_follow_the_rows, objects_are_wanted,
-    same_footprint_is_not_touched, stale_answers_change_nothing, used_names_have_users,
-    want_is_allowed, what_vlans_lead_to_is_tested,
+    devices_follow_the_kernel, events_that_are_not_refused_may_come, every_history_is_orderly,
+    footprint_is_not_touched, footprints_are_what_is_below, inputs_want_what_is_allowed,
+    no_answer_changes_a_need, no_call_names_what_stayed, no_number_is_given_twice,
+    no_other_answers_follow_the_rows, objects_are_wanted, same_footprint_is_not_touched,
+    stale_answers_change_nothing, used_names_have_users, want_is_allowed,
+    what_vlans_lead_to_is_tested,
 };
 pub use refusal::{MOST_DEVICES, MOST_IN_ANSWER, Refusal};
