@@ -1,0 +1,6 @@
+//! The rows that are read from a configuration keep what the laws on what a network wants ask of rows.
+#![tactic(auto)]
+
+mod laws;
+
+pub use laws::levels_that_are_read_are_sound;
