@@ -1,3 +1,4 @@
 pub mod RowLemmas
 pub mod KindLemmas
 pub mod LevelLemmas
+pub mod VlanLemmas

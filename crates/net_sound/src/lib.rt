@@ -3,4 +3,4 @@
 
 mod laws;
 
-pub use laws::levels_that_are_read_are_sound;
+pub use laws::{levels_that_are_read_are_sound, vlans_that_are_read_are_sound};
