@@ -28,14 +28,13 @@ use Rattle.net_devices.specs.Faults.{bare, kind_faults, value_faults, if_so}
 use Rattle.net_devices.specs.NameRows.{breaks, is_broken, name_faults}
 
 -- the names that a name of this kind stands on, where no fault makes it unavailable
-pub lowers_by : NameKind → List (List ℕ)
+abbrev pub lowers_by : NameKind → List (List ℕ)
 lowers_by is.Plain = []
 lowers_by (is.Bridge empty ports) = ports
 lowers_by (is.Vlan None id) = []
 lowers_by (is.Vlan (Some lower) id) = lower ∷ []
 
 pub stood : (kind : NameKind) (broken : Bool) (lower : List ℕ) → Contains (lowers_of (standing_of kind broken [])) lower → (broken ≡ false) × Contains (lowers_by kind) lower
-unfolding lowers_by
 stood is.Plain broken lower h = absurd (none_in_nil lower h)
 stood (is.Bridge empty ports) true lower h = absurd (none_in_nil lower h)
 stood (is.Bridge empty ports) false lower h = (refl, subst (λ (z : List (List ℕ)). Contains z lower) (append-nil ports) h)
@@ -110,12 +109,10 @@ module _ (said : List Said) where
 
   -- what a name stands on by its row, it stands on by the sections
   untyped_below : (parts : Option VlanParts) (lower : List ℕ) → Contains (lowers_by (untyped_kind parts)) lower → Contains (lower_of parts) lower
-  unfolding lowers_by
   untyped_below None lower h = h
   untyped_below (Some parts) lower h = h
 
   below_by : (name : List ℕ) (kind : StatedKind) (lower : List ℕ) → Contains (lowers_by (kind_by said name kind)) lower → Contains (below_kind said name kind) lower
-  unfolding lowers_by
   below_by name Untyped lower h = untyped_below (vlan_parts name) lower h
   below_by name Wrong lower h = h
   below_by name (Bridge empty ports bad) lower h =

@@ -3,4 +3,7 @@
 
 mod laws;
 
-pub use laws::{levels_that_are_read_are_sound, vlans_that_are_read_are_sound};
+pub use laws::{
+    levels_that_are_read_are_sound, names_that_are_read_are_sound, rows_that_are_read_are_sound,
+    vlans_that_are_read_are_sound,
+};
