@@ -81,7 +81,7 @@ owner_is bridge None h = cc h
 owner_is bridge (Some other) h = ap Some (bytes_same other bridge h)
 
 own_by : (b rest : Bool) → cond {A = Bool} b false rest ≡ true → (b ≡ false) × (rest ≡ true)
-own_by true rest h = absurd (let k : false ≡ true = h in cc k)
+own_by true rest h = cc h
 own_by false rest h = (refl, h)
 
 module _ (said : List Said) where

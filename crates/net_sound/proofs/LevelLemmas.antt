@@ -19,7 +19,7 @@ use Rattle.net_devices.specs.Kinds.{kind_of}
 use Rattle.net_devices.specs.Faults.{bare}
 use Rattle.net_devices.specs.NameRows.{name_faults, faults_of, is_broken, is_too_high, has_same_vlan, name_row, name_rows}
 use Rattle.net_devices.proofs.LevelLaws.{found, level_kept}
-use Rattle.net_sound.proofs.RowLemmas.{before, row_found, row_less, with_row}
+use Rattle.net_sound.proofs.RowLemmas.{no_both, before, row_found, row_less, with_row}
 use Rattle.net_sound.proofs.KindLemmas.{lowers_by, stood, rowless_stands, rowless_no_bridge, is_below, same_bridge, is_alone, breaking, high_listed}
 
 -- a member is not above the highest
@@ -83,10 +83,9 @@ high_breaks said same true name h = breaking said (name_faults said same true (s
 high_breaks said same false name h = cc h
 
 not_high : (said : List Said) (same : Bool) (name : List ℕ) → is_broken (faults_of said same name) ≡ false → level said name ≤ 8
-not_high said same name h = above_test 8 (level said name) (false_of_not (is_too_high said name) (λ (high : is_too_high said name ≡ true).
-    let broken : is_broken (faults_of said same name) ≡ true = high_breaks said same (is_too_high said name) name high in
-    let no : false ≡ true = sym h ∙ broken in
-    cc no))
+not_high said same name h =
+    above_test 8 (level said name) (false_of_not (is_too_high said name)
+    (λ (high : is_too_high said name ≡ true). no_both (is_broken (faults_of said same name)) (high_breaks said same (is_too_high said name) name high) h))
 
 module _ (conf : Conf) (said : List Said) (names : List (List ℕ)) (are : conf.names ≡ name_rows said names) where
   level_found : (name : List ℕ) → Contains names name → level_at conf name ≡ level said name

@@ -29,7 +29,7 @@ use Rattle.net_devices.specs.Levels.{below}
 use Rattle.net_devices.specs.Kinds.{id_or_zero, untyped_kind, kind_by, kind_in, kind_of}
 use Rattle.net_devices.specs.Faults.{bare, if_so, is_read, kind_faults}
 use Rattle.net_devices.specs.NameRows.{vlan_of, is_vlan_at, is_vlan_of_some, has_same_vlan, is_too_high, faults_of, name_faults, is_broken, name_row, rows_behind, name_rows}
-use Rattle.net_sound.proofs.RowLemmas.{before, in_order, row_found, row_less, with_row}
+use Rattle.net_sound.proofs.RowLemmas.{no_both, before, in_order, row_found, row_less, with_row}
 use Rattle.net_sound.proofs.KindLemmas.{lowers_by, stood, rowless_stands, rowless_no_bridge, rowless_ports, rowless_over, IsOwn, owns, is_below, same_bridge, breaking, same_listed, kind_listed}
 use Rattle.net_sound.proofs.ReadLemmas.{IsId, parts_are, IsReadKind, AreRead}
 use Rattle.net_sound.proofs.ClosedLemmas.{IsSectionOf, of_section, below_is_named}
@@ -54,10 +54,6 @@ over_by (is.Vlan (Some other) number) false lower id h =
     let lowers : other ≡ lower = cc h in
     let ids : number ≡ id = cc h in
     record { sound = refl; made = cc (lowers, ids) }
-
-no_both : (b : Bool) → b ≡ true → b ≡ false → ⊥
-no_both true h k = cc k
-no_both false h k = cc h
 
 module _ (said : List Said) (reads : AreRead said) where
   -- an identifier of a VLAN that no fault makes unavailable

@@ -11,6 +11,11 @@ use Rattle.net_devices.specs.declared.said.Said.{Said}
 use Rattle.net_devices.specs.EachOnce.{has}
 use Rattle.net_devices.specs.NameRows.{name_row, rows_behind, name_rows}
 
+-- a test does not tell both
+pub no_both : (b : Bool) → b ≡ true → b ≡ false → ⊥
+no_both true h k = cc k
+no_both false h k = cc h
+
 -- the names in front of one
 pub before : List (List ℕ) → List ℕ → List (List ℕ)
 before [] name = []
@@ -26,7 +31,7 @@ module _ (said : List Said) where
       go : (b : Bool) → bytes_eq other name ≡ b → (Contains others name → row_at (rows_behind said (earlier ++ other ∷ []) others) name ≡ name_row said ((earlier ++ other ∷ []) ++ before others name) name) → cond {A = NameRow} b (name_row said earlier other) (row_at (rows_behind said (earlier ++ other ∷ []) others) name) ≡ name_row said (earlier ++ cond {A = List (List ℕ)} b [] (other ∷ before others name)) name
       go true is rest = ap (name_row said earlier) (bytes_same other name is) ∙ ap (λ (z : List (List ℕ)). name_row said z name) (sym (append-nil earlier))
       go false is rest = elim (first_or_later other others name h) as (λ _. row_at (rows_behind said (earlier ++ other ∷ []) others) name ≡ name_row said (earlier ++ other ∷ before others name) name) [
-        | inl same ↦ absurd (let is' : bytes_eq other name ≡ true = same_bytes other name same in let no : false ≡ true = sym is ∙ is' in cc no)
+        | inl same ↦ absurd (no_both (bytes_eq other name) (same_bytes other name same) is)
         | inr later ↦ rest later ∙ ap (λ (z : List (List ℕ)). name_row said z name) (append_assoc earlier (other ∷ []) (before others name))
       ]
 
@@ -46,7 +51,7 @@ in_order (other ∷ others) a b h k = go (bytes_eq other a) (bytes_eq other b) r
   where
     later : (x : List ℕ) → bytes_eq other x ≡ false → Contains (other ∷ others) x → Contains others x
     later x is inside = elim (first_or_later other others x inside) as (λ _. Contains others x) [
-      | inl same ↦ absurd (let is' : bytes_eq other x ≡ true = same_bytes other x same in let no : false ≡ true = sym is ∙ is' in cc no)
+      | inl same ↦ absurd (no_both (bytes_eq other x) (same_bytes other x same) is)
       | inr found ↦ found
     ]
 

@@ -22,6 +22,7 @@ use Rattle.net_devices.specs.Faults.{if_so, is_read}
 use Rattle.net_devices.specs.Kinds.{if_read, id_or_zero}
 use Rattle.net_devices.specs.Kinds.{is_name as is_counted}
 use Rattle.net_devices.specs.BridgeVlans.{counted_bridge, is_vlan, is_repeated, gives_pvid, row_gives_pvid, has_pvid, is_second, with_one_pvid, is_stated_bridge, vlan_said, vlan_row, is_vlan_section, with_vlan, vlan_rows}
+use Rattle.net_sound.proofs.RowLemmas.{no_both}
 
 -- a row that is set on a bridge
 pub record IsOn (bridge : List ℕ) (row : VlanRow) : Type 0 where
@@ -29,8 +30,8 @@ pub record IsOn (bridge : List ℕ) (row : VlanRow) : Type 0 where
   pub named : row.bridge ≡ Some bridge
 
 on_by : (bridge : List ℕ) (passed : Bool) (name : Option (List ℕ)) → (not passed && is_name name bridge) ≡ true → (passed ≡ false) × (name ≡ Some bridge)
-on_by bridge true name h = absurd (let k : false ≡ true = h in cc k)
-on_by bridge false None h = absurd (let k : false ≡ true = h in cc k)
+on_by bridge true name h = cc h
+on_by bridge false None h = cc h
 on_by bridge false (Some other) h = (refl, ap Some (bytes_same other bridge h))
 
 is_on : (bridge : List ℕ) (row : VlanRow) → is_vlan_of bridge row ≡ true → IsOn bridge row
@@ -46,7 +47,7 @@ counts bridge row on = counted_by bridge row.passed_over row.bridge on.kept on.n
 -- a row that is not passed over repeats none
 some_fault : (front : List RowFault) (repeated : Bool) → not (length (front ++ if_so repeated fault.SameVlan) == 0) ≡ false → repeated ≡ false
 some_fault front false h = refl
-some_fault [] true h = absurd (let k : true ≡ false = h in cc k)
+some_fault [] true h = cc h
 some_fault (found ∷ front) true h =
     let faults : List RowFault = front ++ if_so true fault.SameVlan in
     let none : suc (length faults) ≡ 0 = eqb-true (suc (length faults)) 0 (not-false (suc (length faults) == 0) h) in
@@ -55,10 +56,6 @@ some_fault (found ∷ front) true h =
 not_repeated : (said : List Said) (earlier : List VlanRow) (vlan : VlanSaid) → (vlan_row said earlier vlan).passed_over ≡ false → is_repeated earlier (if_read vlan.bridge) (id_or_zero vlan.id) ≡ false
 not_repeated said earlier vlan h =
     some_fault (if_so (not (is_stated_bridge said vlan.bridge)) fault.NoBridge ++ if_so (not (is_read vlan.id)) fault.BadVid) (is_repeated earlier (if_read vlan.bridge) (id_or_zero vlan.id)) h
-
-no_both : (b : Bool) → b ≡ true → b ≡ false → ⊥
-no_both true h k = cc k
-no_both false h k = cc h
 
 -- an earlier row has another identifier
 other_id : (said : List Said) (earlier : List VlanRow) (vlan : VlanSaid) (bridge : List ℕ) (row : VlanRow) → Contains earlier row → IsOn bridge row → IsOn bridge (vlan_row said earlier vlan) → row.id ≡ id_or_zero vlan.id → ⊥
@@ -125,7 +122,7 @@ port_by true e = refl
 port_by false e = refl
 
 pvid_by : (second : Bool) (e : VlanEntry) → (cond {A = VlanEntry} second (record e { pvid = false }) e).pvid ≡ true → (second ≡ false) × (e.pvid ≡ true)
-pvid_by true e h = absurd (let k : false ≡ true = h in cc k)
+pvid_by true e h = cc h
 pvid_by false e h = (refl, h)
 
 second_of : (pvid had : Bool) → pvid ≡ true → (pvid && had) ≡ false → had ≡ false
