@@ -38,7 +38,7 @@ there_or true false = refl
 there_or false true = refl
 there_or false false = refl
 
-or_none : (b : Bool) → (b || false) ≡ b
+pub or_none : (b : Bool) → (b || false) ≡ b
 or_none true = refl
 or_none false = refl
 

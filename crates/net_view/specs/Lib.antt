@@ -10,3 +10,9 @@ pub mod RadioPorts
 pub mod Levels
 -- what is used
 pub mod View
+-- what is added for an interface that is up
+pub mod Given
+-- what is added for a used bridge
+pub mod Objects
+-- names, each once
+pub mod Known
