@@ -5,7 +5,7 @@ use Rattle.std.specs.List.{list_any}
 use Rattle.std.specs.Ordering.{nat_cmp}
 use Rattle.std.specs.Cmp.Lexicographic.{slice_cmp}
 use Rattle.std.specs.BTreeMap.{is_at}
-use Rattle.std.specs.BTreeSet.{BTreeSet, contains}
+use Rattle.std.specs.BTreeSet.{contains}
 use Rattle.std.proofs.lemmas.List.{map-append}
 use Rattle.std.proofs.lemmas.List.Folds.{list_any-append}
 use Rattle.std.specs.BTreeMap.{BTreeMap, get}
@@ -25,13 +25,12 @@ use Rattle.net_rows.specs.declared.rows.NameKind.TheVariants.{Plain, Vlan}
 use Rattle.net_rules.specs.Facts.{Facts}
 use Rattle.net_rules.specs.Rows.{row_at}
 use Rattle.net_rules.specs.RadioPorts.{RadioPort, radio_ports, radio_ports_of, device_of}
-use Rattle.net_rules.specs.Standing.{standing_of, standing_of_row, standing_at}
+use Rattle.net_rules.specs.Standing.{standing_of, standing_of_row}
 use Rattle.net_rules.specs.Interfaces.{layer_of}
 use Rattle.net_rules.specs.Used.{used}
 use Rattle.net_rules.specs.Want.{mtu_of, objects_by, objects_of_row, objects_at, known_names, wanted_list, want}
 use Rattle.net_view.specs.Places.{HasPlaces, is_place, named}
 use Rattle.net_rules.specs.Firsts.{firsts}
-use Rattle.net_view.specs.View.{HasNames, Adds}
 use Rattle.net_view.specs.declared.radio_ports.PortJoin.{PortJoin}
 use Rattle.net_view.specs.RadioPorts.{as_joined}
 use Rattle.net_view.specs.declared.known.Known.{Known}

@@ -1,12 +1,11 @@
 -- What is told of names, level by level.
-use Rattle.std.proofs.Common.{◌≡◌, ℕ, zero, suc, ◌+◌, ◌<◌, ◌≤◌, List, [], ◌∷◌, ◌++◌, length, map, get_or, Bool, true, false, cond, Option, Some, None, refl, sym, ap, ◌∙◌, subst, arith, add-one}
-use Rattle.std.specs.Prelude.{not, ◌&&◌, ◌||◌, bytes_eq, is_some, is_none, nat_lt, position, filter}
+use Rattle.std.proofs.Common.{◌≡◌, ℕ, zero, suc, ◌+◌, List, [], ◌∷◌, ◌++◌, map, get_or, Bool, true, false, cond, Option, Some, None, refl, sym, ap, ◌∙◌, subst, arith, add-one}
+use Rattle.std.specs.Prelude.{not, ◌&&◌, ◌||◌, bytes_eq, is_some, is_none, nat_lt}
 use Rattle.std.specs.List.{list_any, slice_get}
 use Rattle.std.specs.Option.{option_map, option_and_then}
 use Rattle.std.specs.Ordering.{nat_cmp}
 use Rattle.std.specs.Cmp.Lexicographic.{slice_cmp}
 use Rattle.std.specs.BTreeMap.{BTreeMap, get}
-use Rattle.std.proofs.lemmas.List.Folds.{list_any-append}
 use Rattle.uci_tree.proofs.FoldLemmas.{position-cons}
 use Rattle.kern_model.proofs.TestLemmas.{bytes_same, above_test}
 use Rattle.net_options.specs.declared.dotted.VlanParts.{VlanParts}
@@ -16,7 +15,7 @@ use Rattle.net_rows.specs.declared.rows.NameKind.{NameKind}
 use Rattle.net_rows.specs.declared.rows.NameKind.TheVariants.{Plain, Bridge, Vlan}
 use Rattle.net_rules.specs.Facts.{Facts}
 use Rattle.net_rules.specs.Levels.{by_levels}
-use Rattle.net_rules.specs.Rows.{row_at, rowless, names_of}
+use Rattle.net_rules.specs.Rows.{names_of}
 use Rattle.net_rules.specs.RadioPorts.{radio_ports_of}
 use Rattle.net_rules.specs.Standing.{standing_of, standing_of_row}
 use Rattle.net_rules.specs.Available.{is_present, has_carrier, available, link, opens, opens_at, links, links_at}

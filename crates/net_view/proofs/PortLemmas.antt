@@ -1,6 +1,6 @@
 -- The ports of radios, one after another.
-use Rattle.std.proofs.Common.{◌≡◌, ℕ, zero, suc, ◌+◌, ◌<◌, ◌==◌, List, [], ◌∷◌, ◌++◌, length, map, take, drop, get_or, Bool, true, false, cond, Option, Some, None, refl, sym, ap, ◌∙◌, subst, arith, append-nil, append_assoc, add-one, ne_eqb, eq-eqb, eqb-true}
-use Rattle.std.specs.Prelude.{not, ◌||◌, bytes_eq, position, filter, is_some, is_none, ◌&&◌, unwrap_or, option_to_list}
+use Rattle.std.proofs.Common.{◌≡◌, ℕ, zero, suc, ◌+◌, ◌<◌, ◌==◌, List, [], ◌∷◌, ◌++◌, length, map, take, get_or, Bool, true, false, cond, Option, Some, None, refl, sym, ap, ◌∙◌, arith, append-nil, ne_eqb, eq-eqb, eqb-true}
+use Rattle.std.specs.Prelude.{not, ◌||◌, bytes_eq, filter, is_some, is_none, ◌&&◌, unwrap_or, option_to_list}
 use Rattle.std.specs.List.{find, filter_map, flat_map, list_any, zip, cons_option}
 use Rattle.std.specs.Option.{option_map, option_and_then}
 use Rattle.std.specs.Ordering.{nat_cmp}
@@ -10,7 +10,6 @@ use Rattle.std.proofs.lemmas.List.{take_more, map-append}
 use Rattle.uci_tree.proofs.FoldLemmas.{position-cons}
 use Rattle.std.proofs.lemmas.List.Elements.{filter-append, filter_map-append}
 use Rattle.std.proofs.lemmas.List.Concat.{flat_map-append}
-use Rattle.std.proofs.lemmas.List.Folds.{list_any-append}
 use Rattle.kern_model.proofs.TestLemmas.{bytes_same, same_bytes, true_of_both_ways, from_any, of_any}
 use Rattle.net_rules.proofs.TableLemmas.{either_way}
 use Rattle.net_rules.proofs.ListLemmas.{within_firsts, key_in_firsts}
@@ -20,7 +19,6 @@ use Rattle.net_rules.specs.Facts.{Facts}
 use Rattle.net_rules.specs.Firsts.{firsts}
 use Rattle.net_rules.specs.Rows.{row_at, rowless, is_plain_kind, is_bridge_kind, is_bridge, is_named_port}
 use Rattle.net_options.specs.declared.dotted.VlanParts.{VlanParts}
-use Rattle.net_rows.specs.declared.rows.NameKind.{NameKind}
 use Rattle.net_rows.specs.declared.rows.NameKind.TheVariants.{Plain, Vlan}
 use Rattle.net_rows.specs.declared.rows.Conf.{Conf}
 use Rattle.net_rows.specs.declared.rows.RadioRow.{RadioRow}

@@ -1,5 +1,5 @@
 -- Sets of names, with one name more.
-use Rattle.std.proofs.Common.{◌≡◌, ℕ, zero, suc, ◌+◌, ◌<◌, List, [], ◌∷◌, ◌++◌, length, map, take, get_or, Bool, true, false, cond, Option, Some, None, refl, sym, ap, ◌∙◌, add-one}
+use Rattle.std.proofs.Common.{◌≡◌, ℕ, ◌+◌, ◌<◌, List, [], ◌∷◌, length, map, take, get_or, Bool, true, false, cond, Option, Some, None, refl, sym, ap, ◌∙◌, add-one}
 use Rattle.std.specs.Prelude.{◌&&◌, ◌||◌, bytes_eq, is_some, filter}
 use Rattle.std.specs.List.{list_any}
 use Rattle.std.specs.Ordering.{nat_cmp}
@@ -28,7 +28,7 @@ use Rattle.net_view.specs.Places.{HasPlaces, is_place, named}
 use Rattle.net_view.specs.declared.radio_ports.PortJoin.{PortJoin}
 use Rattle.net_view.specs.RadioPorts.{as_joined}
 use Rattle.net_view.specs.Levels.{ports_joining}
-use Rattle.net_view.specs.View.{HasNames, Adds, HasAbove}
+use Rattle.net_view.specs.View.{HasNames, Adds}
 use Rattle.net_view.proofs.PortLemmas.{firsts_more, more_is, row_is, row_is_none}
 use Rattle.net_view.proofs.LevelLemmas.{standing_is}
 

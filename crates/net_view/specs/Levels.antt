@@ -1,5 +1,5 @@
 -- What is told of names, level by level.
-use Rattle.std.specs.Prelude.{ℕ, ◌≡◌, List, Bool, true, false, ◌&&◌, map, filter, Option, Some, None, is_none, bytes_eq}
+use Rattle.std.specs.Prelude.{ℕ, ◌≡◌, List, Bool, false, ◌&&◌, map, filter, Option, Some, None, is_none, bytes_eq}
 use Rattle.net_options.specs.Dotted.{vlan_parts}
 use Rattle.net_rules.specs.declared.inputs.Inputs.{Inputs}
 use Rattle.net_rules.specs.Facts.{Facts}

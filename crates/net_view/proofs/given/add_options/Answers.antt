@@ -2,9 +2,7 @@ use Rattle.std.proofs.Common.{ℕ, List, ◌++◌, map, ap, ◌∙◌}
 use Rattle.net_addr.specs.declared.address.Addr.{Addr}
 use Rattle.kern_model.specs.declared.object.Object.TheVariants as object
 use Rattle.net_options.proofs.WordLemmas.{on_ok_then}
-use Rattle.net_rules.specs.declared.answer.AnswerRoute.{AnswerRoute}
 use Rattle.net_rules.specs.Want.{default_route}
-use Rattle.net_view.specs.Given.{answer_route}
 use Rattle.net_view.proofs.KnownLemmas.{two_parts}
 use Rattle.net_view.proofs.given.add_options.Goals as goal
 

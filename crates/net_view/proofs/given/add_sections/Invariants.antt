@@ -1,4 +1,4 @@
-use Rattle.std.proofs.Common.{◌≡◌, ◌++◌, map, drop}
+use Rattle.std.proofs.Common.{◌≡◌, ◌++◌, drop}
 use Rattle.net_rules.specs.Inputs.{facts_of}
 use Rattle.net_view.specs.Given.{routes_on}
 use Rattle.net_view.proofs.given.add_sections.Given as goal

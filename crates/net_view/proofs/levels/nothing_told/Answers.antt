@@ -1,4 +1,4 @@
-use Rattle.std.proofs.Common.{◌≡◌, List, Bool, false, map, ap, ◌∙◌, refl}
+use Rattle.std.proofs.Common.{◌≡◌, false, map, ap, ◌∙◌, refl}
 use Rattle.std.proofs.lemmas.List.{take_all}
 use Rattle.net_rows.specs.declared.rows.NameRow.{NameRow}
 use Rattle.net_view.specs.Levels.{step_of}

@@ -1,8 +1,7 @@
-use Rattle.std.proofs.Common.{ℕ, ◌≡◌, List, [], ◌∷◌, ◌++◌, Bool, cond, map, ap, sym, ◌∙◌, append-nil, rules}
+use Rattle.std.proofs.Common.{◌≡◌, List, [], ◌∷◌, ◌++◌, Bool, cond, map, ap, sym, ◌∙◌, append-nil, rules}
 use Rattle.std.specs.Prelude.{bytes_eq}
 use Rattle.std.specs.List.{list_any}
 use Rattle.std.proofs.lemmas.List.{map-append}
-use Rattle.net_rules.specs.RadioPorts.{RadioPort}
 use Rattle.net_view.specs.declared.radio_ports.PortJoin.{PortJoin}
 use Rattle.net_view.specs.RadioPorts.{as_joined}
 use Rattle.net_view.proofs.PortLemmas.{join_added}

@@ -1,4 +1,4 @@
-use Rattle.std.proofs.Common.{◌≡◌, List, [], ◌++◌, map, ap, sym, ◌∙◌, None, Some}
+use Rattle.std.proofs.Common.{List, [], ◌++◌, map, ap, ◌∙◌, None, Some}
 use Rattle.std.specs.Prelude.{unwrap_or}
 use Rattle.std.specs.List.{filter_map, zip}
 use Rattle.net_options.proofs.WordLemmas.{on_ok_then}

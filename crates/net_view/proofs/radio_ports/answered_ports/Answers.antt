@@ -1,4 +1,4 @@
-use Rattle.std.proofs.Common.{◌≡◌, List, ℕ, map, ap, subst, sym}
+use Rattle.std.proofs.Common.{List, ℕ, map, subst, sym}
 use Rattle.net_rows.specs.declared.rows.RadioRow.{RadioRow}
 use Rattle.net_rules.specs.Inputs.{facts_of}
 use Rattle.net_rules.specs.RadioPorts.{ports_of_radio}

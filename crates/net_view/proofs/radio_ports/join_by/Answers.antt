@@ -1,4 +1,4 @@
-use Rattle.std.proofs.Common.{true, false, ◌∙◌, rules}
+use Rattle.std.proofs.Common.{true, false, rules}
 use Rattle.net_view.proofs.PortLemmas.{joins_when}
 use Rattle.net_view.proofs.radio_ports.join_by.Goals as goal
 

@@ -1,4 +1,4 @@
-use Rattle.std.proofs.Common.{List, ℕ, map, take}
+use Rattle.std.proofs.Common.{map, take}
 use Rattle.std.specs.List.{filter_map}
 use Rattle.net_rules.specs.Inputs.{facts_of}
 use Rattle.net_rules.specs.RadioPorts.{RadioPort, joined}

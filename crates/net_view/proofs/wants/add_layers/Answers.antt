@@ -1,4 +1,4 @@
-use Rattle.std.proofs.Common.{ℕ, List, ◌++◌, map, take, ap, sym, subst}
+use Rattle.std.proofs.Common.{ℕ, List, ◌++◌, map, take, sym, subst}
 use Rattle.std.specs.List.{filter_map}
 use Rattle.std.proofs.lemmas.List.{take_all}
 use Rattle.net_rows.specs.declared.rows.InterfaceRow.{InterfaceRow}

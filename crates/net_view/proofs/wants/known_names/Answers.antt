@@ -7,7 +7,6 @@ use Rattle.net_rules.specs.Firsts.{firsts}
 use Rattle.net_rules.specs.RadioPorts.{RadioPort, device_of}
 use Rattle.net_rules.specs.Inputs.{facts_of}
 use Rattle.net_view.specs.RadioPorts.{as_joined}
-use Rattle.net_view.specs.Known.{IsKnown}
 use Rattle.net_view.proofs.KnownLemmas.{all_known}
 use Rattle.net_view.proofs.wants.known_names.Goals as goal
 

@@ -1,4 +1,4 @@
-use Rattle.std.proofs.Common.{◌≡◌, ℕ, List, [], ◌∷◌, ◌++◌, rules}
+use Rattle.std.proofs.Common.{◌≡◌, [], ◌∷◌, ◌++◌, rules}
 use Rattle.net_view.proofs.KnownLemmas.{known_already, known_more}
 use Rattle.net_view.proofs.known.Known.add.Goals as goal
 

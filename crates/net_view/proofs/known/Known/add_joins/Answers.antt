@@ -1,4 +1,4 @@
-use Rattle.std.proofs.Common.{ℕ, List, ◌++◌, map, take, ap, sym, subst, ◌∙◌}
+use Rattle.std.proofs.Common.{◌++◌, map, take, ap, subst, ◌∙◌}
 use Rattle.std.proofs.lemmas.List.{take_all}
 use Rattle.net_view.specs.declared.radio_ports.PortJoin.{PortJoin}
 use Rattle.net_view.specs.Known.{IsKnown}

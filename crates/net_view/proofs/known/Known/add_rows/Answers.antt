@@ -1,8 +1,8 @@
-use Rattle.std.proofs.Common.{ℕ, List, ◌++◌, map, take, ap, sym, subst, ◌∙◌}
+use Rattle.std.proofs.Common.{◌++◌, map, take, ap, subst}
 use Rattle.std.proofs.lemmas.List.{take_all}
 use Rattle.net_rows.specs.declared.rows.NameRow.{NameRow}
 use Rattle.net_view.specs.Known.{IsKnown}
-use Rattle.net_view.proofs.KnownLemmas.{known_none, known_next, as_ports}
+use Rattle.net_view.proofs.KnownLemmas.{known_none, known_next}
 use Rattle.net_view.proofs.known.Known.add_rows.Goals as goal
 
 pub loop-row-init : goal.loop-row-init

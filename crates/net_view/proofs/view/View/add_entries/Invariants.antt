@@ -1,4 +1,4 @@
-use Rattle.std.proofs.Common.{◌≡◌, ◌++◌, map, drop}
+use Rattle.std.proofs.Common.{◌≡◌, ◌++◌, drop}
 use Rattle.net_rules.specs.Inputs.{facts_of}
 use Rattle.net_view.specs.Objects.{entries_on}
 use Rattle.net_view.proofs.view.View.add_entries.Given as goal
