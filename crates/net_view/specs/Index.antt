@@ -1,0 +1,15 @@
+-- The places of all that inputs have by name.
+use Rattle.std.specs.Prelude.{map}
+use Rattle.net_rules.specs.declared.inputs.Inputs.{Inputs}
+use Rattle.net_view.specs.Places.{HasPlaces}
+use Rattle.net_view.specs.declared.index.Index.{Index}
+
+-- for each list of the inputs, the places of its names
+pub record IsIndexOf (inputs : Inputs) (index : Index) : Type 0 where
+  pub names : HasPlaces index.names (map (λ row. row.name) inputs.conf.names)
+  pub devices : HasPlaces index.devices (map (λ e. e.0) inputs.devices)
+  pub interfaces : HasPlaces index.interfaces (map (λ row. row.name) inputs.conf.interfaces)
+  pub radios : HasPlaces index.radios (map (λ row. row.name) inputs.conf.radios)
+  pub commands : HasPlaces index.commands (map (λ command. command.interface) inputs.commands)
+  pub interface_asks : HasPlaces index.interface_asks (map (λ o. o.ask.name) inputs.interfaces)
+  pub radio_asks : HasPlaces index.radio_asks (map (λ o. o.ask.name) inputs.radios)

@@ -1,0 +1,37 @@
+-- The ports of radios, as the program keeps them.
+use Rattle.std.specs.Prelude.{ℕ, ◌≡◌, List, map, filter, not, ◌&&◌, if◌then◌else◌, Option, Some, None}
+use Rattle.net_rows.specs.declared.rows.Conf.{Conf}
+use Rattle.net_rows.specs.declared.rows.WifiRow.{WifiRow}
+use Rattle.net_rules.specs.declared.inputs.Inputs.{Inputs}
+use Rattle.net_rules.specs.Facts.{Facts}
+use Rattle.net_rules.specs.Rows.{is_bridge, is_named_port}
+use Rattle.net_rules.specs.RadioPorts.{AnsweredPort, RadioPort, answered_port, answered_ports, radio_ports}
+use Rattle.net_rules.specs.Inputs.{facts_of}
+use Rattle.net_view.specs.Index.{IsIndexOf}
+use Rattle.net_view.specs.declared.radio_ports.PortAnswer.{PortAnswer}
+use Rattle.net_view.specs.declared.radio_ports.PortJoin.{PortJoin}
+use Rattle.net_view.specs.declared.radio_ports.RadioPorts.{RadioPorts}
+
+abbrev pub as_answered : PortAnswer → AnsweredPort
+as_answered answer = record { interface = answer.interface; port = answer.port }
+
+abbrev pub as_joined : PortJoin → RadioPort
+as_joined join = record { bridge = join.bridge; port = join.port }
+
+-- the rows that are not disabled
+abbrev pub enabled : List WifiRow → List WifiRow
+enabled rows = filter (λ row. not row.disabled) rows
+
+-- what an answer tells for a row
+abbrev pub port_of_pair : Facts → WifiRow × Option (List ℕ) → Option AnsweredPort
+port_of_pair facts pair = answered_port facts pair.0.network pair.1
+
+-- the bridge that a port joins, where the device of its interface is one and no bridge of the rows owns the port
+abbrev pub join_to : Conf → List ℕ → List ℕ → Option RadioPort
+join_to conf port device = if is_bridge conf device && not (is_named_port conf port) then Some (record { bridge = device; port = port }) else None
+
+-- the index and the ports are those of the inputs
+pub record ArePortsOf (inputs : Inputs) (ports : RadioPorts) : Type 0 where
+  pub index : IsIndexOf inputs ports.index
+  pub answered : map as_answered ports.answered.items ≡ answered_ports (facts_of inputs)
+  pub joined : map as_joined ports.joined.items ≡ radio_ports (facts_of inputs)

@@ -1,0 +1,367 @@
+ghost use Rattle.std.specs.Prelude.{◌≡◌, map, is_some, IfOk};
+ghost use Rattle.net_rules.specs.Rows.{interface_named};
+ghost use Rattle.net_rules.specs.After as spec;
+ghost use Rattle.net_view.specs.Places.{HasPlaces};
+
+use crate::index::interface_places;
+use kern_model::{DevEvent, DevName, Device};
+use net_rows::Conf;
+use net_rules::{Answer, AnswerRoute, Command, Event, Inputs, OpenInterface, OpenRadio};
+use plane_io::{Items, Memory, Text};
+use std::alloc::Global;
+use std::collections::BTreeMap;
+
+/// The inputs with the one field changed that the event names: the first step after an event.
+pub fn changed(alloc: Global, inputs: Inputs, event: Event) -> Result<Inputs, Memory>
+    ensures { IfOk result (λ now. now ≡ spec.changed inputs event) }
+{
+    match event {
+        Event::Load(conf) => loaded(alloc, inputs, conf),
+        Event::Device(what) => with_devices(alloc, inputs, what),
+        Event::Operator { interface, up } => commanded(alloc, inputs, interface, up),
+        Event::Answer {
+            interface,
+            number,
+            answer,
+        } => answered(alloc, inputs, &interface, number, &answer),
+        Event::Radio {
+            radio,
+            number,
+            ports,
+        } => radio_answered(alloc, inputs, &radio, number, ports.as_slice()),
+    }
+}
+
+fn loaded(alloc: Global, inputs: Inputs, conf: Conf) -> Result<Inputs, Memory>
+    ensures { IfOk result (λ now. now
+        ≡ record inputs { conf = conf; commands = spec.kept_commands conf inputs.commands }) }
+{
+    let places = interface_places(alloc, conf.interfaces.as_slice())?;
+    let Inputs {
+        devices,
+        commands,
+        interfaces,
+        radios,
+        next,
+        ..
+    } = inputs;
+    let commands = kept_commands(alloc, &conf, &places, commands)?;
+    Ok(Inputs {
+        conf,
+        devices,
+        commands,
+        interfaces,
+        radios,
+        next,
+    })
+}
+
+// The commands for interfaces that there are.
+fn kept_commands(
+    alloc: Global,
+    conf: &Conf,
+    places: &BTreeMap<Text, usize>,
+    commands: Items<Command>,
+) -> Result<Items<Command>, Memory>
+    requires { HasPlaces places.now (map (λ row. row.name) conf.now.interfaces) }
+    ensures { IfOk result (λ kept. kept ≡ spec.kept_commands conf.now commands) }
+{
+    let mut kept = Items::new(alloc);
+    for command in commands.into_vec() {
+        if has_interface(conf, places, &command.interface) {
+            kept.push(command)?;
+        }
+    }
+    Ok(kept)
+}
+
+fn has_interface(conf: &Conf, places: &BTreeMap<Text, usize>, interface: &Text) -> bool
+    requires { HasPlaces places.now (map (λ row. row.name) conf.now.interfaces) }
+    ensures { result ≡ is_some (interface_named conf.now interface.now) }
+{
+    places.contains_key(interface)
+}
+
+fn with_devices(alloc: Global, inputs: Inputs, what: DevEvent) -> Result<Inputs, Memory>
+    ensures { IfOk result (λ now. now
+        ≡ record inputs { devices = spec.devices_after inputs.devices what }) }
+{
+    let Inputs {
+        conf,
+        devices,
+        commands,
+        interfaces,
+        radios,
+        next,
+    } = inputs;
+    let devices = devices_after(alloc, devices, what)?;
+    Ok(Inputs {
+        conf,
+        devices,
+        commands,
+        interfaces,
+        radios,
+        next,
+    })
+}
+
+fn devices_after(
+    alloc: Global,
+    devices: Items<(DevName, Device)>,
+    what: DevEvent,
+) -> Result<Items<(DevName, Device)>, Memory>
+    ensures { IfOk result (λ now. now ≡ spec.devices_after devices what) }
+{
+    match what {
+        DevEvent::Add {
+            name,
+            carrier,
+            mtu,
+            mac,
+        } => {
+            let mut others = without_device(alloc, &name, devices.as_slice())?;
+            others.push((name, Device { carrier, mtu, mac }))?;
+            Ok(others)
+        }
+        DevEvent::Remove { name } => without_device(alloc, &name, devices.as_slice()),
+        DevEvent::Carrier { name, on } => carrier_set(alloc, &name, on, devices.as_slice()),
+    }
+}
+
+fn without_device(
+    alloc: Global,
+    name: &DevName,
+    devices: &[(DevName, Device)],
+) -> Result<Items<(DevName, Device)>, Memory>
+    ensures { IfOk result (λ others. others ≡ spec.without_device name.now devices.now) }
+{
+    let mut others = Items::new(alloc);
+    for entry in devices {
+        if entry.0.text() != name.text() {
+            others.push(*entry)?;
+        }
+    }
+    Ok(others)
+}
+
+fn carrier_set(
+    alloc: Global,
+    name: &DevName,
+    on: bool,
+    devices: &[(DevName, Device)],
+) -> Result<Items<(DevName, Device)>, Memory>
+    ensures { IfOk result (λ now. now ≡ map (spec.carrier_set name.now on) devices.now) }
+{
+    let mut now = Items::new(alloc);
+    for entry in devices {
+        now.push(with_carrier(name, on, entry))?;
+    }
+    Ok(now)
+}
+
+fn with_carrier(name: &DevName, on: bool, entry: &(DevName, Device)) -> (DevName, Device)
+    ensures { result ≡ spec.carrier_set name.now on entry.now }
+{
+    if entry.0.text() == name.text() {
+        let device = Device {
+            carrier: on,
+            mtu: entry.1.mtu,
+            mac: entry.1.mac,
+        };
+        return (entry.0, device);
+    }
+    *entry
+}
+
+fn commanded(alloc: Global, inputs: Inputs, interface: Text, up: bool) -> Result<Inputs, Memory>
+    ensures { IfOk result (λ now. now
+        ≡ record inputs { commands = spec.commands_after inputs.commands interface up }) }
+{
+    let Inputs {
+        conf,
+        devices,
+        commands,
+        interfaces,
+        radios,
+        next,
+    } = inputs;
+    let commands = commands_after(alloc, commands, interface, up)?;
+    Ok(Inputs {
+        conf,
+        devices,
+        commands,
+        interfaces,
+        radios,
+        next,
+    })
+}
+
+fn commands_after(
+    alloc: Global,
+    commands: Items<Command>,
+    interface: Text,
+    up: bool,
+) -> Result<Items<Command>, Memory>
+    ensures { IfOk result (λ now. now ≡ spec.commands_after commands interface up) }
+{
+    let mut now = Items::new(alloc);
+    for command in commands.into_vec() {
+        if command.interface.as_bytes() != interface.as_bytes() {
+            now.push(command)?;
+        }
+    }
+    now.push(Command { interface, up })?;
+    Ok(now)
+}
+
+fn answered(
+    alloc: Global,
+    inputs: Inputs,
+    interface: &Text,
+    number: u64,
+    answer: &Answer,
+) -> Result<Inputs, Memory>
+    ensures { IfOk result (λ now. now ≡ record inputs {
+      interfaces
+          = map (spec.answered_interface interface.now number answer.now) inputs.interfaces;
+    }) }
+{
+    let Inputs {
+        conf,
+        devices,
+        commands,
+        interfaces,
+        radios,
+        next,
+    } = inputs;
+    let interfaces = with_answers(alloc, interface, number, answer, interfaces)?;
+    Ok(Inputs {
+        conf,
+        devices,
+        commands,
+        interfaces,
+        radios,
+        next,
+    })
+}
+
+fn with_answers(
+    alloc: Global,
+    interface: &Text,
+    number: u64,
+    answer: &Answer,
+    interfaces: Items<OpenInterface>,
+) -> Result<Items<OpenInterface>, Memory>
+    ensures { IfOk result (λ now. now
+        ≡ map (spec.answered_interface interface.now number answer.now) interfaces) }
+{
+    let mut now = Items::new(alloc);
+    for asked in interfaces.into_vec() {
+        now.push(with_answer(alloc, interface, number, answer, asked)?)?;
+    }
+    Ok(now)
+}
+
+fn with_answer(
+    alloc: Global,
+    interface: &Text,
+    number: u64,
+    answer: &Answer,
+    asked: OpenInterface,
+) -> Result<OpenInterface, Memory>
+    ensures { IfOk result (λ now. now
+        ≡ spec.answered_interface interface.now number answer.now asked) }
+{
+    if (asked.ask.name.as_bytes() == interface.as_bytes()) & (asked.number == number) {
+        return Ok(OpenInterface {
+            number: asked.number,
+            ask: asked.ask,
+            answer: Some(copy_answer(alloc, answer)?),
+        });
+    }
+    Ok(asked)
+}
+
+fn copy_answer(alloc: Global, answer: &Answer) -> Result<Answer, Memory>
+    ensures { IfOk result (λ copy. copy ≡ answer.now) }
+{
+    Ok(Answer {
+        up: answer.up,
+        device: answer.device,
+        addresses: copy_items(alloc, answer.addresses.as_slice())?,
+        routes: copy_items(alloc, answer.routes.as_slice())?,
+    })
+}
+
+fn copy_items<T: Copy>(alloc: Global, items: &[T]) -> Result<Items<T>, Memory>
+    ensures { IfOk result (λ copies. copies ≡ items.now) }
+{
+    Ok(Items::from_vec(Vec::from_slice(alloc, items)?))
+}
+
+fn radio_answered(
+    alloc: Global,
+    inputs: Inputs,
+    radio: &Text,
+    number: u64,
+    ports: &[Option<DevName>],
+) -> Result<Inputs, Memory>
+    ensures { IfOk result (λ now. now ≡ record inputs {
+      radios
+          = map (spec.answered_radio radio.now number ports.now) inputs.radios;
+    }) }
+{
+    let Inputs {
+        conf,
+        devices,
+        commands,
+        interfaces,
+        radios,
+        next,
+    } = inputs;
+    let radios = with_all_ports(alloc, radio, number, ports, radios)?;
+    Ok(Inputs {
+        conf,
+        devices,
+        commands,
+        interfaces,
+        radios,
+        next,
+    })
+}
+
+fn with_all_ports(
+    alloc: Global,
+    radio: &Text,
+    number: u64,
+    ports: &[Option<DevName>],
+    radios: Items<OpenRadio>,
+) -> Result<Items<OpenRadio>, Memory>
+    ensures { IfOk result (λ now. now
+        ≡ map (spec.answered_radio radio.now number ports.now) radios) }
+{
+    let mut now = Items::new(alloc);
+    for asked in radios.into_vec() {
+        now.push(with_ports(alloc, radio, number, ports, asked)?)?;
+    }
+    Ok(now)
+}
+
+fn with_ports(
+    alloc: Global,
+    radio: &Text,
+    number: u64,
+    ports: &[Option<DevName>],
+    asked: OpenRadio,
+) -> Result<OpenRadio, Memory>
+    ensures { IfOk result (λ now. now ≡ spec.answered_radio radio.now number ports.now asked) }
+{
+    if (asked.ask.name.as_bytes() == radio.as_bytes()) & (asked.number == number) {
+        return Ok(OpenRadio {
+            number: asked.number,
+            ask: asked.ask,
+            ports: Some(copy_items(alloc, ports)?),
+        });
+    }
+    Ok(asked)
+}

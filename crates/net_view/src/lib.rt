@@ -1,0 +1,23 @@
+//! What a network wants of the kernel, computed as its definitions say.
+#![tactic(auto)]
+
+mod changes;
+mod given;
+mod index;
+mod interfaces;
+mod known;
+mod levels;
+mod objects;
+mod places;
+mod radio_ports;
+mod view;
+mod wants;
+
+pub use changes::changed;
+pub use given::MAIN_TABLE;
+pub use index::Index;
+pub use interfaces::{asks_nothing, is_static, needs_device};
+pub use levels::{LEVELS, Levels, Question, Told};
+pub use radio_ports::{PortAnswer, PortJoin, RadioPorts};
+pub use view::View;
+pub use wants::wanted;
