@@ -99,6 +99,17 @@ pub record IsReady (names : List (List ℕ)) (body : List ℕ) (new : List NewFi
   pub back : GivesBack kept.files new l.packages
   pub within : IsWithin l.packages
 
+-- what the first writes of a begin stand on: the body gives the packages back as they are
+pub record IsStill (names : List (List ℕ)) (body : List ℕ) (kept : Kept) (l : Layout) : Type 0 where
+  pub gate : l.gate ≢ open_gate
+  pub reads : read_body names body ≡ Ok kept
+  pub back : put kept.files l.packages ≡ l.packages
+  pub within : IsWithin l.packages
+
+-- the images of these writes
+abbrev pub Prepares : List (List ℕ) → List ℕ → Layout → Files → Type 0
+Prepares names body l image = (kept : Kept) → IsStill names body kept l → OpensAs names (settled l.packages) image
+
 -- the images of a begin of these files up to its last write
 abbrev pub Stages : List (List ℕ) → List ℕ → List NewFile → Layout → Files → Type 0
 Stages names body new l image = (kept : Kept) → IsReady names body new kept l → OpensAs names (settled l.packages) image

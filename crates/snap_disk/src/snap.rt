@@ -6,7 +6,7 @@ ghost use Rattle.snap_disk.specs.Opened.{put, settled, pending_over, OpensAsEith
 ghost use Rattle.snap_disk.specs.Phase.{ArePackageFiles, GivesBack};
 ghost use Rattle.snap_disk.specs.BodyText.{body_text};
 ghost use Rattle.snap_disk.specs.Open.{IsOpenOn, ImagesSince, state_of, begun, confirmed, rolled_back, ticked, is_due};
-ghost use Rattle.snap_disk.specs.Open.{pending_of, old_files, IsStaged, KeepsFiles};
+ghost use Rattle.snap_disk.specs.Open.{pending_of, old_files, begun_body, HoldsBody, IsStaged, KeepsFiles};
 ghost use Rattle.snap_disk.specs.Refusals.{IsGood, NothingIsPending, SomethingIsPending, BeginRefuses, EndRefuses, TickRefuses};
 
 use crate::body_text::body_text;
@@ -78,6 +78,8 @@ impl Snap {
             (OpensAsEither (D.view disk.old).names (state_of self.old) (begun (state_of self.old) new.items wait)) }
         ensures ok { OnOk result (IsGood self.old × NothingIsPending self.old × IsGood self.new
             × (state_of self.new ≡ begun (state_of self.old) new.items wait)) }
+        ensures body { OnOk result (HoldsBody (D.view disk.old) (D.view disk.new)
+            (body_text (D.view disk.old).names 2 (begun_body (state_of self.old) new.items wait))) }
         ensures err { OnErr result (state_of self.new ≡ state_of self.old) }
         ensures refused { IfErr result (λ error.
             BeginRefuses self.old (D.view disk.old) (D.view disk.new) error) }
@@ -116,6 +118,8 @@ impl Snap {
             (OpensAsEither (D.view disk.old).names (state_of self.old) (begun (state_of self.old) new.items (Some pending))) }
         ensures ok { OnOk result (IsGood self.new
             × (state_of self.new ≡ begun (state_of self.old) new.items (Some pending))) }
+        ensures body { OnOk result (HoldsBody (D.view disk.old) (D.view disk.new)
+            (body_text (D.view disk.old).names 2 (begun_body (state_of self.old) new.items (Some pending)))) }
         ensures err { OnErr result (state_of self.new ≡ state_of self.old) }
         ensures refused { IfErr result (λ error.
             BeginRefuses self.old (D.view disk.old) (D.view disk.new) error) }
@@ -154,6 +158,8 @@ impl Snap {
             (OpensAsEither (D.view disk.old).names (state_of self.old) (begun (state_of self.old) new.items (None))) }
         ensures ok { OnOk result (IsGood self.new
             × (state_of self.new ≡ begun (state_of self.old) new.items (None))) }
+        ensures body { OnOk result (HoldsBody (D.view disk.old) (D.view disk.new)
+            (body_text (D.view disk.old).names 2 (begun_body (state_of self.old) new.items None))) }
         ensures err { OnErr result (state_of self.new ≡ state_of self.old) }
         ensures refused { IfErr result (λ error.
             BeginRefuses self.old (D.view disk.old) (D.view disk.new) error) }
@@ -320,6 +326,8 @@ impl Snap {
         requires files { ArePackageFiles (length (D.view disk.now).names) new.now }
         ensures pending { IfOk result (λ kept. kept.pending ≡ pending) }
         ensures few { IfOk result (λ kept. length kept.files < 2 ^ 32) }
+        ensures files { IfOk result (λ kept.
+            kept.files ≡ old_files new.now 2 self.now.packages.items) }
         ensures staged { IfOk result (λ kept. IsStaged (D.view disk.now).names
             (body_text (D.view disk.now).names 2 kept) new.now self.now kept) }
     {
