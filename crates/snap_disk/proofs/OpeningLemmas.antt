@@ -5,7 +5,7 @@ use Rattle.std.proofs.lemmas.Bool.Decides.{nat_tests}
 use Rattle.plane_disk.specs.Files.{Files}
 use Rattle.snap_disk.specs.Body.{read_body}
 use Rattle.snap_disk.specs.Opened.{State, opened, durable, waiting_until, restored, put, IsWithin, OpensAs, settled, pending_over}
-use Rattle.snap_disk.specs.Phase.{Layout, files_of, AnyGate, AnySecondGate, AnyBody, AnyPackages, ArePackageFiles, IsWaiting, IsRestoring, over, Restores, Undoes, IsStill, Prepares, Stages, Applies, Commits}
+use Rattle.snap_disk.specs.Phase.{Layout, files_of, AnyGate, AnySecondGate, AnyBody, AnyPackages, ArePackageFiles, IsWaiting, IsRestoring, over, Restores, Undoes, Prepares, Stages, Applies, Commits}
 use Rattle.snap_disk.specs.declared.new_file.NewFile.{NewFile}
 use Rattle.snap_disk.specs.declared.kept.Kept.{Kept}
 use Rattle.snap_disk.proofs.PutLemmas.{put_again, put_beside, beside_self, within_beside}

@@ -26,6 +26,7 @@ IsLaid view = (files : Files) → view.seen ≡ Some files → (l : Layout) × I
 pub record Phase {T E : Type 0} (old new : View) (result : Result T E) (may : Layout → Files → Type 0) (done : Layout → Layout) : Type 0 where
   pub names : new.names ≡ old.names
   pub silent : old.seen ≡ None → new.seen ≡ None
+  pub tells : (files : Files) → old.seen ≡ Some files → (now : Files) × (new.seen ≡ Some now)
   pub images : (l : Layout) → IsOn old (files_of l) → LeavesOnly old new (may l)
   pub ends : (l : Layout) → IsOn old (files_of l) → OnOk result (IsOn new (files_of (done l)))
 
@@ -134,5 +135,6 @@ pub record IsFilled (file size : ℕ) (old new : Files) : Type 0 where
 pub record Fills {T E : Type 0} (old new : View) (result : Result T E) (file : ℕ) (bytes : List ℕ) : Type 0 where
   pub names : new.names ≡ old.names
   pub silent : old.seen ≡ None → new.seen ≡ None
+  pub tells : (files : Files) → old.seen ≡ Some files → (now : Files) × (new.seen ≡ Some now)
   pub images : LeavesOnly old new (λ image. (from : Files) × old.is_image from × IsFilled file (length bytes) from image)
   pub seen : OnOk result ((files : Files) → old.seen ≡ Some files → new.seen ≡ Some (with_bytes files file bytes))

@@ -2,6 +2,7 @@ ghost use Rattle.std.specs.Prelude.{◌≡◌, ◌≢◌, ◌≤◌, ◌<◌, �
 ghost use Rattle.plane_words.specs.Causes.{Rose};
 ghost use Rattle.plane_disk.specs.Files.{bytes_of};
 ghost use Rattle.snap_disk.specs.Body.{read_body};
+ghost use Rattle.snap_disk.specs.Images.{SameDisk};
 ghost use Rattle.snap_disk.specs.Opened.{put, settled, pending_over, OpensAsEither};
 ghost use Rattle.snap_disk.specs.Phase.{ArePackageFiles, GivesBack};
 ghost use Rattle.snap_disk.specs.BodyText.{body_text};
@@ -64,6 +65,7 @@ impl Snap {
     ///
     /// `Reopen` exactly after a `DiskFailed`; `Waiting` exactly where an apply waits; `DiskFailed` only where the disk failed;
     /// `Memory`.
+    #[tactic(auto, using(crate::proofs::LoadLemmas::same_self))]
     pub fn begin<D: Disk>(
         &mut self,
         alloc: Global,
@@ -73,6 +75,7 @@ impl Snap {
     ) -> Result<(), SnapError>
         requires open { IsOpenOn self.old (D.view disk.old) }
         requires files { ArePackageFiles (length (D.view disk.old).names) new.items }
+        ensures same { SameDisk (D.view disk.old) (D.view disk.new) }
         ensures open { IsOpenOn self.new (D.view disk.new) }
         ensures images { ImagesSince self.old (D.view disk.old) (D.view disk.new)
             (OpensAsEither (D.view disk.old).names (state_of self.old) (begun (state_of self.old) new.items wait)) }
@@ -102,6 +105,7 @@ impl Snap {
     }
 
     /// With a deadline.
+    #[tactic(auto, using(crate::proofs::LoadLemmas::same_self))]
     fn begin_apply<D: Disk>(
         &mut self,
         alloc: Global,
@@ -113,6 +117,7 @@ impl Snap {
         requires files { ArePackageFiles (length (D.view disk.old).names) new.items }
         requires ready { self.old.failed ≡ false }
         requires none { self.old.kept ≡ None }
+        ensures same { SameDisk (D.view disk.old) (D.view disk.new) }
         ensures open { IsOpenOn self.new (D.view disk.new) }
         ensures images { ImagesSince self.old (D.view disk.old) (D.view disk.new)
             (OpensAsEither (D.view disk.old).names (state_of self.old) (begun (state_of self.old) new.items (Some pending))) }
@@ -143,6 +148,7 @@ impl Snap {
     }
 
     /// Without one: the body has deadline and holder 0.
+    #[tactic(auto, using(crate::proofs::LoadLemmas::same_self))]
     fn begin_commit<D: Disk>(
         &mut self,
         alloc: Global,
@@ -153,6 +159,7 @@ impl Snap {
         requires files { ArePackageFiles (length (D.view disk.old).names) new.items }
         requires ready { self.old.failed ≡ false }
         requires none { self.old.kept ≡ None }
+        ensures same { SameDisk (D.view disk.old) (D.view disk.new) }
         ensures open { IsOpenOn self.new (D.view disk.new) }
         ensures images { ImagesSince self.old (D.view disk.old) (D.view disk.new)
             (OpensAsEither (D.view disk.old).names (state_of self.old) (begun (state_of self.old) new.items (None))) }
@@ -191,8 +198,10 @@ impl Snap {
     ///
     /// `Reopen` exactly after a `DiskFailed`; `NothingWaits` exactly where no apply waits; `DiskFailed` only where the disk
     /// failed.
+    #[tactic(auto, using(crate::proofs::LoadLemmas::same_self))]
     pub fn confirm<D: Disk>(&mut self, disk: &mut D) -> Result<(), SnapError>
         requires open { IsOpenOn self.old (D.view disk.old) }
+        ensures same { SameDisk (D.view disk.old) (D.view disk.new) }
         ensures open { IsOpenOn self.new (D.view disk.new) }
         ensures images { ImagesSince self.old (D.view disk.old) (D.view disk.new)
             (OpensAsEither (D.view disk.old).names (state_of self.old) (confirmed (state_of self.old))) }
@@ -229,8 +238,10 @@ impl Snap {
     ///
     /// `Reopen` exactly after a `DiskFailed`; `NothingWaits` exactly where no apply waits; `DiskFailed` only where the disk
     /// failed.
+    #[tactic(auto, using(crate::proofs::LoadLemmas::same_self))]
     pub fn rollback<D: Disk>(&mut self, disk: &mut D) -> Result<(), SnapError>
         requires open { IsOpenOn self.old (D.view disk.old) }
+        ensures same { SameDisk (D.view disk.old) (D.view disk.new) }
         ensures open { IsOpenOn self.new (D.view disk.new) }
         ensures images { ImagesSince self.old (D.view disk.old) (D.view disk.new)
             (OpensAsEither (D.view disk.old).names (state_of self.old) (rolled_back (state_of self.old))) }
@@ -266,13 +277,16 @@ impl Snap {
     /// # Errors
     ///
     /// `Reopen` exactly after a `DiskFailed`; `DiskFailed` only where the disk failed.
+    #[tactic(auto, using(crate::proofs::LoadLemmas::same_self))]
     pub fn tick<D: Disk>(&mut self, disk: &mut D, now: u64) -> Result<bool, SnapError>
         requires open { IsOpenOn self.old (D.view disk.old) }
+        ensures same { SameDisk (D.view disk.old) (D.view disk.new) }
         ensures open { IsOpenOn self.new (D.view disk.new) }
         ensures images { ImagesSince self.old (D.view disk.old) (D.view disk.new)
             (OpensAsEither (D.view disk.old).names (state_of self.old) (ticked (state_of self.old) now)) }
         ensures ok { IfOk result (λ done. (done ≡ is_due (state_of self.old).waits now) × IsGood self.old × IsGood self.new
             × (state_of self.new ≡ ticked (state_of self.old) now)) }
+        ensures rests { result ≡ Ok false → (self.new ≡ self.old) × (disk.new ≡ disk.old) }
         ensures err { OnErr result (state_of self.new ≡ state_of self.old) }
         ensures refused { IfErr result (λ error.
             TickRefuses self.old now (D.view disk.old) (D.view disk.new) error) }
