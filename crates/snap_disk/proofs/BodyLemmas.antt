@@ -1,5 +1,5 @@
 -- Bodies that are read and written.
-use Rattle.std.proofs.Common.{◌≡◌, ◌<◌, ℕ, suc, ◌+◌, ◌-◌, List, [], ◌∷◌, ◌++◌, length, take, drop, get_or, Result, Ok, Err, sym, ◌∙◌, ap, arith}
+use Rattle.std.proofs.Common.{◌≡◌, ◌<◌, ℕ, suc, ◌+◌, ◌-◌, List, [], ◌∷◌, ◌++◌, length, take, drop, get_or, Result, Ok, Err, sym, ◌∙◌, ap, subst, arith}
 use Rattle.std.proofs.lemmas.List.{append_assoc, append-nil, take_more}
 use Rattle.snap_disk.specs.Body.{behind_file, next_file, more_files, RefusesAs}
 use Rattle.snap_disk.specs.BodyText.{file_text, files_text}
@@ -61,3 +61,7 @@ loop_refused names count i files seen place rest error whole within same so_far 
 pub are_push : (count : ℕ) (files : List NewFile) (file : NewFile) → ArePackageFiles count files → IsPackageFile count file → ArePackageFiles count (files ++ file ∷ [])
 are_push count [] file are is = (is, tt)
 are_push count (x ∷ files) file are is = (are.0, are_push count files file are.1 is)
+
+pub are_more : (count : ℕ) (files : List NewFile) (i : ℕ) (file : NewFile) → i < length files → file ≡ get_or files i file → ArePackageFiles count (take i files) → IsPackageFile count file → ArePackageFiles count (take (i + 1) files)
+are_more count files i file within is are here =
+    subst (ArePackageFiles count) (sym (take_more files i file within ∙ ap (λ x. take i files ++ x ∷ []) (sym is))) (are_push count (take i files) file are here)

@@ -3,7 +3,7 @@ use Rattle.std.proofs.Common.{inl, inr, Result, Ok, OnOk, ◌∙◌}
 use Rattle.plane_disk.specs.Files.{Files}
 use Rattle.plane_disk.specs.View.{View}
 use Rattle.snap_disk.specs.Phase.{Phase, Layout, IsLaid}
-use Rattle.snap_disk.proofs.Moments.{joins, widens, tells}
+use Rattle.snap_disk.proofs.Moments.{joins, widens, tells, tells_join}
 
 -- a function that ends with the failure of its first phase
 pub stops : {T E S F : Type 0} (old mid : View) (r : Result T E) (result : Result S F) (first may : Layout → Files → Type 0) (done last : Layout → Layout)
@@ -11,6 +11,7 @@ pub stops : {T E S F : Type 0} (old mid : View) (r : Result T E) (result : Resul
 stops old mid r result first may done last phase p failed = record {
   names = phase.names;
   silent = phase.silent;
+  tells = phase.tells;
   images = λ l on. widens old mid (first l) (may l) (phase.images l on) (p l);
   ends = λ l on. failed _;
 }
@@ -22,6 +23,7 @@ pub stops_behind : {R T E S F : Type 0} (old mid new : View) (r : R) (t : Result
 stops_behind old mid new r t result first second may done next last a b p q failed = record {
   names = b.names ∙ a.names;
   silent = λ none. b.silent (a.silent none);
+  tells = tells_join old.seen mid.seen new.seen a.tells b.tells;
   images = λ l on. joins old mid new (first l) (second (done l)) (may l) (a.images l on) (b.images (done l) (a.ends l on)) (p l) (q l);
   ends = λ l on. failed _;
 }
@@ -33,6 +35,7 @@ pub ends_behind : {R T S E F : Type 0} (old mid new : View) (r : R) (t : T) (s :
 ends_behind old mid new r t s first second may done next a b p q = record {
   names = b.names ∙ a.names;
   silent = λ none. b.silent (a.silent none);
+  tells = tells_join old.seen mid.seen new.seen a.tells b.tells;
   images = λ l on. joins old mid new (first l) (second (done l)) (may l) (a.images l on) (b.images (done l) (a.ends l on)) (p l) (q l);
   ends = λ l on. b.ends (done l) (a.ends l on);
 }

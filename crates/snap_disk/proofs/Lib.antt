@@ -1,6 +1,7 @@
 pub mod NameLemmas
 pub mod BodyLemmas
 pub mod OldLemmas
+pub mod Examples
 pub mod Moments
 pub mod LayoutLemmas
 pub mod PutLemmas

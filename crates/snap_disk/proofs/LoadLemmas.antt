@@ -5,7 +5,7 @@ use Rattle.std.proofs.lemmas.List.{take_more, get_or-drop, get_or_default}
 use Rattle.plane_words.specs.Causes.{Rose}
 use Rattle.plane_disk.specs.Files.{Files, bytes_of}
 use Rattle.plane_disk.specs.View.{View, IsSound, Elapses, AddsNone}
-use Rattle.snap_disk.specs.Images.{IsOn, LeavesOnly}
+use Rattle.snap_disk.specs.Images.{IsOn, LeavesOnly, SameDisk}
 use Rattle.snap_disk.specs.Body.{most_bytes}
 use Rattle.snap_disk.specs.Opened.{State, Found, put, IsWithin, OpensAs, opened, durable, settled}
 use Rattle.snap_disk.specs.Phase.{Layout, files_of, Phase, IsWaiting, IsRestoring, over, Restores, Undoes}
@@ -16,7 +16,7 @@ use Rattle.snap_disk.specs.declared.kept.Kept.{Kept}
 use Rattle.snap_disk.specs.declared.snap.Snap.{Snap}
 use Rattle.snap_disk.specs.declared.snap_error.SnapError.{SnapError}
 use Rattle.snap_disk.specs.declared.snap_error.SnapError.TheVariants.{DiskFailed, Waiting, NothingWaits, BadSnapshot, Reopen, Limit, Memory}
-use Rattle.snap_disk.proofs.Moments.{started, syncs_on, joins, widens, tells, told}
+use Rattle.snap_disk.proofs.Moments.{tells_same, tells_join, started, syncs_on, joins, widens, tells, told}
 use Rattle.snap_disk.proofs.OpeningLemmas.{waiting_opens, restoring_opens}
 use Rattle.snap_disk.proofs.ObjectLemmas.{open_on}
 
@@ -155,7 +155,7 @@ opened_after now state names f was image same settles opens =
     subst (λ (d : Files). OpensFrom names now image d) (sym same) (from_state names now state image was (λ m le. sym (settles.later m le)) opens)
 
 pub opened_giving : (names : List (List ℕ)) (f was : Files) (now : ℕ) (state : State) → f ≡ was → IsWithin (drop 2 was) → SettlesAs names was now state → OpensGiving names f now state
-opened_giving names f was now state same within settles = subst (λ (d : Files). OpensGiving names d now state) (sym same) (record { within = within; gives = settles.gives })
+opened_giving names f was now state same within settles = subst (λ (d : Files). OpensGiving names d now state) (sym same) (record { within = within; gives = settles.gives; later = settles.later })
 
 -- an image now is one of those since a moment
 pub image_since : (old new : View) (P : Files → Type 0) → LeavesOnly old new P → IsSound new → (c : Files) → new.is_image c → P c
@@ -168,3 +168,20 @@ after_since now names behind new f was named same acts sound c left =
 pub on_ok : {T E : Type 0} (r : Result T E) (X : Type 0) → X → OnOk r X
 on_ok (Ok v) X x = x
 on_ok (Err e) X x = tt
+
+-- ---- the same disk
+
+pub same_self : (view : View) → SameDisk view view
+same_self view = record { names = refl; tells = λ files seen. (files, seen); silent = λ none. none; later = omega arith }
+
+pub same_phase : {T E : Type 0} (old new : View) (r : Result T E) (may : Layout → Files → Type 0) (done : Layout → Layout) → Phase old new r may done → old.faults ≤ new.faults → SameDisk old new
+same_phase old new r may done phase later = record { names = phase.names; tells = phase.tells; silent = phase.silent; later = later }
+
+pub same_call : (old new : View) → Elapses old new → new.seen ≡ old.seen → old.faults ≤ new.faults → SameDisk old new
+same_call old new time seen later = record { names = time.names; tells = tells_same old.seen new.seen seen; silent = time.silent; later = later }
+
+pub same_quiet : (old new : View) → Quiet old new → SameDisk old new
+same_quiet old new quiet = record { names = quiet.names; tells = tells_same old.seen new.seen quiet.seen; silent = λ none. quiet.seen ∙ none; later = quiet.later }
+
+pub same_join : (old mid new : View) → SameDisk old mid → SameDisk mid new → SameDisk old new
+same_join old mid new a b = record { names = b.names ∙ a.names; tells = tells_join old.seen mid.seen new.seen a.tells b.tells; silent = λ none. b.silent (a.silent none); later = omega (arith, a.later, b.later) }

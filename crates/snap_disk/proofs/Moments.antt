@@ -1,7 +1,7 @@
 -- How runs of calls go on, and join.
-use Rattle.std.proofs.Common.{◌≡◌, ◌⊎◌, inl, inr, ⊎_elim, Option, Some, None, IfSome, subst, refl, arith}
+use Rattle.std.proofs.Common.{◌∙◌, Result, Ok, Err, OnOk, OnErr, ◌≡◌, ◌⊎◌, inl, inr, ⊎_elim, Option, Some, None, IfSome, subst, refl, arith}
 use Rattle.plane_disk.specs.Files.{Files}
-use Rattle.plane_disk.specs.View.{View, IsSound, Elapses, MayStep, AddsNone}
+use Rattle.plane_disk.specs.View.{View, IsSound, Elapses, MayStep, AddsNone, SeenSteps, Stays}
 use Rattle.snap_disk.specs.Images.{LeavesOnly}
 
 -- every image since old has P, and so has every image now
@@ -69,3 +69,21 @@ if_told P (Some x) h = h x refl
 pub tells : {A : Type 0} (o : Option A) → (o ≡ None) ⊎ ((x : A) × (o ≡ Some x))
 tells None = inl refl
 tells (Some x) = inr (x, refl)
+
+-- a disk that told its files still tells them
+abbrev pub StillTells : Option Files → Option Files → Type 0
+StillTells old new = (files : Files) → old ≡ Some files → (now : Files) × (new ≡ Some now)
+
+pub tells_step : (step : Files → Files → Type 0) (old new : Option Files) → SeenSteps step old new → StillTells old new
+tells_step step old new steps files seen = let w : (now : Files) × (new ≡ Some now) × step files now = subst (λ (o : Option Files). SeenSteps step o new) seen steps in (w.0, w.1)
+
+pub tells_join : (old mid new : Option Files) → StillTells old mid → StillTells mid new → StillTells old new
+tells_join old mid new a b files seen = let w = a files seen in b w.0 w.1
+
+pub tells_same : (old new : Option Files) → new ≡ old → StillTells old new
+tells_same old new same files seen = (files, same ∙ seen)
+
+-- a sync leaves what a read gives
+pub tells_sync : {T E : Type 0} (old new : View) (r : Result T E) → OnOk r (new.seen ≡ old.seen) → OnErr r (Stays old new) → StillTells old.seen new.seen
+tells_sync old new (Ok v) ok err = tells_same old.seen new.seen ok
+tells_sync old new (Err e) ok err = tells_same old.seen new.seen err.seen

@@ -5,9 +5,10 @@ use Rattle.plane_disk.specs.Files.{Files}
 use Rattle.plane_disk.specs.View.{View}
 use Rattle.snap_disk.specs.Images.{IsOn}
 use Rattle.snap_disk.specs.Body.{read_body}
+use Rattle.snap_disk.specs.BodyText.{body_text}
 use Rattle.snap_disk.specs.Opened.{State, put, IsWithin, OpensAs, OpensAsEither, settled, pending_over}
 use Rattle.snap_disk.specs.Phase.{Layout, files_of, Phase, AnyGate, IsWaiting, IsReady, GivesBack, ArePackageFiles, over, Undoes, Applies, Commits}
-use Rattle.snap_disk.specs.Open.{IsOpenOn, ImagesSince, Shows, WaitsAs, KeepsFiles, IsStaged, state_of, waits_of, begun, before, rolled_back, confirmed}
+use Rattle.snap_disk.specs.Open.{IsOpenOn, ImagesSince, Shows, WaitsAs, KeepsFiles, IsStaged, HoldsBody, old_files, state_of, waits_of, begun, before, rolled_back, confirmed}
 use Rattle.snap_disk.specs.declared.new_file.NewFile.{NewFile}
 use Rattle.snap_disk.specs.declared.new_file.Pending.{Pending}
 use Rattle.snap_disk.specs.declared.kept.Kept.{Kept}
@@ -149,3 +150,14 @@ confirm_shows names snap after is none l shows = record {
   packages = shows.packages ∙ sym is;
   waits = subst (λ (k : Option Kept). WaitsAs names k (record l { gate = 0 })) (sym none) (omega arith);
 }
+
+-- the body that a phase leaves
+pub holds_body : {R E : Type 0} (snap : Snap) (old new : View) (r : R) (may : Layout → Files → Type 0) (done : Layout → Layout) (text wanted : List ℕ) → Phase {T = R} {E = E} old new (Ok r) may done → IsOpenOn snap old → snap.failed ≡ false
+    → ((l : Layout) → (done l).body ≡ text) → text ≡ wanted → HoldsBody old new wanted
+holds_body snap old new r may done text wanted phase is_open ready left is f seen =
+    let w = is_open.shows ready f seen in
+    (files_of (done w.0), (phase.ends w.0 w.1).seen, left w.0 ∙ is)
+
+pub body_same : (names : List (List ℕ)) (kept : Kept) (pending : Pending) (new seen : List NewFile) (ps : Files) → kept.pending ≡ pending → kept.files ≡ old_files seen 2 ps → seen ≡ new
+    → body_text names 2 kept ≡ body_text names 2 (record { pending = pending; files = old_files new 2 ps })
+body_same names kept pending new seen ps until files same = λ i. body_text names 2 (record { pending = until i; files = (files ∙ (λ j. old_files (same j) 2 ps)) i })

@@ -5,7 +5,7 @@ use Rattle.std.proofs.lemmas.Bool.Decides.{nat_tests}
 use Rattle.plane_disk.specs.Files.{Files}
 use Rattle.snap_disk.specs.Body.{read_body}
 use Rattle.snap_disk.specs.Opened.{State, opened, durable, waiting_until, restored, put, IsWithin, OpensAs, settled, pending_over}
-use Rattle.snap_disk.specs.Phase.{Layout, files_of, AnyGate, AnySecondGate, AnyBody, AnyPackages, ArePackageFiles, IsWaiting, IsRestoring, over, Restores, Undoes, Stages, Applies, Commits}
+use Rattle.snap_disk.specs.Phase.{Layout, files_of, AnyGate, AnySecondGate, AnyBody, AnyPackages, ArePackageFiles, IsWaiting, IsRestoring, over, Restores, Undoes, Prepares, Stages, Applies, Commits}
 use Rattle.snap_disk.specs.declared.new_file.NewFile.{NewFile}
 use Rattle.snap_disk.specs.declared.kept.Kept.{Kept}
 use Rattle.snap_disk.proofs.PutLemmas.{put_again, put_beside, beside_self, within_beside}
@@ -68,15 +68,18 @@ pub undoes_rest : (names : List (List ℕ)) (files : List NewFile) (l : Layout) 
 undoes_rest names files l c restores kept is same within = inr (restores kept (record { gate = is.gate; second_gate = omega arith; body = is.body }) same within)
 
 -- a begin
-pub stages_second_gate : (names : List (List ℕ)) (body : List ℕ) (new : List NewFile) (l : Layout) (c : Files) → AnySecondGate l c → Stages names body new l c
-stages_second_gate names body new l c any kept is = opens_by names _ c _ any.1 (shut_opens names (record l { second_gate = any.0 }) is.gate is.within)
+pub prepares_second_gate : (names : List (List ℕ)) (body : List ℕ) (l : Layout) (c : Files) → AnySecondGate l c → Prepares names body l c
+prepares_second_gate names body l c any kept is = opens_by names _ c _ any.1 (shut_opens names (record l { second_gate = any.0 }) is.gate is.within)
 
-pub stages_body : (names : List (List ℕ)) (body : List ℕ) (new : List NewFile) (l : Layout) (c : Files) → AnyBody (record l { second_gate = 0 }) c → Stages names body new l c
-stages_body names body new l c any kept is = opens_by names _ c _ any.1 (shut_opens names (record l { second_gate = 0; body = any.0 }) is.gate is.within)
+pub prepares_body : (names : List (List ℕ)) (body : List ℕ) (l : Layout) (c : Files) → AnyBody (record l { second_gate = 0 }) c → Prepares names body l c
+prepares_body names body l c any kept is = opens_by names _ c _ any.1 (shut_opens names (record l { second_gate = 0; body = any.0 }) is.gate is.within)
 
-pub stages_gate : (names : List (List ℕ)) (body : List ℕ) (new : List NewFile) (l : Layout) (c : Files) → AnyGate (record l { second_gate = 0; body = body }) c → Stages names body new l c
-stages_gate names body new l c any kept is =
-    ⊎_elim (λ o. o) (λ o. same_rest names _ _ c (is.back l.packages (beside_self new l.packages)) o) (gate_torn names kept (record l { second_gate = 0; body = body }) (omega arith) is.reads is.within c any)
+pub prepares_gate : (names : List (List ℕ)) (body : List ℕ) (l : Layout) (c : Files) → AnyGate (record l { second_gate = 0; body = body }) c → Prepares names body l c
+prepares_gate names body l c any kept is =
+    ⊎_elim (λ o. o) (λ o. same_rest names _ _ c is.back o) (gate_torn names kept (record l { second_gate = 0; body = body }) (omega arith) is.reads is.within c any)
+
+pub stages_prepared : (names : List (List ℕ)) (body : List ℕ) (new : List NewFile) (l : Layout) (c : Files) → Prepares names body l c → Stages names body new l c
+stages_prepared names body new l c prepares kept is = prepares kept (record { gate = is.gate; reads = is.reads; back = is.back l.packages (beside_self new l.packages); within = is.within })
 
 pub stages_packages : (names : List (List ℕ)) (body : List ℕ) (new : List NewFile) (l : Layout) (c : Files) → AnyPackages new (record { gate = 79; second_gate = 0; body = body; packages = l.packages }) c → Stages names body new l c
 stages_packages names body new l c any kept is =

@@ -1,5 +1,5 @@
 -- What a run of calls leaves of a disk.
-use Rattle.std.specs.Prelude.{ℕ, ◌≡◌, ◌⊎◌, ◌≤◌, Some}
+use Rattle.std.specs.Prelude.{ℕ, ◌≡◌, ◌⊎◌, ◌≤◌, Some, None}
 use Rattle.plane_disk.specs.Files.{Files}
 use Rattle.plane_disk.specs.View.{View, Only}
 
@@ -13,3 +13,11 @@ pub record LeavesOnly (old new : View) (P : Files → Type 0) : Type 0 where
 pub record IsOn (view : View) (files : Files) : Type 0 where
   pub seen : view.seen ≡ Some files
   pub only : Only files view.is_image
+
+-- The same disk after a call, whatever it answered: its names stay, one that told its files still tells them, one that did
+-- not is still silent, and its faults only rise.
+pub record SameDisk (old new : View) : Type 0 where
+  pub names : new.names ≡ old.names
+  pub tells : (files : Files) → old.seen ≡ Some files → (now : Files) × (new.seen ≡ Some now)
+  pub silent : old.seen ≡ None → new.seen ≡ None
+  pub later : old.faults ≤ new.faults

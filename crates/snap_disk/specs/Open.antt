@@ -1,6 +1,6 @@
 -- An object and the disk on which it was opened.
 use Rattle.std.specs.Prelude.{ℕ, ◌≡◌, ◌≢◌, ◌+◌, Bool, false, List, [], ◌∷◌, length, Option, Some, None, Ok, nat_le, if◌then◌else◌}
-use Rattle.plane_disk.specs.Files.{Files}
+use Rattle.plane_disk.specs.Files.{Files, bytes_of}
 use Rattle.plane_disk.specs.View.{View}
 use Rattle.snap_disk.specs.Body.{has_number, read_body}
 use Rattle.snap_disk.specs.Opened.{put, open_gate, IsWithin, State, Waits, settled, pending_over, OpensAs}
@@ -91,3 +91,15 @@ pub record IsStaged (names : List (List ℕ)) (text : List ℕ) (new : List NewF
   pub reads : read_body names text ≡ Ok body
   pub back : GivesBack body.files new snap.packages.items
   pub files : ArePackageFiles (length names) body.files
+
+-- what the body of a begin keeps: the files that are written, as they are; of a plain commit with deadline and holder 0
+abbrev pub pending_or_none : Option Pending → Pending
+pending_or_none None = record { deadline = 0; holder = 0 }
+pending_or_none (Some pending) = pending
+
+abbrev pub begun_body : State → List NewFile → Option Pending → Kept
+begun_body state new wait = record { pending = pending_or_none wait; files = old_files new 2 state.packages }
+
+-- what a read of the body gives after a call, where the disk told its files before
+abbrev pub HoldsBody : View → View → List ℕ → Type 0
+HoldsBody old new text = (files : Files) → old.seen ≡ Some files → (left : Files) × (new.seen ≡ Some left) × (bytes_of left 1 ≡ text)

@@ -35,6 +35,8 @@ found state = record { packages = state.packages; waiting = pending_of state.wai
 pub record OpensGiving (names : List (List ℕ)) (files : Files) (now : ℕ) (state : State) : Type 0 where
   pub within : IsWithin (drop 2 files)
   pub gives : opened names files now ≡ Ok (found state)
+  -- and from then on the disk as it read is durable of the state
+  pub later : (moment : ℕ) → now ≤ moment → opened names files moment ≡ Ok (durable state moment)
 
 -- a disk that reads so has no reading, with that place
 pub record HasNoReading (names : List (List ℕ)) (files : Files) (now place : ℕ) : Type 0 where

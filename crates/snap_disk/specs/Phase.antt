@@ -26,6 +26,7 @@ IsLaid view = (files : Files) → view.seen ≡ Some files → (l : Layout) × I
 pub record Phase {T E : Type 0} (old new : View) (result : Result T E) (may : Layout → Files → Type 0) (done : Layout → Layout) : Type 0 where
   pub names : new.names ≡ old.names
   pub silent : old.seen ≡ None → new.seen ≡ None
+  pub tells : (files : Files) → old.seen ≡ Some files → (now : Files) × (new.seen ≡ Some now)
   pub images : (l : Layout) → IsOn old (files_of l) → LeavesOnly old new (may l)
   pub ends : (l : Layout) → IsOn old (files_of l) → OnOk result (IsOn new (files_of (done l)))
 
@@ -99,6 +100,17 @@ pub record IsReady (names : List (List ℕ)) (body : List ℕ) (new : List NewFi
   pub back : GivesBack kept.files new l.packages
   pub within : IsWithin l.packages
 
+-- what the first writes of a begin stand on: the body gives the packages back as they are
+pub record IsStill (names : List (List ℕ)) (body : List ℕ) (kept : Kept) (l : Layout) : Type 0 where
+  pub gate : l.gate ≢ open_gate
+  pub reads : read_body names body ≡ Ok kept
+  pub back : put kept.files l.packages ≡ l.packages
+  pub within : IsWithin l.packages
+
+-- the images of these writes
+abbrev pub Prepares : List (List ℕ) → List ℕ → Layout → Files → Type 0
+Prepares names body l image = (kept : Kept) → IsStill names body kept l → OpensAs names (settled l.packages) image
+
 -- the images of a begin of these files up to its last write
 abbrev pub Stages : List (List ℕ) → List ℕ → List NewFile → Layout → Files → Type 0
 Stages names body new l image = (kept : Kept) → IsReady names body new kept l → OpensAs names (settled l.packages) image
@@ -123,5 +135,6 @@ pub record IsFilled (file size : ℕ) (old new : Files) : Type 0 where
 pub record Fills {T E : Type 0} (old new : View) (result : Result T E) (file : ℕ) (bytes : List ℕ) : Type 0 where
   pub names : new.names ≡ old.names
   pub silent : old.seen ≡ None → new.seen ≡ None
+  pub tells : (files : Files) → old.seen ≡ Some files → (now : Files) × (new.seen ≡ Some now)
   pub images : LeavesOnly old new (λ image. (from : Files) × old.is_image from × IsFilled file (length bytes) from image)
   pub seen : OnOk result ((files : Files) → old.seen ≡ Some files → new.seen ≡ Some (with_bytes files file bytes))

@@ -12,6 +12,6 @@ mod phases;
 mod snap;
 mod snap_error;
 
-pub use new_file::{NewFile, Pending};
+pub use new_file::{NewFile, Pending, are_package_files};
 pub use snap::Snap;
 pub use snap_error::SnapError;

@@ -2,7 +2,7 @@
 ghost use Rattle.std.specs.Prelude.{ℕ, ◌≡◌, ◌≢◌, ◌≤◌, ◌<◌, ◌+◌, ◌-◌, ◌∷◌, [], drop, take, length, false, Some, None, Err, Ok, OnOk, IfOk, IfErr};
 ghost use Rattle.plane_disk.specs.Files.{Files, bytes_of};
 ghost use Rattle.plane_disk.specs.View.{IsFile, Tells};
-ghost use Rattle.snap_disk.specs.Images.{IsOn, LeavesOnly};
+ghost use Rattle.snap_disk.specs.Images.{IsOn, LeavesOnly, SameDisk};
 ghost use Rattle.snap_disk.specs.Body.{most_bytes};
 ghost use Rattle.snap_disk.specs.Opened.{put, IsWithin};
 ghost use Rattle.snap_disk.specs.Phase.{files_of, ArePackageFiles};
@@ -30,6 +30,7 @@ impl Snap {
     /// where the gates are not two bytes, or the first is open and the body has no reading; `DiskFailed` only where the disk
     /// failed; `Memory`. One that failed may be called again.
     pub fn open<D: Disk>(alloc: Global, disk: &mut D, now: u64) -> Result<Snap, SnapError>
+        ensures same { SameDisk (D.view disk.old) (D.view disk.new) }
         ensures gives { IfOk result (λ snap. (files : Files) → (D.view disk.old).seen ≡ Some files →
             OpensGiving (D.view disk.old).names files now (state_of snap)) }
         ensures open { IfOk result (λ snap. IsOpenOn snap (D.view disk.new) × (snap.failed ≡ false)) }
@@ -153,6 +154,7 @@ fn read_packages<D: Disk>(alloc: Global, disk: &mut D) -> Result<Vec<Text>, Snap
 }
 
 /// Acts on the gates of a disk that reads as these gates, this body and these packages.
+#[tactic(auto, using(crate::proofs::LoadLemmas::same_self))]
 fn settle<D: Disk>(
     alloc: Global,
     disk: &mut D,
@@ -165,6 +167,7 @@ fn settle<D: Disk>(
     requires within { IsWithin packages.items }
     requires on { (files : Files) → (D.view disk.old).seen ≡ Some files →
         IsOn (D.view disk.old) (files_of (read_as gates body.now packages.items)) }
+    ensures same { SameDisk (D.view disk.old) (D.view disk.new) }
     ensures settles { IfOk result (λ snap.
         SettlesAs (D.view disk.old).names (files_of (read_as gates body.now packages.items)) now (state_of snap)) }
     ensures open { IfOk result (λ snap. IsOpenOn snap (D.view disk.new) × (snap.failed ≡ false)) }

@@ -4,7 +4,7 @@ ghost use Rattle.plane_words.specs.Causes.{HasCause};
 ghost use Rattle.plane_disk.specs.View.{IsFile};
 ghost use Rattle.snap_disk.specs.Opened.{put, open_gate};
 ghost use Rattle.snap_disk.specs.Phase.{Phase, Fills, IsLaid, AnyGate, AnySecondGate, AnyBody, AnyPackages};
-ghost use Rattle.snap_disk.specs.Phase.{ArePackageFiles, Restores, Undoes, Stages, Applies, Commits};
+ghost use Rattle.snap_disk.specs.Phase.{ArePackageFiles, Restores, Undoes, Prepares, Stages, Applies, Commits};
 ghost use Rattle.std.specs.Prelude.{length};
 
 use crate::NewFile;
@@ -110,14 +110,13 @@ pub(crate) fn undo<D: Disk>(disk: &mut D, files: &[NewFile]) -> Result<(), Faile
 }
 
 /// Puts a body on the disk, and opens the first gate before it.
-fn stage<D: Disk>(disk: &mut D, body: &[u8], new: &[NewFile]) -> Result<(), Failed>
+fn stage<D: Disk>(disk: &mut D, body: &[u8]) -> Result<(), Failed>
     requires count { 2 ≤ length (D.view disk.old).names }
     requires laid { IsLaid (D.view disk.old) }
-    ensures phase { Phase (D.view disk.old) (D.view disk.new) result (Stages (D.view disk.old).names body.now new.now)
+    ensures phase { Phase (D.view disk.old) (D.view disk.new) result (Prepares (D.view disk.old).names body.now)
         (λ l. record { gate = 79; second_gate = 0; body = body.now; packages = l.packages }) }
     ensures cause { HasCause (D.view disk.old).faults (D.view disk.new).faults result }
 {
-    let _ = new;
     set_second_gate(disk, CLOSED)?;
     write_body(disk, body)?;
     set_gate(disk, OPEN)?;
@@ -133,7 +132,7 @@ fn stage_packages<D: Disk>(disk: &mut D, body: &[u8], new: &[NewFile]) -> Result
         (λ l. record { gate = 79; second_gate = 0; body = body.now; packages = put new.now l.packages }) }
     ensures cause { HasCause (D.view disk.old).faults (D.view disk.new).faults result }
 {
-    stage(disk, body, new)?;
+    stage(disk, body)?;
     write_packages(disk, new)?;
     Ok(())
 }

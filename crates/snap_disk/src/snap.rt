@@ -2,11 +2,12 @@ ghost use Rattle.std.specs.Prelude.{◌≡◌, ◌≢◌, ◌≤◌, ◌<◌, �
 ghost use Rattle.plane_words.specs.Causes.{Rose};
 ghost use Rattle.plane_disk.specs.Files.{bytes_of};
 ghost use Rattle.snap_disk.specs.Body.{read_body};
+ghost use Rattle.snap_disk.specs.Images.{SameDisk};
 ghost use Rattle.snap_disk.specs.Opened.{put, settled, pending_over, OpensAsEither};
 ghost use Rattle.snap_disk.specs.Phase.{ArePackageFiles, GivesBack};
 ghost use Rattle.snap_disk.specs.BodyText.{body_text};
 ghost use Rattle.snap_disk.specs.Open.{IsOpenOn, ImagesSince, state_of, begun, confirmed, rolled_back, ticked, is_due};
-ghost use Rattle.snap_disk.specs.Open.{pending_of, old_files, IsStaged, KeepsFiles};
+ghost use Rattle.snap_disk.specs.Open.{pending_of, old_files, begun_body, HoldsBody, IsStaged, KeepsFiles};
 ghost use Rattle.snap_disk.specs.Refusals.{IsGood, NothingIsPending, SomethingIsPending, BeginRefuses, EndRefuses, TickRefuses};
 
 use crate::body_text::body_text;
@@ -64,6 +65,7 @@ impl Snap {
     ///
     /// `Reopen` exactly after a `DiskFailed`; `Waiting` exactly where an apply waits; `DiskFailed` only where the disk failed;
     /// `Memory`.
+    #[tactic(auto, using(crate::proofs::LoadLemmas::same_self))]
     pub fn begin<D: Disk>(
         &mut self,
         alloc: Global,
@@ -73,11 +75,14 @@ impl Snap {
     ) -> Result<(), SnapError>
         requires open { IsOpenOn self.old (D.view disk.old) }
         requires files { ArePackageFiles (length (D.view disk.old).names) new.items }
+        ensures same { SameDisk (D.view disk.old) (D.view disk.new) }
         ensures open { IsOpenOn self.new (D.view disk.new) }
         ensures images { ImagesSince self.old (D.view disk.old) (D.view disk.new)
             (OpensAsEither (D.view disk.old).names (state_of self.old) (begun (state_of self.old) new.items wait)) }
         ensures ok { OnOk result (IsGood self.old × NothingIsPending self.old × IsGood self.new
             × (state_of self.new ≡ begun (state_of self.old) new.items wait)) }
+        ensures body { OnOk result (HoldsBody (D.view disk.old) (D.view disk.new)
+            (body_text (D.view disk.old).names 2 (begun_body (state_of self.old) new.items wait))) }
         ensures err { OnErr result (state_of self.new ≡ state_of self.old) }
         ensures refused { IfErr result (λ error.
             BeginRefuses self.old (D.view disk.old) (D.view disk.new) error) }
@@ -100,6 +105,7 @@ impl Snap {
     }
 
     /// With a deadline.
+    #[tactic(auto, using(crate::proofs::LoadLemmas::same_self))]
     fn begin_apply<D: Disk>(
         &mut self,
         alloc: Global,
@@ -111,11 +117,14 @@ impl Snap {
         requires files { ArePackageFiles (length (D.view disk.old).names) new.items }
         requires ready { self.old.failed ≡ false }
         requires none { self.old.kept ≡ None }
+        ensures same { SameDisk (D.view disk.old) (D.view disk.new) }
         ensures open { IsOpenOn self.new (D.view disk.new) }
         ensures images { ImagesSince self.old (D.view disk.old) (D.view disk.new)
             (OpensAsEither (D.view disk.old).names (state_of self.old) (begun (state_of self.old) new.items (Some pending))) }
         ensures ok { OnOk result (IsGood self.new
             × (state_of self.new ≡ begun (state_of self.old) new.items (Some pending))) }
+        ensures body { OnOk result (HoldsBody (D.view disk.old) (D.view disk.new)
+            (body_text (D.view disk.old).names 2 (begun_body (state_of self.old) new.items (Some pending)))) }
         ensures err { OnErr result (state_of self.new ≡ state_of self.old) }
         ensures refused { IfErr result (λ error.
             BeginRefuses self.old (D.view disk.old) (D.view disk.new) error) }
@@ -139,6 +148,7 @@ impl Snap {
     }
 
     /// Without one: the body has deadline and holder 0.
+    #[tactic(auto, using(crate::proofs::LoadLemmas::same_self))]
     fn begin_commit<D: Disk>(
         &mut self,
         alloc: Global,
@@ -149,11 +159,14 @@ impl Snap {
         requires files { ArePackageFiles (length (D.view disk.old).names) new.items }
         requires ready { self.old.failed ≡ false }
         requires none { self.old.kept ≡ None }
+        ensures same { SameDisk (D.view disk.old) (D.view disk.new) }
         ensures open { IsOpenOn self.new (D.view disk.new) }
         ensures images { ImagesSince self.old (D.view disk.old) (D.view disk.new)
             (OpensAsEither (D.view disk.old).names (state_of self.old) (begun (state_of self.old) new.items (None))) }
         ensures ok { OnOk result (IsGood self.new
             × (state_of self.new ≡ begun (state_of self.old) new.items (None))) }
+        ensures body { OnOk result (HoldsBody (D.view disk.old) (D.view disk.new)
+            (body_text (D.view disk.old).names 2 (begun_body (state_of self.old) new.items None))) }
         ensures err { OnErr result (state_of self.new ≡ state_of self.old) }
         ensures refused { IfErr result (λ error.
             BeginRefuses self.old (D.view disk.old) (D.view disk.new) error) }
@@ -185,8 +198,10 @@ impl Snap {
     ///
     /// `Reopen` exactly after a `DiskFailed`; `NothingWaits` exactly where no apply waits; `DiskFailed` only where the disk
     /// failed.
+    #[tactic(auto, using(crate::proofs::LoadLemmas::same_self))]
     pub fn confirm<D: Disk>(&mut self, disk: &mut D) -> Result<(), SnapError>
         requires open { IsOpenOn self.old (D.view disk.old) }
+        ensures same { SameDisk (D.view disk.old) (D.view disk.new) }
         ensures open { IsOpenOn self.new (D.view disk.new) }
         ensures images { ImagesSince self.old (D.view disk.old) (D.view disk.new)
             (OpensAsEither (D.view disk.old).names (state_of self.old) (confirmed (state_of self.old))) }
@@ -223,8 +238,10 @@ impl Snap {
     ///
     /// `Reopen` exactly after a `DiskFailed`; `NothingWaits` exactly where no apply waits; `DiskFailed` only where the disk
     /// failed.
+    #[tactic(auto, using(crate::proofs::LoadLemmas::same_self))]
     pub fn rollback<D: Disk>(&mut self, disk: &mut D) -> Result<(), SnapError>
         requires open { IsOpenOn self.old (D.view disk.old) }
+        ensures same { SameDisk (D.view disk.old) (D.view disk.new) }
         ensures open { IsOpenOn self.new (D.view disk.new) }
         ensures images { ImagesSince self.old (D.view disk.old) (D.view disk.new)
             (OpensAsEither (D.view disk.old).names (state_of self.old) (rolled_back (state_of self.old))) }
@@ -260,13 +277,16 @@ impl Snap {
     /// # Errors
     ///
     /// `Reopen` exactly after a `DiskFailed`; `DiskFailed` only where the disk failed.
+    #[tactic(auto, using(crate::proofs::LoadLemmas::same_self))]
     pub fn tick<D: Disk>(&mut self, disk: &mut D, now: u64) -> Result<bool, SnapError>
         requires open { IsOpenOn self.old (D.view disk.old) }
+        ensures same { SameDisk (D.view disk.old) (D.view disk.new) }
         ensures open { IsOpenOn self.new (D.view disk.new) }
         ensures images { ImagesSince self.old (D.view disk.old) (D.view disk.new)
             (OpensAsEither (D.view disk.old).names (state_of self.old) (ticked (state_of self.old) now)) }
         ensures ok { IfOk result (λ done. (done ≡ is_due (state_of self.old).waits now) × IsGood self.old × IsGood self.new
             × (state_of self.new ≡ ticked (state_of self.old) now)) }
+        ensures rests { result ≡ Ok false → (self.new ≡ self.old) × (disk.new ≡ disk.old) }
         ensures err { OnErr result (state_of self.new ≡ state_of self.old) }
         ensures refused { IfErr result (λ error.
             TickRefuses self.old now (D.view disk.old) (D.view disk.new) error) }
@@ -320,6 +340,8 @@ impl Snap {
         requires files { ArePackageFiles (length (D.view disk.now).names) new.now }
         ensures pending { IfOk result (λ kept. kept.pending ≡ pending) }
         ensures few { IfOk result (λ kept. length kept.files < 2 ^ 32) }
+        ensures files { IfOk result (λ kept.
+            kept.files ≡ old_files new.now 2 self.now.packages.items) }
         ensures staged { IfOk result (λ kept. IsStaged (D.view disk.now).names
             (body_text (D.view disk.now).names 2 kept) new.now self.now kept) }
     {

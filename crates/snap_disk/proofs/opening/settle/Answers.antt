@@ -2,7 +2,7 @@ use Rattle.std.proofs.Common.{Some, None, false, refl, arith}
 use Rattle.snap_disk.specs.Opening.{read_as}
 use Rattle.snap_disk.specs.declared.snap.Snap.{Snap}
 use Rattle.snap_disk.proofs.ObjectLemmas.{put_within, put_long}
-use Rattle.snap_disk.proofs.LoadLemmas.{opens_same, opens_behind, rested_shows, restored_images, undone_images}
+use Rattle.snap_disk.proofs.LoadLemmas.{same_phase, opens_same, opens_behind, rested_shows, restored_images, undone_images}
 use Rattle.snap_disk.proofs.opening.settle.Goals as goal
 
 pub returns-then-gates-ne-OPEN-clause-open : goal.returns-then-gates-ne-OPEN-clause-open
@@ -65,3 +65,15 @@ pub returns-in-Err-undo-clause-images : goal.returns-in-Err-undo-clause-images
 returns-in-Err-undo-clause-images g c =
     let l = read_as c.args.gates c.args.body.now c.args.packages.items in
     undone_images c.args.now c.in-Ok.kept _ l _ _ _ _ c.in-Err-undo.ensures.phase c.as_slice-2.ensures c.requires.on (record { gate = c.if-gates-ne-OPEN.false; second_gate = c.if-gates-ne-OPEN-2.false; body = c.in-Ok.ensures.reads }) c.requires.within (omega (arith, c.if-now-kept.false))
+
+pub returns-in-Ok-restore-clause-same : goal.returns-in-Ok-restore-clause-same
+returns-in-Ok-restore-clause-same g c = same_phase _ _ _ _ _ c.in-Ok-restore.ensures.phase c.in-Ok-restore.ensures.cause.later
+
+pub returns-in-Err-restore-clause-same : goal.returns-in-Err-restore-clause-same
+returns-in-Err-restore-clause-same g c = same_phase _ _ _ _ _ c.in-Err-restore.ensures.phase c.in-Err-restore.ensures.cause.later
+
+pub returns-in-Ok-undo-clause-same : goal.returns-in-Ok-undo-clause-same
+returns-in-Ok-undo-clause-same g c = same_phase _ _ _ _ _ c.in-Ok-undo.ensures.phase c.in-Ok-undo.ensures.cause.later
+
+pub returns-in-Err-undo-clause-same : goal.returns-in-Err-undo-clause-same
+returns-in-Err-undo-clause-same g c = same_phase _ _ _ _ _ c.in-Err-undo.ensures.phase c.in-Err-undo.ensures.cause.later

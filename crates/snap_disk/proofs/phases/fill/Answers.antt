@@ -1,5 +1,6 @@
 use Rattle.std.proofs.Common.{◌∙◌, ap, Some, length, arith}
-use Rattle.snap_disk.proofs.Moments.{Run, told, started, steps_on}
+use Rattle.plane_disk.specs.Files.{TornAt, CutAt}
+use Rattle.snap_disk.proofs.Moments.{tells_step, tells_join, Run, told, started, steps_on}
 use Rattle.snap_disk.proofs.LayoutLemmas.{filled_same, filled_step}
 use Rattle.snap_disk.proofs.FillLemmas.{FromFilled, filled, within_files}
 use Rattle.snap_disk.proofs.phases.fill.Goals as goal
@@ -18,6 +19,7 @@ returns-clause-fills g c =
     record {
       names = write.time.names ∙ cut.time.names;
       silent = λ none. write.time.silent (cut.time.silent none);
+      tells = tells_join (g.D.Disk.view c.args.disk.now).seen (g.D.Disk.view c.cut.new.self).seen (g.D.Disk.view c.write_at.new.self).seen (tells_step (CutAt file 0) (g.D.Disk.view c.args.disk.now).seen (g.D.Disk.view c.cut.new.self).seen cut.torn) (tells_step (TornAt file 0 size) (g.D.Disk.view c.cut.new.self).seen (g.D.Disk.view c.write_at.new.self).seen write.torn);
       images = after_write.leaves;
       seen = λ f seen.
           let was = told _ _ _ c.in_ok-cut.ensures.cut seen in

@@ -2,7 +2,7 @@ use Rattle.std.proofs.Common.{arith, ◌<◌, ◌∙◌, ap, sym, take, take_all
 use Rattle.plane_disk.specs.Files.{Files, with_bytes}
 use Rattle.snap_disk.specs.Opened.{put}
 use Rattle.snap_disk.specs.Phase.{Layout, files_of, AnyPackages}
-use Rattle.snap_disk.proofs.Moments.{calls_on, syncs_on}
+use Rattle.snap_disk.proofs.Moments.{tells_join, tells_sync, calls_on, syncs_on}
 use Rattle.snap_disk.proofs.FillLemmas.{on_after_sync}
 use Rattle.snap_disk.proofs.PutLemmas.{beside_filled, put_next, stands_at, package_file_at, package_written}
 use Rattle.snap_disk.proofs.phases.write_packages.Goals as goal
@@ -24,6 +24,7 @@ returns-in_err-fill-clause-phase g c =
     record {
       names = fill.names ∙ c.loop-file.invariant.names;
       silent = λ none. fill.silent (c.loop-file.invariant.silent none);
+      tells = tells_join (g.D.Disk.view c.args.disk.now).seen (g.D.Disk.view c.loop-file.disk).seen (g.D.Disk.view c.fill.new.disk).seen c.loop-file.invariant.tells fill.tells;
       images = λ l on. (calls_on _ _ _ (AnyPackages files l) _ (c.loop-file.invariant.images l on) fill.images (g.met.D.Disk.sound c.fill.new.disk) (λ d e. beside_filled files file.file _ l d e is.low (omega (arith, is.small, size)) stands)).leaves;
       ends = λ l on. search rules;
     }
@@ -40,6 +41,7 @@ loop-file-preserved g c =
     record {
       names = fill.fills.names ∙ so_far.names;
       silent = λ none. fill.fills.silent (so_far.silent none);
+      tells = tells_join (g.D.Disk.view c.args.disk.now).seen (g.D.Disk.view c.loop-file.disk).seen (g.D.Disk.view c.fill.new.disk).seen so_far.tells fill.fills.tells;
       images = λ l on. calls_on _ _ _ (AnyPackages files l) _ (so_far.images l on) fill.fills.images (g.met.D.Disk.sound c.fill.new.disk) (λ d e. beside_filled files file.file _ l d e is.low (omega (arith, is.small, size)) stands);
       seen = λ l on.
           let so : Layout = record l { packages = put (take c.loop-file.file-index files) l.packages } in
@@ -55,6 +57,7 @@ returns-in_err-sync-clause-phase g c =
     record {
       names = sync.time.names ∙ c.loop-file.invariant.names;
       silent = λ none. sync.time.silent (c.loop-file.invariant.silent none);
+      tells = tells_join (g.D.Disk.view c.args.disk.now).seen (g.D.Disk.view c.loop-file.disk).seen (g.D.Disk.view c.sync.new.self).seen c.loop-file.invariant.tells (tells_sync (g.D.Disk.view c.loop-file.disk) (g.D.Disk.view c.sync.new.self) c.sync.result sync.seen sync.stays);
       images = λ l on. (syncs_on _ _ _ (AnyPackages c.args.files.now l) (c.loop-file.invariant.images l on) sync.time sync.crash).leaves;
       ends = λ l on. search rules;
     }
@@ -66,6 +69,7 @@ returns-clause-phase g c =
     record {
       names = sync.time.names ∙ c.loop-file.invariant.names;
       silent = λ none. sync.time.silent (c.loop-file.invariant.silent none);
+      tells = tells_join (g.D.Disk.view c.args.disk.now).seen (g.D.Disk.view c.loop-file.disk).seen (g.D.Disk.view c.sync.new.self).seen c.loop-file.invariant.tells (tells_sync (g.D.Disk.view c.loop-file.disk) (g.D.Disk.view c.sync.new.self) c.sync.result sync.seen sync.stays);
       images = λ l on. (syncs_on _ _ _ (AnyPackages files l) (c.loop-file.invariant.images l on) sync.time sync.crash).leaves;
       ends = λ l on.
           let whole = ap (λ (f : _). Some (files_of (record l { packages = put f l.packages }))) (take_all c.loop-file.file-index files (omega arith)) in
