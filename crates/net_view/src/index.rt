@@ -16,13 +16,13 @@ use std::collections::BTreeMap;
 /// The places of all that inputs have by name; of one name the first.
 #[derive(Drop)]
 pub struct Index {
-    pub(crate) names: BTreeMap<DevName, usize>,
-    pub(crate) devices: BTreeMap<DevName, usize>,
-    pub(crate) interfaces: BTreeMap<Text, usize>,
-    pub(crate) radios: BTreeMap<Text, usize>,
-    pub(crate) commands: BTreeMap<Text, usize>,
-    pub(crate) interface_asks: BTreeMap<Text, usize>,
-    pub(crate) radio_asks: BTreeMap<Text, usize>,
+    pub names: BTreeMap<DevName, usize>,
+    pub devices: BTreeMap<DevName, usize>,
+    pub interfaces: BTreeMap<Text, usize>,
+    pub radios: BTreeMap<Text, usize>,
+    pub commands: BTreeMap<Text, usize>,
+    pub interface_asks: BTreeMap<Text, usize>,
+    pub radio_asks: BTreeMap<Text, usize>,
 }
 
 impl Index {
@@ -41,7 +41,8 @@ impl Index {
         })
     }
 
-    pub(crate) fn row<'a>(&self, inputs: &'a Inputs, name: &DevName) -> Option<&'a NameRow>
+    /// The row of a device's name.
+    pub fn row<'a>(&self, inputs: &'a Inputs, name: &DevName) -> Option<&'a NameRow>
         requires { IsIndexOf inputs.now self.now }
         ensures { option_copied result ≡ named (λ row. row.name) inputs.now.conf.names name.now }
     {
@@ -51,11 +52,8 @@ impl Index {
         }
     }
 
-    pub(crate) fn device<'a>(
-        &self,
-        inputs: &'a Inputs,
-        name: &DevName,
-    ) -> Option<&'a (DevName, Device)>
+    /// The present device of a name.
+    pub fn device<'a>(&self, inputs: &'a Inputs, name: &DevName) -> Option<&'a (DevName, Device)>
         requires { IsIndexOf inputs.now self.now }
         ensures { option_copied result ≡ named (λ entry. entry.0) inputs.now.devices name.now }
     {
@@ -65,7 +63,8 @@ impl Index {
         }
     }
 
-    pub(crate) fn interface<'a>(&self, inputs: &'a Inputs, name: &Text) -> Option<&'a InterfaceRow>
+    /// The interface of a name.
+    pub fn interface<'a>(&self, inputs: &'a Inputs, name: &Text) -> Option<&'a InterfaceRow>
         requires { IsIndexOf inputs.now self.now }
         ensures { option_copied result ≡ named (λ row. row.name) inputs.now.conf.interfaces name.now }
     {
@@ -75,7 +74,8 @@ impl Index {
         }
     }
 
-    pub(crate) fn radio<'a>(&self, inputs: &'a Inputs, name: &Text) -> Option<&'a RadioRow>
+    /// The radio of a name.
+    pub fn radio<'a>(&self, inputs: &'a Inputs, name: &Text) -> Option<&'a RadioRow>
         requires { IsIndexOf inputs.now self.now }
         ensures { option_copied result ≡ named (λ row. row.name) inputs.now.conf.radios name.now }
     {
@@ -85,7 +85,8 @@ impl Index {
         }
     }
 
-    pub(crate) fn command<'a>(&self, inputs: &'a Inputs, name: &Text) -> Option<&'a Command>
+    /// The last command for an interface.
+    pub fn command<'a>(&self, inputs: &'a Inputs, name: &Text) -> Option<&'a Command>
         requires { IsIndexOf inputs.now self.now }
         ensures { option_copied result ≡ named (λ command. command.interface) inputs.now.commands name.now }
     {
@@ -95,11 +96,8 @@ impl Index {
         }
     }
 
-    pub(crate) fn interface_ask<'a>(
-        &self,
-        inputs: &'a Inputs,
-        name: &Text,
-    ) -> Option<&'a OpenInterface>
+    /// The open ask of an interface.
+    pub fn interface_ask<'a>(&self, inputs: &'a Inputs, name: &Text) -> Option<&'a OpenInterface>
         requires { IsIndexOf inputs.now self.now }
         ensures { option_copied result ≡ named (λ o. o.ask.name) inputs.now.interfaces name.now }
     {
@@ -109,7 +107,8 @@ impl Index {
         }
     }
 
-    pub(crate) fn radio_ask<'a>(&self, inputs: &'a Inputs, name: &Text) -> Option<&'a OpenRadio>
+    /// The open ask of a radio.
+    pub fn radio_ask<'a>(&self, inputs: &'a Inputs, name: &Text) -> Option<&'a OpenRadio>
         requires { IsIndexOf inputs.now self.now }
         ensures { option_copied result ≡ named (λ o. o.ask.name) inputs.now.radios name.now }
     {
@@ -143,7 +142,8 @@ fn device_places(
     Ok(places)
 }
 
-pub(crate) fn interface_places(
+/// The places of interfaces by name; of one name the first.
+pub fn interface_places(
     alloc: Global,
     interfaces: &[InterfaceRow],
 ) -> Result<BTreeMap<Text, usize>, Memory>

@@ -12,8 +12,8 @@ use std::collections::BTreeSet;
 /// Names, each once, in the order in which they came.
 #[derive(Drop)]
 pub struct Known {
-    pub(crate) list: Vec<DevName>,
-    pub(crate) names: BTreeSet<DevName>,
+    pub list: Vec<DevName>,
+    pub names: BTreeSet<DevName>,
 }
 
 impl Known {

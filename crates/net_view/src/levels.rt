@@ -30,17 +30,17 @@ pub enum Question {
 /// The answers to a question for the rows of names, found by so many levels.
 #[derive(Drop)]
 pub struct Told {
-    pub(crate) question: Question,
-    pub(crate) levels: u8,
-    pub(crate) by_row: Vec<bool>,
+    pub question: Question,
+    pub levels: u8,
+    pub by_row: Vec<bool>,
 }
 
 /// The index and the ports of radios, with the names that are available and those that have link.
 #[derive(Drop)]
 pub struct Levels {
-    pub(crate) ports: RadioPorts,
-    pub(crate) available: Told,
-    pub(crate) link: Told,
+    pub ports: RadioPorts,
+    pub available: Told,
+    pub link: Told,
 }
 
 impl Levels {

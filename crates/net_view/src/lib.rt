@@ -15,9 +15,10 @@ mod wants;
 
 pub use changes::changed;
 pub use given::MAIN_TABLE;
-pub use index::Index;
+pub use index::{Index, interface_places};
 pub use interfaces::{asks_nothing, is_static, needs_device};
+pub use known::Known;
 pub use levels::{LEVELS, Levels, Question, Told};
-pub use radio_ports::{PortAnswer, PortJoin, RadioPorts};
+pub use radio_ports::{PortAnswer, PortJoin, RadioPorts, has_name, is_bridge, is_first, is_plain};
 pub use view::View;
 pub use wants::wanted;

@@ -25,23 +25,23 @@ use std::collections::BTreeMap;
 /// A port of a radio, and the interface that its row names.
 #[derive(Drop)]
 pub struct PortAnswer {
-    pub(crate) interface: Text,
-    pub(crate) port: DevName,
+    pub interface: Text,
+    pub port: DevName,
 }
 
 /// A port of a radio, and the bridge that it joins.
 #[derive(Clone, Copy)]
 pub struct PortJoin {
-    pub(crate) bridge: DevName,
-    pub(crate) port: DevName,
+    pub bridge: DevName,
+    pub port: DevName,
 }
 
 /// The index of inputs with the ports of radios.
 #[derive(Drop)]
 pub struct RadioPorts {
-    pub(crate) index: Index,
-    pub(crate) answered: Vec<PortAnswer>,
-    pub(crate) joined: Vec<PortJoin>,
+    pub index: Index,
+    pub answered: Vec<PortAnswer>,
+    pub joined: Vec<PortJoin>,
 }
 
 impl RadioPorts {

@@ -30,11 +30,11 @@ pub const LOWER_LEVELS: u8 = 7;
 /// What inputs make available, link and use.
 #[derive(Drop)]
 pub struct View {
-    pub(crate) levels: Levels,
+    pub levels: Levels,
     /// The names that interfaces use.
-    pub(crate) claimed: BTreeSet<DevName>,
+    pub claimed: BTreeSet<DevName>,
     /// The names on which a used name stands.
-    pub(crate) under: BTreeSet<DevName>,
+    pub under: BTreeSet<DevName>,
 }
 
 impl View {
