@@ -8,6 +8,10 @@ pub mod PutLemmas
 pub mod FillLemmas
 pub mod JoinLemmas
 pub mod ReadBackLemmas
+pub mod GrammarLemmas
+pub mod GrammarWhole
+pub mod WrittenLemmas
+pub mod UnreadLemmas
 pub mod OpeningLemmas
 pub mod ObjectLemmas
 pub mod LoadLemmas

@@ -1,5 +1,5 @@
 -- What opening a disk finds and leaves.
-use Rattle.std.proofs.Common.{◌≡◌, inl, inr, ⊎_elim, ℕ, zero, suc, ◌+◌, ◌-◌, ◌≤◌, ◌<◌, List, [], ◌∷◌, ◌++◌, length, take, drop, get_or, Option, Some, None, Result, Ok, Err, OnOk, refl, sym, ◌∙◌, ap, subst, arith, length-drop}
+use Rattle.std.proofs.Common.{false, ◌≡◌, inl, inr, ⊎_elim, ℕ, zero, suc, ◌+◌, ◌-◌, ◌≤◌, ◌<◌, List, [], ◌∷◌, ◌++◌, length, take, drop, get_or, Option, Some, None, Result, Ok, Err, OnOk, refl, sym, ◌∙◌, ap, subst, arith, length-drop}
 use Rattle.std.proofs.lemmas.Bool.Decides.{nat_tests}
 use Rattle.std.proofs.lemmas.List.{take_more, get_or-drop, get_or_default}
 use Rattle.plane_words.specs.Causes.{Rose}
@@ -90,6 +90,9 @@ layout_read view sound some files seen gate second body packages gates b ps = by
 pub opens_same : (snap : Snap) (view : View) (l : Layout) → length view.names ≡ length snap.packages.items + 2 → IsWithin snap.packages.items → KeepsFiles (length view.names) snap.kept
     → ((files : Files) → view.seen ≡ Some files → IsOn view (files_of l)) → Shows view.names snap l → IsOpenOn snap view
 opens_same snap view l count within kept on shows = open_on snap view count within kept (λ ready f seen. (l, on f seen, shows))
+
+pub opens_held : (snap held : Snap) (view : View) → held ≡ snap → IsOpenOn snap view × (snap.failed ≡ false) → IsOpenOn held view × (held.failed ≡ false)
+opens_held snap held view same on = subst (λ (s : Snap). IsOpenOn s view × (s.failed ≡ false)) (sym same) on
 
 pub opens_behind : {R E : Type 0} (snap : Snap) (old new : View) (l : Layout) (r : R) (may : Layout → Files → Type 0) (done : Layout → Layout) → Phase {T = R} {E = E} old new (Ok r) may done
     → length old.names ≡ length snap.packages.items + 2 → IsWithin snap.packages.items → snap.kept ≡ None → ((files : Files) → old.seen ≡ Some files → IsOn old (files_of l)) → Shows old.names snap (done l) → IsOpenOn snap new

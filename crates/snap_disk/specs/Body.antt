@@ -1,11 +1,14 @@
--- The body, which is kept on the disk beside a begin: the old bytes of files. It is the byte 1 or 2; a deadline in 8
--- bytes; a holder in 16; the number of the files in 4; and of each file the length of its name in a byte, the name, the
--- length of its bytes in 4, and the bytes. Numbers stand highest byte first, and nothing stands behind the last file.
+-- The body, which is kept on the disk beside a begin: the old bytes of files. It is the byte 1 or
+-- 2; a deadline in 8 bytes; a holder in 16; the number of the files in 4; and of each file the
+-- length of its name in a byte, the name, the length of its bytes in 4, and the bytes. Numbers
+-- stand highest byte first, and nothing stands behind the last file.
 --
--- A body has a reading, or a first wrong place: that of the first field, from the front, that is wrong or not whole.
--- Wrong is another first byte, a name that no package file of the disk has or that stood before, a length above
--- 1,048,576, and a byte behind the last file.
-use Rattle.std.specs.Prelude.{ℕ, ◌≡◌, zero, suc, ◌+◌, ◌||◌, Bool, List, [], ◌∷◌, ◌++◌, length, take, drop, Option, Some, None, Result, Ok, Err, nat_eq, nat_lt, if◌then◌else◌}
+-- A body has a reading, or a first wrong place: that of the first field, from the front, that is
+-- wrong or not whole. Wrong is another first byte, a name that no package file of the disk has or
+-- that stood before, a length above 1,048,576, and a byte behind the last file.
+use Rattle.std.specs.Prelude.{ℕ, ◌≡◌, zero, suc, ◌+◌, ◌||◌, Bool, List, [], ◌∷◌, ◌++◌, length, take}
+use Rattle.std.specs.Prelude.{drop, Option, Some, None, Result, Ok, Err, nat_eq, nat_lt}
+use Rattle.std.specs.Prelude.{if◌then◌else◌}
 use Rattle.std.specs.List.{list_any}
 use Rattle.std.specs.Int.{w32, w64, w128, from_be_bytes}
 use Rattle.std.specs.Cmp.Lexicographic.{pointwise}
@@ -32,8 +35,8 @@ number_of names name = number_from 2 (drop 2 names) name
 abbrev pub has_number : List NewFile → ℕ → Bool
 has_number files number = list_any (λ file. nat_eq file.file number) files
 
--- The next file of a body, with how many bytes it takes there, or the first wrong place. First its bytes, where the place
--- is that of their length; `named` is the length of the name.
+-- The next file of a body, with how many bytes it takes there, or the first wrong place. First its
+-- bytes, where the place is that of their length; `named` is the length of the name.
 abbrev pub filled : ℕ → ℕ → ℕ → ℕ → List ℕ → Result (NewFile × ℕ) ℕ
 filled number named place size bytes =
     if nat_lt most_bytes size then Err place
@@ -57,7 +60,8 @@ next_file names files place (named ∷ bytes) =
     if nat_lt (length bytes) named then Err (place + 1)
     else known (number_of names (take named bytes)) files named (place + 1) (drop named bytes)
 
-abbrev pub behind_file : Result (NewFile × ℕ) ℕ → (NewFile × ℕ → Result (List NewFile) ℕ) → Result (List NewFile) ℕ
+abbrev pub behind_file : Result (NewFile × ℕ) ℕ → (NewFile × ℕ → Result (List NewFile) ℕ)
+    → Result (List NewFile) ℕ
 behind_file (Err place) rest = Err place
 behind_file (Ok next) rest = rest next
 
@@ -70,7 +74,8 @@ more_files names (suc more) files place bytes = behind_file (next_file names fil
 
 abbrev pub kept_of : ℕ → ℕ → Result (List NewFile) ℕ → Result Kept ℕ
 kept_of deadline holder (Err place) = Err place
-kept_of deadline holder (Ok files) = Ok (record { pending = record { deadline = deadline; holder = holder }; files = files })
+kept_of deadline holder (Ok files) =
+    Ok (record { pending = record { deadline = deadline; holder = holder }; files = files })
 
 -- what stands behind the first byte
 abbrev pub read_fields : List (List ℕ) → List ℕ → Result Kept ℕ
@@ -86,10 +91,11 @@ read_fields names bytes =
 -- what a body keeps on a disk of these names, or its first wrong place
 abbrev pub read_body : List (List ℕ) → List ℕ → Result Kept ℕ
 read_body names [] = Err 0
-read_body names (version ∷ bytes) = if nat_eq version 1 || nat_eq version 2 then read_fields names bytes else Err 0
+read_body names (version ∷ bytes) =
+    if nat_eq version 1 || nat_eq version 2 then read_fields names bytes else Err 0
 
--- a reading answers what a definition gives: a value where it is right, or a bad snapshot at its first wrong place; for
--- want of memory it may answer nothing
+-- a reading answers what a definition gives: a value where it is right, or a bad snapshot at its
+-- first wrong place; for want of memory it may answer nothing
 abbrev pub RefusesAs : {X : Type 0} → SnapError → Result X ℕ → Type 0
 RefusesAs (BadSnapshot place) reading = reading ≡ Err place
 RefusesAs Memory reading = Unit {0}

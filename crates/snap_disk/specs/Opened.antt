@@ -1,5 +1,6 @@
 -- What a disk gives when it is opened, and what a state is to give.
-use Rattle.std.specs.Prelude.{ℕ, ◌≡◌, ◌-◌, ◌≤◌, ◌<◌, ◌⊎◌, List, [], ◌∷◌, length, drop, Option, Some, None, Result, Ok, Err, nat_eq, nat_lt, if◌then◌else◌}
+use Rattle.std.specs.Prelude.{ℕ, ◌≡◌, ◌-◌, ◌≤◌, ◌<◌, ◌⊎◌, List, [], ◌∷◌, length, drop, Option, Some}
+use Rattle.std.specs.Prelude.{None, Result, Ok, Err, nat_eq, nat_lt, if◌then◌else◌}
 use Rattle.plane_disk.specs.Files.{Files, bytes_of, with_bytes}
 use Rattle.snap_disk.specs.Body.{most_bytes, read_body}
 use Rattle.snap_disk.specs.declared.new_file.NewFile.{NewFile}
@@ -10,7 +11,8 @@ use Rattle.snap_disk.specs.declared.kept.Kept.{Kept}
 abbrev pub open_gate : ℕ
 open_gate = 79
 
--- Packages are listed from file 2 of the disk on. One file has these bytes, the others what they had.
+-- Packages are listed from file 2 of the disk on. One file has these bytes, the others what they
+-- had.
 abbrev pub with_package : Files → ℕ → List ℕ → Files
 with_package packages file bytes = with_bytes packages (file - 2) bytes
 
@@ -35,21 +37,26 @@ restored (Ok kept) packages = Ok (at_rest (put kept.files packages))
 abbrev pub waiting_until : Result Kept ℕ → Files → ℕ → Result Found ℕ
 waiting_until (Err place) packages now = Err place
 waiting_until (Ok kept) packages now =
-    if nat_lt now kept.pending.deadline then Ok (record { packages = packages; waiting = Some kept.pending })
+    if nat_lt now kept.pending.deadline
+    then Ok (record { packages = packages; waiting = Some kept.pending })
     else Ok (at_rest (put kept.files packages))
 
 abbrev pub by_gates : List ℕ → Result Kept ℕ → Files → ℕ → Result Found ℕ
 by_gates (gate ∷ second_gate ∷ []) body packages now =
-    if nat_eq gate open_gate then (if nat_eq second_gate open_gate then waiting_until body packages now else restored body packages)
+    if nat_eq gate open_gate
+    then (if nat_eq second_gate open_gate then waiting_until body packages now
+    else restored body packages)
     else Ok (at_rest packages)
 by_gates gates body packages now = Err (length gates)
 
--- What a disk of these names with these files gives when it is opened at a moment, or no reading, with a place: the size
--- of file 0 where that is not two bytes, or the first wrong place of the body where that is to be read. With the first
--- gate closed it is the files as they read; with the first open and the second closed the old files; with both open the
--- files as they read, waiting, before the deadline, and the old files from it on.
+-- What a disk of these names with these files gives when it is opened at a moment, or no reading,
+-- with a place: the size of file 0 where that is not two bytes, or the first wrong place of the
+-- body where that is to be read. With the first gate closed it is the files as they read; with the
+-- first open and the second closed the old files; with both open the files as they read, waiting,
+-- before the deadline, and the old files from it on.
 abbrev pub opened : List (List ℕ) → Files → ℕ → Result Found ℕ
-opened names image now = by_gates (bytes_of image 0) (read_body names (bytes_of image 1)) (drop 2 image) now
+opened names image now =
+    by_gates (bytes_of image 0) (read_body names (bytes_of image 1)) (drop 2 image) now
 
 -- the packages pass no limit: at most 64, each of at most so many bytes
 pub record IsWithin (packages : Files) : Type 0 where
@@ -82,11 +89,12 @@ pub record State : Type 0 where
 abbrev pub durable_with : Option Waits → Files → ℕ → Found
 durable_with None packages now = at_rest packages
 durable_with (Some waits) packages now =
-    if nat_lt now waits.pending.deadline then record { packages = packages; waiting = Some waits.pending }
+    if nat_lt now waits.pending.deadline
+    then record { packages = packages; waiting = Some waits.pending }
     else at_rest waits.before
 
--- what a state is to give at a moment: its files where nothing waits, the files, waiting, before the deadline, and those
--- before from the deadline on
+-- what a state is to give at a moment: its files where nothing waits, the files, waiting, before
+-- the deadline, and those before from the deadline on
 abbrev pub durable : State → ℕ → Found
 durable state now = durable_with state.waits state.packages now
 
@@ -105,4 +113,5 @@ settled packages = record { packages = packages; waits = None }
 
 -- one in which an apply waits, behind which stand these packages
 abbrev pub pending_over : Files → Pending → Files → State
-pending_over packages pending before = record { packages = packages; waits = Some (record { pending = pending; before = before }) }
+pending_over packages pending before =
+    record { packages = packages; waits = Some (record { pending = pending; before = before }) }

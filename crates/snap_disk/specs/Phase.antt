@@ -1,10 +1,12 @@
 -- A disk of two gate bytes, a body and packages, and phases of calls over it.
-use Rattle.std.specs.Prelude.{ℕ, ◌≡◌, ◌≢◌, ◌≤◌, ◌<◌, ◌+◌, ◌⊎◌, max, List, [], ◌∷◌, length, Some, None, Result, Ok, OnOk}
+use Rattle.std.specs.Prelude.{ℕ, ◌≡◌, ◌≢◌, ◌≤◌, ◌<◌, ◌+◌, ◌⊎◌, max, List, [], ◌∷◌, length, Some}
+use Rattle.std.specs.Prelude.{None, Result, Ok, OnOk}
 use Rattle.plane_disk.specs.Files.{Files, bytes_of, with_bytes}
 use Rattle.plane_disk.specs.View.{View}
 use Rattle.snap_disk.specs.Images.{LeavesOnly, IsOn}
 use Rattle.snap_disk.specs.Body.{most_bytes, read_body}
-use Rattle.snap_disk.specs.Opened.{put, open_gate, IsWithin, State, settled, pending_over, OpensAs, OpensAsEither}
+use Rattle.snap_disk.specs.Opened.{put, open_gate, IsWithin, State, settled, pending_over, OpensAs}
+use Rattle.snap_disk.specs.Opened.{OpensAsEither}
 use Rattle.snap_disk.specs.declared.new_file.NewFile.{NewFile}
 use Rattle.snap_disk.specs.declared.kept.Kept.{Kept}
 
@@ -21,9 +23,10 @@ files_of l = (l.gate ∷ l.second_gate ∷ []) ∷ l.body ∷ l.packages
 abbrev pub IsLaid : View → Type 0
 IsLaid view = (files : Files) → view.seen ≡ Some files → (l : Layout) × IsOn view (files_of l)
 
--- A phase: from a layout that is on the disk, every image since the start is one of these, and after Ok that layout is on
--- the disk. A phase ends with a sync.
-pub record Phase {T E : Type 0} (old new : View) (result : Result T E) (may : Layout → Files → Type 0) (done : Layout → Layout) : Type 0 where
+-- A phase: from a layout that is on the disk, every image since the start is one of these, and
+-- after Ok that layout is on the disk. A phase ends with a sync.
+pub record Phase {T E : Type 0} (old new : View) (result : Result T E)
+    (may : Layout → Files → Type 0) (done : Layout → Layout) : Type 0 where
   pub names : new.names ≡ old.names
   pub silent : old.seen ≡ None → new.seen ≡ None
   pub tells : (files : Files) → old.seen ≡ Some files → (now : Files) × (new.seen ≡ Some now)
@@ -48,8 +51,10 @@ ArePackageFiles count (file ∷ files) = IsPackageFile count file × ArePackageF
 -- the same packages but for those of these files, none longer than it was or than a package may be
 pub record IsBeside (files : List NewFile) (old new : Files) : Type 0 where
   pub count : length new ≡ length old
-  pub others : (index : ℕ) → (Stands files (index + 2) → ⊥) → bytes_of new index ≡ bytes_of old index
-  pub small : (index : ℕ) → length (bytes_of new index) ≤ max (length (bytes_of old index)) most_bytes
+  pub others : (index : ℕ) → (Stands files (index + 2) → ⊥)
+      → bytes_of new index ≡ bytes_of old index
+  pub small : (index : ℕ)
+      → length (bytes_of new index) ≤ max (length (bytes_of old index)) most_bytes
 
 abbrev pub AnyGate : Layout → Files → Type 0
 AnyGate l image = (gate : ℕ) × (image ≡ files_of (record l { gate = gate }))
@@ -61,7 +66,9 @@ abbrev pub AnyBody : Layout → Files → Type 0
 AnyBody l image = (body : List ℕ) × (image ≡ files_of (record l { body = body }))
 
 abbrev pub AnyPackages : List NewFile → Layout → Files → Type 0
-AnyPackages files l image = (packages : Files) × (image ≡ files_of (record l { packages = packages })) × IsBeside files l.packages packages
+AnyPackages files l image =
+    (packages : Files) × (image ≡ files_of (record l { packages = packages }))
+    × IsBeside files l.packages packages
 
 -- an apply waits
 pub record IsWaiting (names : List (List ℕ)) (kept : Kept) (l : Layout) : Type 0 where
@@ -77,7 +84,8 @@ pub record IsRestoring (names : List (List ℕ)) (kept : Kept) (l : Layout) : Ty
 
 -- what is kept of files gives the packages again, whatever stands in the files that are written
 abbrev pub GivesBack : List NewFile → List NewFile → Files → Type 0
-GivesBack kept written packages = (now : Files) → IsBeside written packages now → put kept now ≡ packages
+GivesBack kept written packages =
+    (now : Files) → IsBeside written packages now → put kept now ≡ packages
 
 -- the state of an apply that waits over these packages
 abbrev pub over : Files → Kept → State
@@ -85,16 +93,20 @@ over packages kept = pending_over packages kept.pending (put kept.files packages
 
 -- the images of a restore of these files
 abbrev pub Restores : List (List ℕ) → List NewFile → Layout → Files → Type 0
-Restores names files l image = (kept : Kept) → IsRestoring names kept l → kept.files ≡ files → IsWithin l.packages
+Restores names files l image =
+    (kept : Kept) → IsRestoring names kept l → kept.files ≡ files → IsWithin l.packages
     → OpensAs names (settled (put files l.packages)) image
 
 -- the images of a rollback to these files
 abbrev pub Undoes : List (List ℕ) → List NewFile → Layout → Files → Type 0
-Undoes names files l image = (kept : Kept) → IsWaiting names kept l → kept.files ≡ files → IsWithin l.packages
+Undoes names files l image =
+    (kept : Kept) → IsWaiting names kept l → kept.files ≡ files → IsWithin l.packages
     → OpensAsEither names (over l.packages kept) (settled (put files l.packages)) image
 
--- what a begin stands on: nothing waits, the body reads, and gives the packages back over the new files
-pub record IsReady (names : List (List ℕ)) (body : List ℕ) (new : List NewFile) (kept : Kept) (l : Layout) : Type 0 where
+-- what a begin stands on: nothing waits, the body reads, and gives the packages back over the new
+-- files
+pub record IsReady (names : List (List ℕ)) (body : List ℕ) (new : List NewFile) (kept : Kept)
+    (l : Layout) : Type 0 where
   pub gate : l.gate ≢ open_gate
   pub reads : read_body names body ≡ Ok kept
   pub back : GivesBack kept.files new l.packages
@@ -109,32 +121,38 @@ pub record IsStill (names : List (List ℕ)) (body : List ℕ) (kept : Kept) (l 
 
 -- the images of these writes
 abbrev pub Prepares : List (List ℕ) → List ℕ → Layout → Files → Type 0
-Prepares names body l image = (kept : Kept) → IsStill names body kept l → OpensAs names (settled l.packages) image
+Prepares names body l image =
+    (kept : Kept) → IsStill names body kept l → OpensAs names (settled l.packages) image
 
 -- the images of a begin of these files up to its last write
 abbrev pub Stages : List (List ℕ) → List ℕ → List NewFile → Layout → Files → Type 0
-Stages names body new l image = (kept : Kept) → IsReady names body new kept l → OpensAs names (settled l.packages) image
+Stages names body new l image =
+    (kept : Kept) → IsReady names body new kept l → OpensAs names (settled l.packages) image
 
 -- the images of a whole one that leaves an apply waiting
 abbrev pub Applies : List (List ℕ) → List ℕ → List NewFile → Layout → Files → Type 0
 Applies names body new l image = (kept : Kept) → IsReady names body new kept l
-    → OpensAsEither names (settled l.packages) (pending_over (put new l.packages) kept.pending l.packages) image
+    → OpensAsEither names (settled l.packages)
+    (pending_over (put new l.packages) kept.pending l.packages) image
 
 -- and of one that commits
 abbrev pub Commits : List (List ℕ) → List ℕ → List NewFile → Layout → Files → Type 0
 Commits names body new l image = (kept : Kept) → IsReady names body new kept l
     → OpensAsEither names (settled l.packages) (settled (put new l.packages)) image
 
--- one file is filled with so many bytes: the others of an image are those of one from before, and it is no longer than
--- it was or than that
+-- one file is filled with so many bytes: the others of an image are those of one from before, and
+-- it is no longer than it was or than that
 pub record IsFilled (file size : ℕ) (old new : Files) : Type 0 where
   pub count : length new ≡ length old
   pub others : (other : ℕ) → other ≢ file → bytes_of new other ≡ bytes_of old other
   pub small : length (bytes_of new file) ≤ max (length (bytes_of old file)) size
 
-pub record Fills {T E : Type 0} (old new : View) (result : Result T E) (file : ℕ) (bytes : List ℕ) : Type 0 where
+pub record Fills {T E : Type 0} (old new : View) (result : Result T E) (file : ℕ)
+    (bytes : List ℕ) : Type 0 where
   pub names : new.names ≡ old.names
   pub silent : old.seen ≡ None → new.seen ≡ None
   pub tells : (files : Files) → old.seen ≡ Some files → (now : Files) × (new.seen ≡ Some now)
-  pub images : LeavesOnly old new (λ image. (from : Files) × old.is_image from × IsFilled file (length bytes) from image)
-  pub seen : OnOk result ((files : Files) → old.seen ≡ Some files → new.seen ≡ Some (with_bytes files file bytes))
+  pub images : LeavesOnly old new (λ image. (from : Files) × old.is_image from
+      × IsFilled file (length bytes) from image)
+  pub seen : OnOk result ((files : Files) → old.seen ≡ Some files
+      → new.seen ≡ Some (with_bytes files file bytes))

@@ -6,7 +6,8 @@ use Rattle.snap_disk.specs.Opened.{Waits}
 use Rattle.snap_disk.specs.Open.{state_of, is_due}
 use Rattle.snap_disk.specs.declared.snap.Snap.{Snap}
 use Rattle.snap_disk.specs.declared.snap_error.SnapError.{SnapError}
-use Rattle.snap_disk.specs.declared.snap_error.SnapError.TheVariants.{DiskFailed, Waiting, NothingWaits, Reopen, Memory}
+use Rattle.snap_disk.specs.declared.snap_error.SnapError.TheVariants.{DiskFailed, Waiting}
+use Rattle.snap_disk.specs.declared.snap_error.SnapError.TheVariants.{NothingWaits, Reopen, Memory}
 
 -- no call on the disk has failed
 abbrev pub IsGood : Snap → Type 0
@@ -23,20 +24,24 @@ WaitsUntil deadline None = ⊥
 WaitsUntil deadline (Some waits) = deadline ≡ waits.pending.deadline
 
 abbrev pub BeginRefuses : Snap → View → View → SnapError → Type 0
-BeginRefuses snap old new DiskFailed = IsGood snap × NothingIsPending snap × Rose old.faults new.faults
-BeginRefuses snap old new (Waiting deadline) = IsGood snap × WaitsUntil deadline (state_of snap).waits
+BeginRefuses snap old new DiskFailed =
+    IsGood snap × NothingIsPending snap × Rose old.faults new.faults
+BeginRefuses snap old new (Waiting deadline) =
+    IsGood snap × WaitsUntil deadline (state_of snap).waits
 BeginRefuses snap old new Reopen = snap.failed ≡ true
 BeginRefuses snap old new Memory = IsGood snap × NothingIsPending snap
 BeginRefuses snap old new error = ⊥
 
 -- those of a confirm and of a rollback
 abbrev pub EndRefuses : Snap → View → View → SnapError → Type 0
-EndRefuses snap old new DiskFailed = IsGood snap × SomethingIsPending snap × Rose old.faults new.faults
+EndRefuses snap old new DiskFailed =
+    IsGood snap × SomethingIsPending snap × Rose old.faults new.faults
 EndRefuses snap old new NothingWaits = IsGood snap × NothingIsPending snap
 EndRefuses snap old new Reopen = snap.failed ≡ true
 EndRefuses snap old new error = ⊥
 
 abbrev pub TickRefuses : Snap → ℕ → View → View → SnapError → Type 0
-TickRefuses snap now old new DiskFailed = IsGood snap × (is_due (state_of snap).waits now ≡ true) × Rose old.faults new.faults
+TickRefuses snap now old new DiskFailed =
+    IsGood snap × (is_due (state_of snap).waits now ≡ true) × Rose old.faults new.faults
 TickRefuses snap now old new Reopen = snap.failed ≡ true
 TickRefuses snap now old new error = ⊥

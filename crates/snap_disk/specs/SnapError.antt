@@ -1,7 +1,9 @@
 -- Numbers of errors.
 use Rattle.std.specs.Prelude.{ℕ}
 use Rattle.snap_disk.specs.declared.snap_error.SnapError.{SnapError}
-use Rattle.snap_disk.specs.declared.snap_error.SnapError.TheVariants.{DiskFailed, Waiting, NothingWaits, BadSnapshot, Reopen, Limit, Memory}
+use Rattle.snap_disk.specs.declared.snap_error.SnapError.TheVariants.{DiskFailed, Waiting}
+use Rattle.snap_disk.specs.declared.snap_error.SnapError.TheVariants.{NothingWaits, BadSnapshot}
+use Rattle.snap_disk.specs.declared.snap_error.SnapError.TheVariants.{Reopen, Limit, Memory}
 
 -- 30 to 34 for what a disk and its snapshot say, 96 for a limit, 8 for memory
 abbrev pub number_of : SnapError → ℕ

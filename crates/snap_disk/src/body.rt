@@ -23,7 +23,8 @@ const HEAD: usize = 29;
 /// `BadSnapshot` with the first wrong place, and `Memory`.
 pub(crate) fn read_body<D: Disk>(alloc: Global, disk: &D, bytes: &[u8]) -> Result<Kept, SnapError>
     ensures reads { ReadsAs result (read_body (D.view disk.now).names bytes.now) }
-    ensures packages { IfOk result (λ kept. ArePackageFiles (length (D.view disk.now).names) kept.files) }
+    ensures packages { IfOk result (λ kept.
+        ArePackageFiles (length (D.view disk.now).names) kept.files) }
 {
     let Some((version, rest)) = bytes.split_first() else {
         return Err(wrong(0));
@@ -64,7 +65,8 @@ fn read_files<D: Disk>(
 ) -> Result<Items<NewFile>, SnapError>
     requires { 29 + length bytes.now < 2 ^ 64 }
     ensures reads { ReadsAs result (more_files (D.view disk.now).names count [] 29 bytes.now) }
-    ensures packages { IfOk result (λ files. ArePackageFiles (length (D.view disk.now).names) files) }
+    ensures packages { IfOk result (λ files.
+        ArePackageFiles (length (D.view disk.now).names) files) }
 {
     let mut files = Items::new(alloc);
     let mut place = HEAD;

@@ -10,7 +10,8 @@ use plane_disk::Disk;
 use plane_io::Memory;
 use std::alloc::Global;
 
-/// The version of the bodies that are written: they hold the files that a begin writes, and no other.
+/// The version of the bodies that are written: they hold the files that a begin writes, and no
+/// other.
 const VERSION: u8 = 2;
 
 /// The text of a body.
@@ -37,7 +38,8 @@ fn append_file<D: Disk>(disk: &D, body: &mut Vec<u8>, file: &NewFile) -> Result<
     requires number { IsFile (D.view disk.now) file.now.file }
     requires short { length (name_at (D.view disk.now).names file.now.file) < 2 ^ 8 }
     requires small { length file.now.bytes < 2 ^ 32 }
-    ensures { OnOk result (body.new.items ≡ body.old.items ++ file_text (D.view disk.now).names file.now) }
+    ensures { OnOk result
+        (body.new.items ≡ body.old.items ++ file_text (D.view disk.now).names file.now) }
 {
     let name = disk.name(file.file);
     let bytes = file.bytes.as_bytes();

@@ -3,8 +3,10 @@ ghost use Rattle.std.specs.Prelude.{◌≡◌, ◌≤◌, ◌<◌};
 ghost use Rattle.plane_words.specs.Causes.{HasCause};
 ghost use Rattle.plane_disk.specs.View.{IsFile};
 ghost use Rattle.snap_disk.specs.Opened.{put, open_gate};
-ghost use Rattle.snap_disk.specs.Phase.{Phase, Fills, IsLaid, AnyGate, AnySecondGate, AnyBody, AnyPackages};
-ghost use Rattle.snap_disk.specs.Phase.{ArePackageFiles, Restores, Undoes, Prepares, Stages, Applies, Commits};
+ghost use Rattle.snap_disk.specs.Phase.{Phase, Fills, IsLaid, AnyGate, AnySecondGate, AnyBody};
+ghost use Rattle.snap_disk.specs.Phase.{AnyPackages};
+ghost use Rattle.snap_disk.specs.Phase.{ArePackageFiles, Restores, Undoes, Prepares, Stages};
+ghost use Rattle.snap_disk.specs.Phase.{Applies, Commits};
 ghost use Rattle.std.specs.Prelude.{length};
 
 use crate::NewFile;
@@ -27,7 +29,8 @@ pub(crate) const BODY: u32 = 1;
 pub(crate) fn set_gate<D: Disk>(disk: &mut D, byte: u8) -> Result<(), Failed>
     requires count { 2 ≤ length (D.view disk.old).names }
     requires laid { IsLaid (D.view disk.old) }
-    ensures phase { Phase (D.view disk.old) (D.view disk.new) result AnyGate (λ l. record l { gate = byte }) }
+    ensures phase { Phase (D.view disk.old) (D.view disk.new) result
+        AnyGate (λ l. record l { gate = byte }) }
     ensures cause { HasCause (D.view disk.old).faults (D.view disk.new).faults result }
 {
     disk.write_at(GATES, 0, &[byte])?;
@@ -39,7 +42,8 @@ pub(crate) fn set_gate<D: Disk>(disk: &mut D, byte: u8) -> Result<(), Failed>
 fn set_second_gate<D: Disk>(disk: &mut D, byte: u8) -> Result<(), Failed>
     requires count { 2 ≤ length (D.view disk.old).names }
     requires laid { IsLaid (D.view disk.old) }
-    ensures phase { Phase (D.view disk.old) (D.view disk.new) result AnySecondGate (λ l. record l { second_gate = byte }) }
+    ensures phase { Phase (D.view disk.old) (D.view disk.new) result
+        AnySecondGate (λ l. record l { second_gate = byte }) }
     ensures cause { HasCause (D.view disk.old).faults (D.view disk.new).faults result }
 {
     disk.write_at(GATES, 1, &[byte])?;
@@ -60,7 +64,8 @@ fn fill<D: Disk>(disk: &mut D, file: u32, bytes: &[u8]) -> Result<(), Failed>
 
 fn write_body<D: Disk>(disk: &mut D, body: &[u8]) -> Result<(), Failed>
     requires { 2 ≤ length (D.view disk.old).names }
-    ensures phase { Phase (D.view disk.old) (D.view disk.new) result AnyBody (λ l. record l { body = body.now }) }
+    ensures phase { Phase (D.view disk.old) (D.view disk.new) result
+        AnyBody (λ l. record l { body = body.now }) }
     ensures cause { HasCause (D.view disk.old).faults (D.view disk.new).faults result }
 {
     fill(disk, BODY, body)?;
@@ -70,7 +75,8 @@ fn write_body<D: Disk>(disk: &mut D, body: &[u8]) -> Result<(), Failed>
 
 fn write_packages<D: Disk>(disk: &mut D, files: &[NewFile]) -> Result<(), Failed>
     requires { ArePackageFiles (length (D.view disk.old).names) files.now }
-    ensures phase { Phase (D.view disk.old) (D.view disk.new) result (AnyPackages files.now) (λ l. record l { packages = put files.now l.packages }) }
+    ensures phase { Phase (D.view disk.old) (D.view disk.new) result
+        (AnyPackages files.now) (λ l. record l { packages = put files.now l.packages }) }
     ensures cause { HasCause (D.view disk.old).faults (D.view disk.new).faults result }
 {
     for file in files {
@@ -85,7 +91,8 @@ pub(crate) fn restore<D: Disk>(disk: &mut D, files: &[NewFile]) -> Result<(), Fa
     requires count { 2 ≤ length (D.view disk.old).names }
     requires laid { IsLaid (D.view disk.old) }
     requires files { ArePackageFiles (length (D.view disk.old).names) files.now }
-    ensures phase { Phase (D.view disk.old) (D.view disk.new) result (Restores (D.view disk.old).names files.now)
+    ensures phase { Phase (D.view disk.old) (D.view disk.new) result
+        (Restores (D.view disk.old).names files.now)
         (λ l. record l { gate = 0; packages = put files.now l.packages }) }
     ensures cause { HasCause (D.view disk.old).faults (D.view disk.new).faults result }
 {
@@ -99,7 +106,8 @@ pub(crate) fn undo<D: Disk>(disk: &mut D, files: &[NewFile]) -> Result<(), Faile
     requires count { 2 ≤ length (D.view disk.old).names }
     requires laid { IsLaid (D.view disk.old) }
     requires files { ArePackageFiles (length (D.view disk.old).names) files.now }
-    ensures phase { Phase (D.view disk.old) (D.view disk.new) result (Undoes (D.view disk.old).names files.now)
+    ensures phase { Phase (D.view disk.old) (D.view disk.new) result
+        (Undoes (D.view disk.old).names files.now)
         (λ l. record l { gate = 0; second_gate = 0; packages = put files.now l.packages }) }
     ensures cause { HasCause (D.view disk.old).faults (D.view disk.new).faults result }
 {
@@ -113,7 +121,8 @@ pub(crate) fn undo<D: Disk>(disk: &mut D, files: &[NewFile]) -> Result<(), Faile
 fn stage<D: Disk>(disk: &mut D, body: &[u8]) -> Result<(), Failed>
     requires count { 2 ≤ length (D.view disk.old).names }
     requires laid { IsLaid (D.view disk.old) }
-    ensures phase { Phase (D.view disk.old) (D.view disk.new) result (Prepares (D.view disk.old).names body.now)
+    ensures phase { Phase (D.view disk.old) (D.view disk.new) result
+        (Prepares (D.view disk.old).names body.now)
         (λ l. record { gate = 79; second_gate = 0; body = body.now; packages = l.packages }) }
     ensures cause { HasCause (D.view disk.old).faults (D.view disk.new).faults result }
 {
@@ -128,8 +137,14 @@ fn stage_packages<D: Disk>(disk: &mut D, body: &[u8], new: &[NewFile]) -> Result
     requires count { 2 ≤ length (D.view disk.old).names }
     requires laid { IsLaid (D.view disk.old) }
     requires files { ArePackageFiles (length (D.view disk.old).names) new.now }
-    ensures phase { Phase (D.view disk.old) (D.view disk.new) result (Stages (D.view disk.old).names body.now new.now)
-        (λ l. record { gate = 79; second_gate = 0; body = body.now; packages = put new.now l.packages }) }
+    ensures phase { Phase (D.view disk.old) (D.view disk.new) result
+        (Stages (D.view disk.old).names body.now new.now)
+        (λ l. record {
+          gate = 79;
+          second_gate = 0;
+          body = body.now;
+          packages = put new.now l.packages;
+        }) }
     ensures cause { HasCause (D.view disk.old).faults (D.view disk.new).faults result }
 {
     stage(disk, body)?;
@@ -142,8 +157,14 @@ pub(crate) fn apply_new<D: Disk>(disk: &mut D, body: &[u8], new: &[NewFile]) -> 
     requires count { 2 ≤ length (D.view disk.old).names }
     requires laid { IsLaid (D.view disk.old) }
     requires files { ArePackageFiles (length (D.view disk.old).names) new.now }
-    ensures phase { Phase (D.view disk.old) (D.view disk.new) result (Applies (D.view disk.old).names body.now new.now)
-        (λ l. record { gate = 79; second_gate = 79; body = body.now; packages = put new.now l.packages }) }
+    ensures phase { Phase (D.view disk.old) (D.view disk.new) result
+        (Applies (D.view disk.old).names body.now new.now)
+        (λ l. record {
+          gate = 79;
+          second_gate = 79;
+          body = body.now;
+          packages = put new.now l.packages;
+        }) }
     ensures cause { HasCause (D.view disk.old).faults (D.view disk.new).faults result }
 {
     stage_packages(disk, body, new)?;
@@ -156,8 +177,14 @@ pub(crate) fn commit_new<D: Disk>(disk: &mut D, body: &[u8], new: &[NewFile]) ->
     requires count { 2 ≤ length (D.view disk.old).names }
     requires laid { IsLaid (D.view disk.old) }
     requires files { ArePackageFiles (length (D.view disk.old).names) new.now }
-    ensures phase { Phase (D.view disk.old) (D.view disk.new) result (Commits (D.view disk.old).names body.now new.now)
-        (λ l. record { gate = 0; second_gate = 0; body = body.now; packages = put new.now l.packages }) }
+    ensures phase { Phase (D.view disk.old) (D.view disk.new) result
+        (Commits (D.view disk.old).names body.now new.now)
+        (λ l. record {
+          gate = 0;
+          second_gate = 0;
+          body = body.now;
+          packages = put new.now l.packages;
+        }) }
     ensures cause { HasCause (D.view disk.old).faults (D.view disk.new).faults result }
 {
     stage_packages(disk, body, new)?;

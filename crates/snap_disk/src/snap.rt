@@ -1,4 +1,6 @@
-ghost use Rattle.std.specs.Prelude.{◌≡◌, ◌≢◌, ◌≤◌, ◌<◌, ◌+◌, ◌-◌, ◌↔◌, ◌^◌, Bool, true, false, length, Some, None, Ok, Err, OnOk, OnErr, IfOk, IfErr, IfSome, IsErrOf, is_some};
+ghost use Rattle.std.specs.Prelude.{◌≡◌, ◌≢◌, ◌≤◌, ◌<◌, ◌+◌, ◌-◌, ◌↔◌, ◌^◌, Bool, true, false};
+ghost use Rattle.std.specs.Prelude.{length, Some, None, Ok, Err, OnOk, OnErr, IfOk, IfErr, IfSome};
+ghost use Rattle.std.specs.Prelude.{IsErrOf, is_some};
 ghost use Rattle.plane_words.specs.Causes.{Rose};
 ghost use Rattle.plane_disk.specs.Files.{bytes_of};
 ghost use Rattle.snap_disk.specs.Body.{read_body};
@@ -6,9 +8,12 @@ ghost use Rattle.snap_disk.specs.Images.{SameDisk};
 ghost use Rattle.snap_disk.specs.Opened.{put, settled, pending_over, OpensAsEither};
 ghost use Rattle.snap_disk.specs.Phase.{ArePackageFiles, GivesBack};
 ghost use Rattle.snap_disk.specs.BodyText.{body_text};
-ghost use Rattle.snap_disk.specs.Open.{IsOpenOn, ImagesSince, state_of, begun, confirmed, rolled_back, ticked, is_due};
-ghost use Rattle.snap_disk.specs.Open.{pending_of, old_files, begun_body, HoldsBody, IsStaged, KeepsFiles};
-ghost use Rattle.snap_disk.specs.Refusals.{IsGood, NothingIsPending, SomethingIsPending, BeginRefuses, EndRefuses, TickRefuses};
+ghost use Rattle.snap_disk.specs.Open.{IsOpenOn, ImagesSince, state_of, begun, confirmed};
+ghost use Rattle.snap_disk.specs.Open.{rolled_back, ticked, is_due};
+ghost use Rattle.snap_disk.specs.Open.{pending_of, old_files, begun_body, HoldsBody, IsStaged};
+ghost use Rattle.snap_disk.specs.Open.{KeepsFiles};
+ghost use Rattle.snap_disk.specs.Refusals.{IsGood, NothingIsPending, SomethingIsPending};
+ghost use Rattle.snap_disk.specs.Refusals.{BeginRefuses, EndRefuses, TickRefuses};
 
 use crate::body_text::body_text;
 use crate::kept::Kept;
@@ -20,7 +25,8 @@ use plane_io::{Items, Memory, Text};
 use std::alloc::Global;
 use std::mem;
 
-/// The packages of a disk, and the apply that waits on it. It belongs to the disk on which it was opened.
+/// The packages of a disk, and the apply that waits on it. It belongs to the disk on which it was
+/// opened.
 #[derive(Debug, Drop)]
 pub struct Snap {
     pub(crate) packages: Vec<Text>,
@@ -58,13 +64,13 @@ impl Snap {
         }
     }
 
-    /// Writes new files: with a deadline they wait for a confirm, without one they stay. Memory is taken before the first
-    /// write. Of files of one number the last one counts.
+    /// Writes new files: with a deadline they wait for a confirm, without one they stay. Memory is
+    /// taken before the first write. Of files of one number the last one counts.
     ///
     /// # Errors
     ///
-    /// `Reopen` exactly after a `DiskFailed`; `Waiting` exactly where an apply waits; `DiskFailed` only where the disk failed;
-    /// `Memory`.
+    /// `Reopen` exactly after a `DiskFailed`; `Waiting` exactly where an apply waits; `DiskFailed`
+    /// only where the disk failed; `Memory`.
     #[tactic(auto, using(crate::proofs::LoadLemmas::same_self))]
     pub fn begin<D: Disk>(
         &mut self,
@@ -78,7 +84,8 @@ impl Snap {
         ensures same { SameDisk (D.view disk.old) (D.view disk.new) }
         ensures open { IsOpenOn self.new (D.view disk.new) }
         ensures images { ImagesSince self.old (D.view disk.old) (D.view disk.new)
-            (OpensAsEither (D.view disk.old).names (state_of self.old) (begun (state_of self.old) new.items wait)) }
+            (OpensAsEither (D.view disk.old).names (state_of self.old)
+            (begun (state_of self.old) new.items wait)) }
         ensures ok { OnOk result (IsGood self.old × NothingIsPending self.old × IsGood self.new
             × (state_of self.new ≡ begun (state_of self.old) new.items wait)) }
         ensures body { OnOk result (HoldsBody (D.view disk.old) (D.view disk.new)
@@ -120,11 +127,13 @@ impl Snap {
         ensures same { SameDisk (D.view disk.old) (D.view disk.new) }
         ensures open { IsOpenOn self.new (D.view disk.new) }
         ensures images { ImagesSince self.old (D.view disk.old) (D.view disk.new)
-            (OpensAsEither (D.view disk.old).names (state_of self.old) (begun (state_of self.old) new.items (Some pending))) }
+            (OpensAsEither (D.view disk.old).names (state_of self.old)
+            (begun (state_of self.old) new.items (Some pending))) }
         ensures ok { OnOk result (IsGood self.new
             × (state_of self.new ≡ begun (state_of self.old) new.items (Some pending))) }
         ensures body { OnOk result (HoldsBody (D.view disk.old) (D.view disk.new)
-            (body_text (D.view disk.old).names 2 (begun_body (state_of self.old) new.items (Some pending)))) }
+            (body_text (D.view disk.old).names 2
+            (begun_body (state_of self.old) new.items (Some pending)))) }
         ensures err { OnErr result (state_of self.new ≡ state_of self.old) }
         ensures refused { IfErr result (λ error.
             BeginRefuses self.old (D.view disk.old) (D.view disk.new) error) }
@@ -162,7 +171,8 @@ impl Snap {
         ensures same { SameDisk (D.view disk.old) (D.view disk.new) }
         ensures open { IsOpenOn self.new (D.view disk.new) }
         ensures images { ImagesSince self.old (D.view disk.old) (D.view disk.new)
-            (OpensAsEither (D.view disk.old).names (state_of self.old) (begun (state_of self.old) new.items (None))) }
+            (OpensAsEither (D.view disk.old).names (state_of self.old)
+            (begun (state_of self.old) new.items None)) }
         ensures ok { OnOk result (IsGood self.new
             × (state_of self.new ≡ begun (state_of self.old) new.items (None))) }
         ensures body { OnOk result (HoldsBody (D.view disk.old) (D.view disk.new)
@@ -196,15 +206,16 @@ impl Snap {
     ///
     /// # Errors
     ///
-    /// `Reopen` exactly after a `DiskFailed`; `NothingWaits` exactly where no apply waits; `DiskFailed` only where the disk
-    /// failed.
+    /// `Reopen` exactly after a `DiskFailed`; `NothingWaits` exactly where no apply waits;
+    /// `DiskFailed` only where the disk failed.
     #[tactic(auto, using(crate::proofs::LoadLemmas::same_self))]
     pub fn confirm<D: Disk>(&mut self, disk: &mut D) -> Result<(), SnapError>
         requires open { IsOpenOn self.old (D.view disk.old) }
         ensures same { SameDisk (D.view disk.old) (D.view disk.new) }
         ensures open { IsOpenOn self.new (D.view disk.new) }
         ensures images { ImagesSince self.old (D.view disk.old) (D.view disk.new)
-            (OpensAsEither (D.view disk.old).names (state_of self.old) (confirmed (state_of self.old))) }
+            (OpensAsEither (D.view disk.old).names (state_of self.old)
+            (confirmed (state_of self.old))) }
         ensures ok { OnOk result (IsGood self.old × SomethingIsPending self.old × IsGood self.new
             × (state_of self.new ≡ confirmed (state_of self.old))) }
         ensures err { OnErr result (state_of self.new ≡ state_of self.old) }
@@ -236,15 +247,16 @@ impl Snap {
     ///
     /// # Errors
     ///
-    /// `Reopen` exactly after a `DiskFailed`; `NothingWaits` exactly where no apply waits; `DiskFailed` only where the disk
-    /// failed.
+    /// `Reopen` exactly after a `DiskFailed`; `NothingWaits` exactly where no apply waits;
+    /// `DiskFailed` only where the disk failed.
     #[tactic(auto, using(crate::proofs::LoadLemmas::same_self))]
     pub fn rollback<D: Disk>(&mut self, disk: &mut D) -> Result<(), SnapError>
         requires open { IsOpenOn self.old (D.view disk.old) }
         ensures same { SameDisk (D.view disk.old) (D.view disk.new) }
         ensures open { IsOpenOn self.new (D.view disk.new) }
         ensures images { ImagesSince self.old (D.view disk.old) (D.view disk.new)
-            (OpensAsEither (D.view disk.old).names (state_of self.old) (rolled_back (state_of self.old))) }
+            (OpensAsEither (D.view disk.old).names (state_of self.old)
+            (rolled_back (state_of self.old))) }
         ensures ok { OnOk result (IsGood self.old × SomethingIsPending self.old × IsGood self.new
             × (state_of self.new ≡ rolled_back (state_of self.old))) }
         ensures err { OnErr result (state_of self.new ≡ state_of self.old) }
@@ -272,7 +284,8 @@ impl Snap {
         }
     }
 
-    /// Rolls back where the deadline of an apply that waits has come, and answers whether it did. It takes no memory.
+    /// Rolls back where the deadline of an apply that waits has come, and answers whether it did.
+    /// It takes no memory.
     ///
     /// # Errors
     ///
@@ -283,8 +296,10 @@ impl Snap {
         ensures same { SameDisk (D.view disk.old) (D.view disk.new) }
         ensures open { IsOpenOn self.new (D.view disk.new) }
         ensures images { ImagesSince self.old (D.view disk.old) (D.view disk.new)
-            (OpensAsEither (D.view disk.old).names (state_of self.old) (ticked (state_of self.old) now)) }
-        ensures ok { IfOk result (λ done. (done ≡ is_due (state_of self.old).waits now) × IsGood self.old × IsGood self.new
+            (OpensAsEither (D.view disk.old).names (state_of self.old)
+            (ticked (state_of self.old) now)) }
+        ensures ok { IfOk result (λ done. (done ≡ is_due (state_of self.old).waits now)
+            × IsGood self.old × IsGood self.new
             × (state_of self.new ≡ ticked (state_of self.old) now)) }
         ensures rests { result ≡ Ok false → (self.new ≡ self.old) × (disk.new ≡ disk.old) }
         ensures err { OnErr result (state_of self.new ≡ state_of self.old) }

@@ -18,7 +18,8 @@ pub enum SnapError {
     /// No apply waits.
     #[error("nothing waits")]
     NothingWaits,
-    /// The snapshot has no reading: the size of the gates where that is not two, or the first wrong place of the body.
+    /// The snapshot has no reading: the size of the gates where that is not two, or the first wrong
+    /// place of the body.
     #[error("bad snapshot at byte {byte}")]
     BadSnapshot { byte: u64 },
     /// The disk failed before, and is to be opened again.
@@ -33,8 +34,8 @@ pub enum SnapError {
 }
 
 impl SnapError {
-    /// The number of the kind of error: 30 for `DiskFailed`, 31 for `Waiting`, 32 for `NothingWaits`, 33 for `BadSnapshot`,
-    /// 34 for `Reopen`, 96 for `Limit`, 8 for `Memory`.
+    /// The number of the kind of error: 30 for `DiskFailed`, 31 for `Waiting`, 32 for
+    /// `NothingWaits`, 33 for `BadSnapshot`, 34 for `Reopen`, 96 for `Limit`, 8 for `Memory`.
     pub fn number(&self) -> u8
         ensures { result ≡ number_of self.now }
     {

@@ -2,12 +2,13 @@ use Rattle.std.proofs.Common.{Some, None, false, refl, arith}
 use Rattle.snap_disk.specs.Opening.{read_as}
 use Rattle.snap_disk.specs.declared.snap.Snap.{Snap}
 use Rattle.snap_disk.proofs.ObjectLemmas.{put_within, put_long}
-use Rattle.snap_disk.proofs.LoadLemmas.{same_phase, opens_same, opens_behind, rested_shows, restored_images, undone_images}
+use Rattle.snap_disk.proofs.LoadLemmas.{same_phase, opens_same, opens_held, opens_behind, rested_shows, restored_images, undone_images}
 use Rattle.snap_disk.proofs.opening.settle.Goals as goal
 
 pub returns-then-gates-ne-OPEN-clause-open : goal.returns-then-gates-ne-OPEN-clause-open
 returns-then-gates-ne-OPEN-clause-open g c =
     let snap : Snap = record { packages = c.args.packages; kept = None; failed = false } in
+    opens_held snap _ _ c.holding.ensures
     (opens_same snap _ (read_as c.args.gates c.args.body.now c.args.packages.items) c.requires.count c.requires.within tt c.requires.on (record { packages = refl; waits = c.if-gates-ne-OPEN.true }), refl)
 
 pub restore-requires-clause-laid : goal.restore-requires-clause-laid
@@ -39,7 +40,8 @@ returns-in-Err-restore-clause-images g c =
 
 pub returns-then-now-kept-clause-open : goal.returns-then-now-kept-clause-open
 returns-then-now-kept-clause-open g c =
-    let snap : Snap = record { packages = c.args.packages; kept = Some c.in-Ok.kept; failed = false } in (
+    let snap : Snap = record { packages = c.args.packages; kept = Some c.in-Ok.kept; failed = false } in
+    opens_held snap _ _ c.holding-then-now-kept.ensures (
       opens_same snap _ (read_as c.args.gates c.args.body.now c.args.packages.items) c.requires.count c.requires.within c.in-Ok.ensures.packages c.requires.on
           (record { packages = refl; waits = record { gate = c.if-gates-ne-OPEN.false; second_gate = c.if-gates-ne-OPEN-2.false; body = c.in-Ok.ensures.reads } }),
       refl,
