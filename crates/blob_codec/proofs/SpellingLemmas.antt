@@ -48,7 +48,7 @@ nul_place : (xs : List ℕ) → length xs ≤ position_or_len is_nul xs → posi
 nul_place [] h = refl
 nul_place (x ∷ xs) h = place_step (is_nul x) (length xs) (position_or_len is_nul xs) (position_or_len is_nul (xs ++ 0 ∷ [])) h (nul_place xs)
 
-ends : (xs : List ℕ) → HasNoNul xs → is_terminated (xs ++ 0 ∷ []) ≡ true
+pub ends : (xs : List ℕ) → HasNoNul xs → is_terminated (xs ++ 0 ∷ []) ≡ true
 unfolding is_terminated
 ends xs h =
     let p : position_or_len is_nul (xs ++ 0 ∷ []) ≡ length xs = nul_place xs (no_place (position_or_len is_nul xs) (length xs) (not_found (nat_lt (position_or_len is_nul xs) (length xs)) (position_or_len is_nul xs) h)) in
@@ -57,7 +57,7 @@ ends xs h =
     let at : position is_nul (xs ++ 0 ∷ []) ≡ Some (length xs) = ap (λ b. cond b (Some (position_or_len is_nul (xs ++ 0 ∷ []))) None) t ∙ ap Some p in
     ap (λ o. unwrap_or (option_map (λ place. nat_eq (place + 1) (length (xs ++ 0 ∷ []))) o) false) at ∙ same (length xs + 1) (length (xs ++ 0 ∷ [])) (sym l)
 
-without_nul : (xs : List ℕ) → without_last (xs ++ 0 ∷ []) ≡ xs
+pub without_nul : (xs : List ℕ) → without_last (xs ++ 0 ∷ []) ≡ xs
 unfolding without_last
 without_nul xs = front_is _ xs (0 ∷ []) (let e : length (xs ++ 0 ∷ []) ≡ length xs + 1 = length-append xs (0 ∷ []) in omega arith)
 

@@ -1,0 +1,12 @@
+pub mod FieldLemmas
+pub mod ReadLemmas
+pub mod PlaceLemmas
+pub mod FrameLemmas
+pub mod OneLemmas
+pub mod Examples
+pub mod WriteLemmas
+pub mod SizeLemmas
+pub mod StreamLemmas
+pub mod OnceLemmas
+pub mod DivisionLemmas
+pub mod BackLemmas
