@@ -1,0 +1,3 @@
+mod PatternLemmas
+mod SessionListLemmas
+mod StepLemmas

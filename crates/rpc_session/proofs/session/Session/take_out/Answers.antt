@@ -1,0 +1,10 @@
+use Rattle.std.proofs.Common.{rules, ap, ◌∙◌}
+use Rattle.std.specs.Prelude.{filter, not}
+use Rattle.std.proofs.lemmas.Fn.{filter_same}
+use Rattle.rpc_session.specs.Grant.{same_grant}
+use Rattle.rpc_session.proofs.session.Session.take_out.Goals as goal
+
+pub returns : goal.returns
+returns c =
+    let kept = filter_same _ _ _ (λ x b f' k. search rules) _ _ c.retain.ensures.filtered in
+    ap (λ grants. record c.args.self.now { grants = grants }) (c.from_vec.ensures ∙ kept ∙ ap (filter (λ held. not (same_grant held c.args.grant.now))) (c.into_vec-grants.ensures ∙ c.replace.ensures.value))

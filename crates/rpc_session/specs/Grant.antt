@@ -1,0 +1,17 @@
+-- Grants, which say who may do what (OpenWrt's rpcd, sessions).
+use Rattle.std.specs.Prelude.{ℕ, List, Bool, ◌&&◌, nat_eq}
+use Rattle.std.specs.Cmp.Lexicographic.{pointwise}
+use Rattle.plane_words.specs.Pattern.{fits}
+use Rattle.rpc_session.specs.declared.grant.Grant.{Grant}
+
+-- the texts have the same bytes
+abbrev pub same_text : List ℕ → List ℕ → Bool
+same_text = pointwise nat_eq
+
+-- the grants have the same texts
+abbrev pub same_grant : Grant → Grant → Bool
+same_grant one other = same_text one.scope other.scope && same_text one.object other.object && same_text one.function other.function
+
+-- the grant has the scope that is wanted, and its patterns fit the object and the function
+abbrev pub permits : Grant → Grant → Bool
+permits grant wanted = same_text grant.scope wanted.scope && fits grant.object wanted.object && fits grant.function wanted.function

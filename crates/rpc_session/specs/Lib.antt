@@ -1,0 +1,16 @@
+-- Sessions and their grants, as OpenWrt's rpcd has them.
+
+-- numbers of denials
+pub mod Denied
+-- numbers of errors
+pub mod SessionError
+-- how a pattern goes on behind its first star
+pub mod Pattern
+-- what a grant permits
+pub mod Grant
+-- one session
+pub mod Session
+-- all sessions, as data
+pub mod SessionList
+-- all sessions, and what each call makes of them
+pub mod Sessions

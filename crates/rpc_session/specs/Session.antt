@@ -1,0 +1,30 @@
+-- Sessions (OpenWrt's rpcd).
+use Rattle.std.specs.Prelude.{ℕ, [], ◌∷◌, ◌++◌, ◌-◌, Bool, not, ◌||◌, nat_eq, nat_lt, filter, if◌then◌else◌}
+use Rattle.std.specs.List.{list_any}
+use Rattle.rpc_session.specs.declared.grant.Grant.{Grant}
+use Rattle.rpc_session.specs.declared.session.Session.{Session}
+use Rattle.rpc_session.specs.Grant.{permits, same_grant}
+
+-- live at this second: without a timeout, or used less than so many seconds ago
+abbrev pub is_live : ℕ → Session → Bool
+is_live now session = nat_eq session.timeout 0 || nat_lt (now - session.last_use) session.timeout
+
+-- one of the grants permits what is wanted
+abbrev pub may : Grant → Session → Bool
+may wanted session = list_any (λ grant. permits grant wanted) session.grants
+
+-- the grant is one of the session's
+abbrev pub has_grant : Grant → Session → Bool
+has_grant grant session = list_any (λ held. same_grant held grant) session.grants
+
+-- the session with the grant, at the end where it is new
+abbrev pub with_grant : Grant → Session → Session
+with_grant grant session = if has_grant grant session then session else record session { grants = session.grants ++ grant ∷ [] }
+
+-- the session without the grant
+abbrev pub without_grant : Grant → Session → Session
+without_grant grant session = record session { grants = filter (λ held. not (same_grant held grant)) session.grants }
+
+-- the session, used at this second
+abbrev pub used_at : ℕ → Session → Session
+used_at now session = record session { last_use = now }

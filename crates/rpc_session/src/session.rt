@@ -1,0 +1,68 @@
+ghost use Rattle.std.specs.Prelude.{◌≡◌, OnOk, OnErr};
+ghost use Rattle.rpc_session.specs.Session as spec;
+
+use crate::Grant;
+use blob_codec::Attr;
+use plane_io::{Items, Memory};
+use std::alloc::Global;
+use std::mem;
+
+/// A session: who uses the message bus.
+#[derive(Debug, Drop)]
+pub struct Session {
+    pub id: u128,
+    /// How many seconds without a use end it; 0 is never.
+    pub timeout: u32,
+    /// The second of the last use.
+    pub last_use: u64,
+    /// What it may do, each grant once.
+    pub grants: Items<Grant>,
+    /// What its user keeps in it, by name.
+    pub values: sqlite_items::Items<Attr>,
+}
+
+impl Session {
+    /// Whether the session is live at this second.
+    pub fn is_live(&self, now: u64) -> bool
+        ensures { result ≡ spec.is_live now self.now }
+    {
+        self.timeout == 0 || now.saturating_sub(self.last_use) < u64::from(self.timeout)
+    }
+
+    /// Whether one of its grants permits what is wanted.
+    pub fn may(&self, wanted: &Grant) -> bool
+        ensures { result ≡ spec.may wanted.now self.now }
+    {
+        self.grants
+            .as_slice()
+            .iter()
+            .any(|grant| grant.permits(wanted))
+    }
+
+    /// Whether it has the grant.
+    pub(crate) fn has(&self, grant: &Grant) -> bool
+        ensures { result ≡ spec.has_grant grant.now self.now }
+    {
+        self.grants.as_slice().iter().any(|held| held.same(grant))
+    }
+
+    /// Adds the grant at the end, where the session does not have it.
+    pub(crate) fn add(&mut self, grant: &Grant) -> Result<(), Memory>
+        ensures ok { OnOk result (self.new ≡ spec.with_grant grant.now self.old) }
+        ensures err { OnErr result (self.new ≡ self.old) }
+    {
+        if !self.has(grant) {
+            self.grants.push(grant.copy()?)?;
+        }
+        Ok(())
+    }
+
+    /// Takes the grant out, without taking memory.
+    pub(crate) fn take_out(&mut self, alloc: Global, grant: &Grant)
+        ensures { self.new ≡ spec.without_grant grant.now self.old }
+    {
+        let mut grants = mem::replace(&mut self.grants, Items::new(alloc)).into_vec();
+        grants.retain(|held| !held.same(grant));
+        self.grants = Items::from_vec(grants);
+    }
+}
