@@ -13,11 +13,10 @@ use Rattle.uci_delta.specs.declared.delta.Change.TheVariants.{Set, Remove, Add, 
 use Rattle.uci_delta.specs.declared.delta.Delta.{Delta}
 use Rattle.uci_delta.specs.declared.delta_error.DeltaError.TheVariants.{NotFound, Invalid, Duplicate}
 use Rattle.uci_delta.specs.Applied.{applied}
-use Rattle.uci_delta.specs.Print.{option_text, spelled, shown}
+use Rattle.uci_delta.specs.Print.{kind_of, sign_of, option_text, spelled, shown}
 use Rattle.uci_delta.specs.Parts.{AreParts}
 use Rattle.uci_delta.specs.Line.{SpellsDelta}
 use Rattle.uci_delta.specs.Deltas.{Gives, AreDeltas}
-use Rattle.uci_delta.specs.Head.{kind_of, sign_of}
 use Rattle.uci_delta.proofs.LineLemmas.{head_whole}
 use Rattle.uci_delta.proofs.PartLemmas.{has_parts}
 

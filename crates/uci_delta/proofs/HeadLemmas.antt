@@ -10,8 +10,8 @@ use Rattle.uci_tree.proofs.PathLemmas.{not_there, lacks, one_first}
 use Rattle.uci_delta.specs.declared.head.Kind.{Kind}
 use Rattle.uci_delta.specs.declared.head.Kind.TheVariants as kind
 use Rattle.uci_delta.specs.Line.{IsNamedOption}
-use Rattle.uci_delta.specs.Print.{option_text}
-use Rattle.uci_delta.specs.Head.{sign_of, KindFits, IsHead, CutsPlace}
+use Rattle.uci_delta.specs.Print.{sign_of, option_text}
+use Rattle.uci_delta.specs.Head.{KindFits, IsHead, CutsPlace}
 
 sign_lacks : (k : Kind) → HasNone 46 (sign_of k)
 sign_lacks kind.Set = tt

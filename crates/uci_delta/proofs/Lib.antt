@@ -11,5 +11,6 @@ pub mod LineLemmas
 pub mod DeltasLemmas
 pub mod PrintedLemmas
 pub mod RefusalLemmas
+pub mod TakenLemmas
 pub mod Examples
 pub mod BatchLemmas

@@ -14,20 +14,11 @@ use Rattle.uci_delta.specs.declared.delta.Change.{Change}
 use Rattle.uci_delta.specs.declared.delta.Change.TheVariants.{Set, Remove, Add, Rename, Reorder, ListAdd, ListDel}
 use Rattle.uci_delta.specs.declared.delta.Delta.{Delta}
 use Rattle.uci_delta.specs.Shape.{Fits}
-use Rattle.uci_delta.specs.Print.{mark_of, value_of, option_text, place_text}
+use Rattle.uci_delta.specs.Print.{kind_of, sign_of, mark_of, value_of, option_text, place_text}
 use Rattle.uci_delta.specs.Line.{SpellsValue, IsNamedOption, SpellsDelta}
-use Rattle.uci_delta.specs.Head.{kind_of, sign_of, KindFits, IsHead}
+use Rattle.uci_delta.specs.Head.{KindFits, IsHead}
 use Rattle.uci_delta.proofs.HeadLemmas.{SameHead, one_head}
 use Rattle.uci_delta.proofs.WordLemmas.{one_value}
-
-mark_is : (change : Change) → mark_of change ≡ sign_of (kind_of change)
-mark_is (Set value) = refl
-mark_is Remove = refl
-mark_is (Add name) = refl
-mark_is (Rename name) = refl
-mark_is (Reorder place) = refl
-mark_is (ListAdd item) = refl
-mark_is (ListDel item) = refl
 
 kind_fits : (change : Change) (option : Option (List ℕ)) → Fits change option → KindFits (kind_of change) option
 kind_fits (Set value) option h = tt
@@ -61,8 +52,7 @@ head_text delta = (sign_of (kind_of delta.change) ++ delta.package) ++ 46 ∷ (d
 
 pub head_whole : (delta : Delta) (value : List ℕ) → mark_of delta.change ++ (place_text delta ++ value) ≡ head_text delta ++ value
 head_whole delta value =
-    ap (λ (z : List ℕ). z ++ (place_text delta ++ value)) (mark_is delta.change)
-    ∙ sym (append_assoc (sign_of (kind_of delta.change)) (place_text delta) value)
+    sym (append_assoc (sign_of (kind_of delta.change)) (place_text delta) value)
     ∙ ap (λ (z : List ℕ). z ++ value) (sym (append_assoc (sign_of (kind_of delta.change)) delta.package (46 ∷ (delta.section ++ option_text delta.option))))
 
 pub delta_head : (part : List ℕ) (delta : Delta) → SpellsDelta part delta → IsHead delta.package (head_text delta) (kind_of delta.change) delta.section delta.option

@@ -1,35 +1,13 @@
 -- What stands in front of the value of a line (OpenWrt's uci).
-use Rattle.std.specs.Prelude.{ℕ, ◌≡◌, List, [], ◌∷◌, ◌++◌, Option, Some, None, codes}
+use Rattle.std.specs.Prelude.{ℕ, ◌≡◌, List, ◌∷◌, ◌++◌, Option, Some, None}
 use Rattle.uci_text.specs.declared.byte_class.ByteClass.TheVariants.{Name, PackageName}
 use Rattle.uci_text.specs.Byte.{dot}
 use Rattle.uci_text.specs.Table.{IsNameOf}
 use Rattle.uci_tree.specs.Split.{HasNone, CutsAtFirst}
 use Rattle.uci_delta.specs.declared.head.Kind.{Kind}
 use Rattle.uci_delta.specs.declared.head.Kind.TheVariants as kind
-use Rattle.uci_delta.specs.declared.delta.Change.{Change}
-use Rattle.uci_delta.specs.declared.delta.Change.TheVariants as change
 use Rattle.uci_delta.specs.Line.{IsNamedOption}
-use Rattle.uci_delta.specs.Print.{option_text}
-
--- the kind of a change
-abbrev pub kind_of : Change → Kind
-kind_of (change.Set value) = kind.Set
-kind_of change.Remove = kind.Remove
-kind_of (change.Add name) = kind.Add
-kind_of (change.Rename name) = kind.Rename
-kind_of (change.Reorder place) = kind.Reorder
-kind_of (change.ListAdd item) = kind.ListAdd
-kind_of (change.ListDel item) = kind.ListDel
-
--- the sign of a kind
-abbrev pub sign_of : Kind → List ℕ
-sign_of kind.Set = []
-sign_of kind.Remove = codes "-"
-sign_of kind.Add = codes "+"
-sign_of kind.Rename = codes "@"
-sign_of kind.Reorder = codes "^"
-sign_of kind.ListAdd = codes "|"
-sign_of kind.ListDel = codes "~"
+use Rattle.uci_delta.specs.Print.{sign_of, option_text}
 
 -- which kinds sections and options have
 abbrev pub KindFits : Kind → Option (List ℕ) → Type 0

@@ -2,6 +2,8 @@
 use Rattle.std.specs.Prelude.{ℕ, List, [], ◌∷◌, ◌++◌, Option, Some, None, codes}
 use Rattle.uci_text.specs.Byte.{dot}
 use Rattle.uci_text.specs.Quote.{quoted}
+use Rattle.uci_delta.specs.declared.head.Kind.{Kind}
+use Rattle.uci_delta.specs.declared.head.Kind.TheVariants as kind
 use Rattle.uci_delta.specs.declared.delta.Change.{Change}
 use Rattle.uci_delta.specs.declared.delta.Change.TheVariants.{Set, Remove, Add, Rename, Reorder, ListAdd, ListDel}
 use Rattle.uci_delta.specs.declared.delta.Delta.{Delta}
@@ -10,15 +12,28 @@ use Rattle.uci_delta.specs.declared.delta.Delta.{Delta}
 abbrev pub equals_sign : ℕ
 equals_sign = 61
 
+-- the kind of a change
+abbrev pub kind_of : Change → Kind
+kind_of (Set value) = kind.Set
+kind_of Remove = kind.Remove
+kind_of (Add name) = kind.Add
+kind_of (Rename name) = kind.Rename
+kind_of (Reorder place) = kind.Reorder
+kind_of (ListAdd item) = kind.ListAdd
+kind_of (ListDel item) = kind.ListDel
+
 -- the sign in front of a line of a file
+abbrev pub sign_of : Kind → List ℕ
+sign_of kind.Set = []
+sign_of kind.Remove = codes "-"
+sign_of kind.Add = codes "+"
+sign_of kind.Rename = codes "@"
+sign_of kind.Reorder = codes "^"
+sign_of kind.ListAdd = codes "|"
+sign_of kind.ListDel = codes "~"
+
 abbrev pub mark_of : Change → List ℕ
-mark_of (Set value) = []
-mark_of Remove = codes "-"
-mark_of (Add kind) = codes "+"
-mark_of (Rename name) = codes "@"
-mark_of (Reorder place) = codes "^"
-mark_of (ListAdd item) = codes "|"
-mark_of (ListDel item) = codes "~"
+mark_of change = sign_of (kind_of change)
 
 -- what a change gives, which removing does not
 abbrev pub value_of : Change → Option (List ℕ)

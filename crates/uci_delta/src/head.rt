@@ -5,6 +5,7 @@ ghost use Rattle.uci_text.specs.Table.{IsNameOf};
 ghost use Rattle.uci_delta.specs.declared.head.Kind.{Kind};
 ghost use Rattle.uci_delta.specs.Head as spec;
 ghost use Rattle.uci_delta.specs.Line.{IsNamedOption};
+ghost use Rattle.uci_delta.specs.Print.{sign_of};
 
 use uci_text::{ByteClass, is_name};
 use uci_tree::cut_first;
@@ -25,8 +26,8 @@ impl Kind {
     /// The kind of the line that has this in front of its first `.`: a sign and the package's name.
     fn of(package: &[u8], front: &[u8]) -> Option<Kind>
         ensures { MatchOption result
-            ((kind : Kind) → front.now ≡ spec.sign_of kind ++ «package».now → ⊥)
-            (λ kind. front.now ≡ spec.sign_of kind ++ «package».now) }
+            ((kind : Kind) → front.now ≡ sign_of kind ++ «package».now → ⊥)
+            (λ kind. front.now ≡ sign_of kind ++ «package».now) }
     {
         if front == package {
             return Some(Kind::Set);

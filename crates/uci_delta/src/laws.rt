@@ -1,5 +1,7 @@
 ghost use Rattle.std.specs.Prelude.{◌≡◌, ℕ, List, Ok, Err};
 ghost use Rattle.std.specs.List.{AllByRecursion};
+ghost use Rattle.uci_text.specs.declared.byte_class.ByteClass.TheVariants.{PackageName};
+ghost use Rattle.uci_text.specs.Table.{IsNameOf};
 ghost use Rattle.uci_tree.specs.declared.package.Package.{Package};
 ghost use Rattle.uci_tree.specs.Valid.{IsValid};
 ghost use Rattle.uci_delta.specs.declared.delta.Delta.{Delta};
@@ -19,6 +21,19 @@ pub fn valid_stays_valid()
 pub fn printed_deltas_read_back()
     ensures { (name : List ℕ) (deltas : List Delta) → AllByRecursion (IsLine name) deltas →
         AreDeltas name (lines_of deltas) deltas }
+{}
+
+/// Deltas that are read of a text are such deltas, so that what was read is written and read back as it is.
+pub fn read_deltas_are_lines()
+    ensures { (name text : List ℕ) (deltas : List Delta) → AreDeltas name text deltas →
+        AllByRecursion (IsLine name) deltas }
+{}
+
+/// And so is one that a valid package takes, where its own package has a name.
+pub fn taken_deltas_are_lines()
+    ensures { (tree new : Package) (delta : Delta) → IsValid tree →
+        IsNameOf PackageName delta.package → applied tree delta ≡ Ok new →
+        IsLine delta.package delta }
 {}
 
 /// A text has at most one list of deltas of a package.

@@ -23,7 +23,8 @@ pub use batch::apply_all;
 pub use delta::{Change, Delta};
 pub use delta_error::DeltaError;
 pub use laws::{
-    no_refusal_is_memory, one_list_of_deltas, printed_deltas_read_back, valid_stays_valid,
+    no_refusal_is_memory, one_list_of_deltas, printed_deltas_read_back, read_deltas_are_lines,
+    taken_deltas_are_lines, valid_stays_valid,
 };
 pub use print::{print_change, print_delta};
 pub use reading::read_deltas;

@@ -4,8 +4,7 @@ ghost use Rattle.uci_text.specs.declared.byte_class.ByteClass.TheVariants.{NotZe
 ghost use Rattle.uci_text.specs.ByteClass.{AllIn};
 ghost use Rattle.uci_tree.specs.Split.{HasNone};
 ghost use Rattle.uci_delta.specs.Deltas.{Gives};
-ghost use Rattle.uci_delta.specs.Head.{kind_of};
-ghost use Rattle.uci_delta.specs.Print.{equals_sign, value_of};
+ghost use Rattle.uci_delta.specs.Print.{equals_sign, kind_of, value_of};
 
 use crate::head::{Kind, read_head};
 use crate::word::read_word;

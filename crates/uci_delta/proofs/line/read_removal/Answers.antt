@@ -1,4 +1,4 @@
-use Rattle.uci_delta.specs.Head.{kind_of}
+use Rattle.uci_delta.specs.Print.{kind_of}
 use Rattle.uci_delta.proofs.LineLemmas.{removal_head, removal_kind}
 use Rattle.uci_delta.proofs.line.read_removal.Goals as goal
 

@@ -1,7 +1,7 @@
 use Rattle.std.proofs.Common.{ℕ, List, Option, subst}
 use Rattle.std.specs.Prelude.{IfNone, IfSome}
 use Rattle.uci_text.specs.Word.{SpellsWord}
-use Rattle.uci_delta.specs.Head.{kind_of}
+use Rattle.uci_delta.specs.Print.{kind_of}
 use Rattle.uci_delta.proofs.LineLemmas.{valued_head, no_word, no_value, valued_spelled}
 use Rattle.uci_delta.proofs.line.read_valued.Goals as goal
 
