@@ -1,0 +1,16 @@
+pub mod MarkLemmas
+pub mod EdgeLemmas
+pub mod VisitLemmas
+pub mod HeldUp
+pub mod SettledUp
+pub mod UpLemmas
+pub mod OrderLemmas
+pub mod HeldDown
+pub mod SettledDown
+pub mod DownLemmas
+pub mod SettleLemmas
+pub mod NetworkLemmas
+pub mod EndsLemmas
+pub mod NewLemmas
+pub mod NodesLemmas
+pub mod RowLemmas

@@ -1,0 +1,14 @@
+use Rattle.std.proofs.Common.{length, vec_len}
+use Rattle.std.proofs.lemmas.List.Elements.{recursion_from_All}
+use Rattle.use_counts.specs.NodeRule.{rank_of}
+use Rattle.use_counts.specs.Held.{RunsUp, AllRunUp}
+use Rattle.use_counts.proofs.SettleLemmas.{settles}
+use Rattle.use_counts.proofs.settle.settle.Goals as goal
+
+pub returns : goal.returns
+returns g c =
+    let topology = c.args.topology.now in
+    let edges = topology.edges.items in
+    let rank = rank_of topology.ranks.items in
+    let stand : AllRunUp rank (vec_len topology.uppers) edges = recursion_from_All (λ e. RunsUp rank (vec_len topology.uppers) e.lower e.upper) edges topology.stand in
+    settles rank (vec_len topology.uppers) (length topology.order.items) edges c.args.nodes.now c.pass_up.new.nodes c.pass_down.new.nodes c.args.steps.now c.pass_up.new.steps c.pass_down.new.steps stand c.requires.ranks c.pass_up.ensures c.pass_down.ensures

@@ -1,0 +1,10 @@
+pub mod NodeRule
+pub mod Marked
+pub mod MarksInside
+pub mod NodesInside
+pub mod Edges
+pub mod Held
+pub mod Network
+pub mod Order
+pub mod Rows
+pub mod Inside

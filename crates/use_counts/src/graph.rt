@@ -1,0 +1,183 @@
+ghost use Rattle.std.specs.Prelude.{◌≡◌, ◌≤◌, ◌<◌, ◌+◌, ◌*◌, ℕ, IfOk, length, map, nat_lt, slice_set, true, false, vec_len};
+ghost use Rattle.use_counts.specs.Held.{IsCalm, HoldsCounts, member_of};
+ghost use Rattle.use_counts.specs.NodeRule.{node_at, rank_at, rank_of};
+ghost use Rattle.use_counts.specs.Order.{CanLoad};
+ghost use Rattle.use_counts.specs.Network.{IsLoadable, available, loaded, changed_edges, link, member_at, used, users};
+
+use crate::node::{Edge, Row};
+use crate::nodes::Nodes;
+use crate::order::Order;
+use crate::settle::{put_claims, put_device, settle};
+use crate::steps::Steps;
+use crate::topology::Topology;
+use plane_io::Memory;
+use std::alloc::Global;
+use std::marker::{Brand, Model};
+use std::sync::ledger::{Blank, Ledger};
+
+/// Devices over devices: which are available, have link and are used, kept under events.
+#[derive(Drop)]
+pub struct Graph {
+    topology: Topology,
+    nodes: Nodes,
+}
+
+impl Model for Graph {
+    ghost use Rattle.use_counts.specs.Network.{Network};
+
+    ghost Value = { Network };
+
+    ghost use Rattle.use_counts.specs.Inside.{network_of, IsSound};
+
+    ghost view = { network_of };
+
+    ghost invariant = { IsSound };
+}
+
+/// Computes all nodes, with a counter of its own.
+fn settle_all<L: Ledger>(topology: &Topology, nodes: &mut Nodes, blank: Blank)
+    requires name { blank.name ≡ L.name }
+    requires parts { blank.parts ≡ L.parts }
+    requires some { 0 < L.parts }
+    requires size { length nodes.old ≡ vec_len topology.now.uppers }
+    requires ranks { (k : ℕ) → rank_at nodes.old k ≡ rank_of topology.now.ranks.items k }
+    requires kept { HoldsCounts topology.now.edges.items nodes.old }
+    requires claims { (k : ℕ) → (node_at nodes.old k).claims ≤ 1024 }
+    requires marks { (k : ℕ) → (node_at nodes.old k).stale ≡ true → 0 < rank_of topology.now.ranks.items k }
+    requires use_marks { (k : ℕ) → (node_at nodes.old k).use_stale ≡ true → 0 < rank_of topology.now.ranks.items k }
+    ensures size { length nodes.new ≡ length nodes.old }
+    ensures ranks { (k : ℕ) → rank_at nodes.new k ≡ rank_at nodes.old k }
+    ensures rest { IsCalm topology.now.edges.items nodes.new }
+    ensures members { map member_of nodes.new ≡ map member_of nodes.old }
+{
+    let mut steps = Steps::<L>::new(blank);
+    if topology.made_count() > 0 {
+        settle(topology, topology.made_at(0), nodes, &mut steps);
+    }
+}
+
+impl Graph {
+    /// The graph of some rows and of the edges between them. No device is there, and nothing is claimed.
+    pub fn load(alloc: Global, rows: &[Row], edges: &[Edge]) -> Result<Graph, Memory>
+        requires { CanLoad rows.now edges.now }
+        ensures { IfOk result (λ g. g ≡ record { members = map loaded rows.now; edges = edges.now }) }
+    {
+        let order = Order::of(alloc, rows)?;
+        Graph::with_order(alloc, order, rows, edges)
+    }
+
+    fn with_order(
+        alloc: Global,
+        order: Order,
+        rows: &[Row],
+        edges: &[Edge],
+    ) -> Result<Graph, Memory>
+        requires { IsLoadable order.places.items order.ranks.items rows.now edges.now }
+        ensures { IfOk result (λ g. g ≡ record { members = map loaded rows.now; edges = edges.now }) }
+    {
+        let Order { places, ranks } = order;
+        let mut nodes = Nodes::new(alloc, rows, &ranks, places.len())?;
+        let topology = Topology::new(alloc, places, ranks, edges)?;
+        settle_all::<Brand>(&topology, &mut nodes, Blank::new(1));
+        Ok(Graph { topology, nodes })
+    }
+
+    /// How many nodes there are. Their numbers are those of their rows.
+    pub fn len(&self) -> usize
+        ensures { result ≡ length self.now.members }
+    {
+        self.nodes.len()
+    }
+
+    /// Whether a node is available.
+    pub fn available(&self, id: usize) -> bool
+        requires { id < length self.now.members }
+        ensures { result ≡ available self.now id }
+    {
+        self.nodes.node(id).available
+    }
+
+    /// Whether a node has link.
+    pub fn link(&self, id: usize) -> bool
+        requires { id < length self.now.members }
+        ensures { result ≡ link self.now id }
+    {
+        self.nodes.node(id).link
+    }
+
+    /// Whether a node is used.
+    pub fn used(&self, id: usize) -> bool
+        requires { id < length self.now.members }
+        ensures { result ≡ used self.now id }
+    {
+        self.nodes.node(id).used
+    }
+
+    /// The claims of an available node and the used nodes right above it, else 0.
+    pub fn users(&self, id: usize) -> u32
+        requires { id < length self.now.members }
+        ensures { result ≡ users self.now id }
+    {
+        self.nodes.node(id).users()
+    }
+
+    /// Whether the device of a node is there.
+    pub fn present(&self, id: usize) -> bool
+        requires { id < length self.now.members }
+        ensures { result ≡ (member_at self.now.members id).present }
+    {
+        self.nodes.node(id).present
+    }
+
+    fn set_device<L: Ledger>(
+        &mut self,
+        id: usize,
+        present: bool,
+        carrier: bool,
+        steps: &mut Steps<L>,
+    )
+        requires { id < length self.old.members }
+        ensures net { self.new ≡ record self.old { members = slice_set self.old.members id (record (member_at self.old.members id) { present = present; carrier = carrier }) } }
+        ensures cost { steps.new ≤ steps.old + 2 * changed_edges self.old self.new + 1 }
+    {
+        put_device(&self.topology, id, present, carrier, &mut self.nodes, steps);
+    }
+
+    /// A device is there, with or without a carrier.
+    pub fn set_present<L: Ledger>(&mut self, id: usize, carrier: bool, steps: &mut Steps<L>)
+        requires { id < length self.old.members }
+        ensures net { self.new ≡ record self.old { members = slice_set self.old.members id (record (member_at self.old.members id) { present = true; carrier = carrier }) } }
+        ensures cost { steps.new ≤ steps.old + 2 * changed_edges self.old self.new + 1 }
+    {
+        self.set_device(id, true, carrier, steps);
+    }
+
+    /// A device is gone.
+    pub fn set_absent<L: Ledger>(&mut self, id: usize, steps: &mut Steps<L>)
+        requires { id < length self.old.members }
+        ensures net { self.new ≡ record self.old { members = slice_set self.old.members id (record (member_at self.old.members id) { present = false; carrier = false }) } }
+        ensures cost { steps.new ≤ steps.old + 2 * changed_edges self.old self.new + 1 }
+    {
+        self.set_device(id, false, false, steps);
+    }
+
+    /// The carrier of a device is on or off.
+    pub fn set_carrier<L: Ledger>(&mut self, id: usize, on: bool, steps: &mut Steps<L>)
+        requires { id < length self.old.members }
+        ensures net { self.new ≡ record self.old { members = slice_set self.old.members id (record (member_at self.old.members id) { carrier = on }) } }
+        ensures cost { steps.new ≤ steps.old + 2 * changed_edges self.old self.new + 1 }
+    {
+        let present = self.present(id);
+        self.set_device(id, present, on, steps);
+    }
+
+    /// A node has this many claims.
+    pub fn set_claim<L: Ledger>(&mut self, id: usize, claims: u32, steps: &mut Steps<L>)
+        requires within { id < length self.old.members }
+        requires few { claims ≤ 1024 }
+        ensures net { self.new ≡ record self.old { members = slice_set self.old.members id (record (member_at self.old.members id) { claims = claims }) } }
+        ensures cost { steps.new ≤ steps.old + 2 * changed_edges self.old self.new + 1 }
+    {
+        put_claims(&self.topology, id, claims, &mut self.nodes, steps);
+    }
+}
