@@ -1,14 +1,12 @@
-ghost use Rattle.std.specs.Prelude.{◌≡◌, IfOk, IfSome, IfNone, OnOk, OnErr, List};
-ghost use Rattle.kern_model.specs.declared.object.Object.TheVariants as object;
-ghost use Rattle.kern_model.specs.declared.object.LinkKind.{LinkKind};
-ghost use Rattle.kern_model.specs.ObjectOrder.{Has, set_of};
+ghost use Rattle.std.specs.Prelude.{◌≡◌, IfOk, OnOk, OnErr};
+ghost use Rattle.kern_model.specs.ObjectOrder.{set_of};
 ghost use Rattle.kern_model.specs.Kernel.{MayHappen, after_event, objects_after_event};
 ghost use Rattle.kern_model.specs.Allowed.{AreAllowed};
 ghost use Rattle.net_settle.specs.Course.{devices_of, held_of, IsBare};
 
 use kern_calls::calls_between;
 use kern_memory::KernelState;
-use kern_model::{Call, DevEvent, DevName, LinkKind, Object};
+use kern_model::{Call, DevEvent, Object};
 use plane_io::Memory;
 use std::alloc::Global;
 use std::collections::VecDeque;
@@ -56,13 +54,11 @@ impl Settling {
         }
     }
 
-    /// The kind of a held link of that name.
-    pub fn link(&self, name: &DevName) -> Option<LinkKind>
-        ensures held { IfSome result (λ kind. Has (held_of self.now) (object.Link name.now kind)) }
-        ensures none { IfNone result ((kind : LinkKind)
-            → Has (held_of self.now) (object.Link name.now kind) → ⊥) }
+    /// The objects that are held, in no stated order.
+    pub fn held(&self) -> &[Object]
+        ensures { result.now ≡ self.now.held }
     {
-        self.known.link(name)
+        self.known.objects()
     }
 
     /// From now on these objects are wanted.
