@@ -67,6 +67,17 @@ impl KernelState {
         })
     }
 
+    /// A copy.
+    pub fn copy(&self, alloc: Global) -> Result<KernelState, Memory>
+        ensures { IfOk result (λ copy. (copy.objects ≡ self.now.objects)
+            × (copy.devices ≡ self.now.devices)) }
+    {
+        Ok(KernelState {
+            objects: Vec::from_slice(alloc, &self.objects)?,
+            devices: Vec::from_slice(alloc, &self.devices)?,
+        })
+    }
+
     /// The objects, in no stated order, each once.
     pub fn objects(&self) -> &[Object]
         ensures objects { result.now ≡ self.now.objects }

@@ -1,0 +1,4 @@
+pub mod SettleLemmas
+pub mod DueLemmas
+pub mod CourseLemmas
+pub mod EndLemmas

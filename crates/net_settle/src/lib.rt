@@ -1,0 +1,10 @@
+//! What a kernel holds, what is wanted of it, and the settling from the one to the other.
+#![tactic(auto)]
+
+mod due;
+mod settle;
+mod settle_error;
+mod settling;
+
+pub use settle_error::SettleError;
+pub use settling::Settling;
