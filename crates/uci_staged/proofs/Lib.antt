@@ -1,0 +1,4 @@
+pub mod ChangeLemmas
+pub mod KeptLemmas
+pub mod ReadLemmas
+pub mod FillLemmas
