@@ -1,5 +1,5 @@
 pub mod PlaceLemmas
 pub mod PortLemmas
 pub mod LevelLemmas
-pub mod ViewLemmas
-pub mod KnownLemmas
+pub mod NameLemmas
+pub mod JoinLemmas

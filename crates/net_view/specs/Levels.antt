@@ -1,11 +1,10 @@
 -- What is told of names, level by level.
-use Rattle.std.specs.Prelude.{ℕ, ◌≡◌, List, Bool, false, ◌&&◌, map, filter, Option, Some, None, is_none, bytes_eq}
+use Rattle.std.specs.Prelude.{ℕ, ◌≡◌, List, Bool, false, ◌&&◌, map, Option, Some, None, is_none}
 use Rattle.net_options.specs.Dotted.{vlan_parts}
 use Rattle.net_rules.specs.declared.inputs.Inputs.{Inputs}
 use Rattle.net_rules.specs.Facts.{Facts}
 use Rattle.net_rules.specs.Levels.{by_levels}
 use Rattle.net_rules.specs.Rows.{names_of}
-use Rattle.net_rules.specs.RadioPorts.{RadioPort}
 use Rattle.net_rules.specs.Available.{is_present, has_carrier, opens_at, links_at}
 use Rattle.net_rules.specs.Inputs.{facts_of}
 use Rattle.net_view.specs.RadioPorts.{ArePortsOf}
@@ -48,10 +47,6 @@ without_row facts Link name = has_carrier facts name && is_none (vlan_parts name
 abbrev pub below_option : (List ℕ → Bool) → Option (List ℕ) → Bool
 below_option test None = false
 below_option test (Some name) = test name
-
--- the ports that join a bridge
-abbrev pub ports_joining : List ℕ → List RadioPort → List (List ℕ)
-ports_joining bridge joins = map (λ j. j.port) (filter (λ j. bytes_eq j.bridge bridge) joins)
 
 -- the ports of radios, availability and link are those of the inputs
 pub record AreLevelsOf (inputs : Inputs) (levels : Levels) : Type 0 where

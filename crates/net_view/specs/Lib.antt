@@ -4,15 +4,9 @@
 pub mod Places
 -- the places of all that inputs have by name
 pub mod Index
+-- sets of names
+pub mod Names
 -- the ports of radios
 pub mod RadioPorts
 -- what is told of names, level by level
 pub mod Levels
--- what is used
-pub mod View
--- what is added for an interface that is up
-pub mod Given
--- what is added for a used bridge
-pub mod Objects
--- names, each once
-pub mod Known

@@ -1,15 +1,13 @@
-ghost use Rattle.std.specs.Prelude.{◌≡◌, map, bytes_eq};
-ghost use Rattle.std.specs.List.{find};
-ghost use Rattle.std.specs.Option.{option_map, option_and_then, option_copied};
+ghost use Rattle.std.specs.Prelude.{◌≡◌};
+ghost use Rattle.std.specs.Option.{option_and_then, option_copied};
 ghost use Rattle.net_rules.specs.Rows as rows;
 ghost use Rattle.net_rules.specs.RadioPorts as radio_ports;
 ghost use Rattle.net_rules.specs.Interfaces as spec;
 ghost use Rattle.net_rules.specs.Inputs.{facts_of};
-ghost use Rattle.net_view.specs.RadioPorts.{as_answered};
 ghost use Rattle.net_view.specs.Levels.{AreLevelsOf};
 
 use crate::levels::Levels;
-use crate::radio_ports::{PortAnswer, is_plain};
+use crate::radio_ports::is_plain;
 use kern_model::DevName;
 use net_rows::InterfaceRow;
 use net_rules::{Answer, Inputs};
@@ -39,18 +37,6 @@ pub fn needs_device(proto: &Text) -> bool
         | (proto.as_bytes() == b"pppoe".as_slice())
 }
 
-fn first_port(answered: &[PortAnswer], interface: &Text) -> Option<DevName>
-    ensures { result ≡ option_map (λ answer. answer.port) (find (λ answer. bytes_eq answer.interface
-        interface.now) (map as_answered answered.now)) }
-{
-    for answer in answered {
-        if answer.interface.as_bytes() == interface.as_bytes() {
-            return Some(answer.port);
-        }
-    }
-    None
-}
-
 impl Levels {
     /// Whether the interface has no fault and a name of its own, is not disabled, and was last brought up.
     pub fn is_enabled(&self, inputs: &Inputs, row: &InterfaceRow) -> bool
@@ -71,7 +57,7 @@ impl Levels {
     {
         match &row.device {
             Some(device) => Some(*device),
-            None => first_port(self.ports.answered.as_slice(), &row.name),
+            None => self.ports.first_port(&row.name),
         }
     }
 

@@ -5,11 +5,11 @@ ghost use Rattle.net_rules.specs.RadioPorts.{radio_ports_of};
 ghost use Rattle.net_rules.specs.Standing.{standing_of_row};
 ghost use Rattle.net_rules.specs.Available as spec;
 ghost use Rattle.net_rules.specs.Inputs.{facts_of};
-ghost use Rattle.net_view.specs.RadioPorts.{as_joined, ArePortsOf};
-ghost use Rattle.net_view.specs.Levels.{test_of, below_option, ports_joining, without_row};
+ghost use Rattle.net_view.specs.RadioPorts.{ArePortsOf};
+ghost use Rattle.net_view.specs.Levels.{test_of, below_option, without_row};
 ghost use Rattle.net_view.specs.Levels.{IsTold, IsToldBy, IsAvailability, IsLink, AreLevelsOf};
 
-use crate::radio_ports::{PortJoin, RadioPorts};
+use crate::radio_ports::RadioPorts;
 use kern_model::DevName;
 use net_options::vlan_parts;
 use net_rows::{NameKind, NameRow};
@@ -148,27 +148,6 @@ fn tells_any(ports: &RadioPorts, inputs: &Inputs, told: &Told, names: &[DevName]
     false
 }
 
-// Whether it is told of a port of a radio that joins the bridge.
-fn tells_any_of_joins(
-    ports: &RadioPorts,
-    inputs: &Inputs,
-    told: &Told,
-    bridge: &DevName,
-    joins: &[PortJoin],
-) -> bool
-    requires ports { ArePortsOf inputs.now ports.now }
-    requires told { IsTold (facts_of inputs.now) told.now }
-    ensures { result ≡ list_any (test_of (facts_of inputs.now) told.now)
-        (ports_joining bridge.now (map as_joined joins.now)) }
-{
-    for join in joins {
-        if join.bridge.text() == bridge.text() && tells(ports, inputs, told, &join.port) {
-            return true;
-        }
-    }
-    false
-}
-
 // Whether it is told of a port of the bridge, one of these own ones or one of a radio.
 fn tells_port(
     ports: &RadioPorts,
@@ -183,7 +162,7 @@ fn tells_port(
         (own.now ++ radio_ports_of (facts_of inputs.now) bridge.now) }
 {
     let is_own = tells_any(ports, inputs, told, own);
-    let is_joined = tells_any_of_joins(ports, inputs, told, bridge, ports.joined.as_slice());
+    let is_joined = tells_any(ports, inputs, told, ports.ports_of(bridge));
     is_own | is_joined
 }
 

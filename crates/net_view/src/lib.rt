@@ -1,24 +1,19 @@
-//! What a network wants of the kernel, computed as its definitions say.
+//! Which names are available and have link, and which interfaces are up, computed as their definitions say.
 #![tactic(auto)]
 
 mod changes;
-mod given;
 mod index;
 mod interfaces;
-mod known;
 mod levels;
-mod objects;
+mod names;
 mod places;
 mod radio_ports;
-mod view;
-mod wants;
 
 pub use changes::changed;
-pub use given::MAIN_TABLE;
 pub use index::{Index, interface_places};
-pub use interfaces::{asks_nothing, is_static, needs_device};
-pub use known::Known;
+pub use interfaces::{asks_nothing, is_name, is_static, needs_device};
 pub use levels::{LEVELS, Levels, Question, Told};
-pub use radio_ports::{PortAnswer, PortJoin, RadioPorts, has_name, is_bridge, is_first, is_plain};
-pub use view::View;
-pub use wants::wanted;
+pub use names::{add_all, add_if, add_name};
+pub use radio_ports::{
+    Joins, PortAnswer, PortJoin, RadioPorts, has_name, is_bridge, is_first, is_plain,
+};

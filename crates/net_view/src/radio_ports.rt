@@ -1,26 +1,31 @@
-ghost use Rattle.std.specs.Prelude.{◌≡◌, ◌++◌, [], ◌∷◌, map, if◌then◌else◌, IfOk, OnOk, bytes_eq, unwrap_or};
-ghost use Rattle.std.specs.BTreeMap.{get};
+ghost use Rattle.std.specs.Prelude.{◌≡◌, ◌++◌, [], ◌∷◌, ℕ, List, None, map, if◌then◌else◌, IfOk, OnOk, bytes_eq, unwrap_or};
+ghost use Rattle.std.specs.BTreeMap.{get, is_at};
 ghost use Rattle.std.specs.Ordering.{nat_cmp};
 ghost use Rattle.std.specs.Cmp.Lexicographic.{slice_cmp};
-ghost use Rattle.std.specs.List.{flat_map, filter_map, zip, list_any};
-ghost use Rattle.std.specs.Option.{option_map, option_and_then};
+ghost use Rattle.std.specs.List.{flat_map, filter_map, zip, list_any, find};
+ghost use Rattle.std.specs.Option.{option_map, option_and_then, option_copied};
 ghost use Rattle.std.specs.Prelude.{option_to_list};
 ghost use Rattle.net_rules.specs.Firsts.{firsts};
 ghost use Rattle.net_rules.specs.Rows as rows;
 ghost use Rattle.net_rules.specs.RadioPorts as spec;
+ghost use Rattle.net_rules.specs.RadioPorts.{RadioPort};
 ghost use Rattle.net_rules.specs.Inputs.{facts_of};
-ghost use Rattle.net_view.specs.Places.{HasPlaces, is_place};
+ghost use Rattle.net_view.specs.Places.{HasPlaces, is_place, named};
+ghost use Rattle.net_view.specs.Names.{HasNames, Adds};
 ghost use Rattle.net_view.specs.Index.{IsIndexOf};
-ghost use Rattle.net_view.specs.RadioPorts.{as_answered, as_joined, port_of_pair, enabled, join_to, ArePortsOf};
+ghost use Rattle.net_view.specs.RadioPorts.{as_answered, as_joined, port_of_pair, enabled, join_to};
+ghost use Rattle.net_view.specs.RadioPorts.{group_in, HasPorts, AreJoins, ArePortsOf};
 
 use crate::index::Index;
+use crate::names::add_all;
+use crate::places::note_text;
 use kern_model::DevName;
 use net_options::vlan_parts;
 use net_rows::{NameKind, NameRow, RadioRow, WifiRow};
 use net_rules::Inputs;
 use plane_io::{Items, Memory, Text};
 use std::alloc::Global;
-use std::collections::BTreeMap;
+use std::collections::{BTreeMap, BTreeSet};
 
 /// A port of a radio, and the interface that its row names.
 #[derive(Drop)]
@@ -41,7 +46,18 @@ pub struct PortJoin {
 pub struct RadioPorts {
     pub index: Index,
     pub answered: Vec<PortAnswer>,
+    /// The places in `answered` by interface; of one interface the first.
+    pub answers: BTreeMap<Text, usize>,
     pub joined: Vec<PortJoin>,
+    /// The ports that join each bridge, in the order of `joined`.
+    pub joining: BTreeMap<DevName, Vec<DevName>>,
+}
+
+/// The ports that join bridges, in the order in which they came, each once.
+#[derive(Drop)]
+pub struct Joins {
+    pub list: Vec<PortJoin>,
+    pub ports: BTreeSet<DevName>,
 }
 
 impl RadioPorts {
@@ -51,12 +67,50 @@ impl RadioPorts {
     {
         let index = Index::of(alloc, inputs)?;
         let answered = answered_ports(alloc, &index, inputs, inputs.conf.radios.as_slice())?;
-        let joined = joined_ports(alloc, &index, inputs, answered.as_slice())?;
+        let answers = answer_places(alloc, answered.as_slice())?;
+        let owned = named_ports(alloc, inputs.conf.names.as_slice())?;
+        let joined = joined_ports(alloc, &index, inputs, &owned, answered.as_slice())?;
+        let joining = ports_by_bridge(alloc, joined.as_slice())?;
         Ok(RadioPorts {
             index,
             answered,
+            answers,
             joined,
+            joining,
         })
+    }
+
+    /// The first port of a radio whose row names the interface.
+    pub fn first_port(&self, interface: &Text) -> Option<DevName>
+        requires { HasPlaces self.now.answers (map (λ answer. answer.interface) self.now.answered.items) }
+        ensures { result ≡ option_map (λ answer. answer.port) (find (λ answer. bytes_eq answer.interface
+            interface.now) (map as_answered self.now.answered.items)) }
+    {
+        match self.first_answer(interface) {
+            Some(answer) => Some(answer.port),
+            None => None,
+        }
+    }
+
+    fn first_answer(&self, interface: &Text) -> Option<&PortAnswer>
+        requires { HasPlaces self.now.answers (map (λ answer. answer.interface) self.now.answered.items) }
+        ensures { option_copied result
+            ≡ named (λ answer. answer.interface) self.now.answered.items interface.now }
+    {
+        match self.answers.get(interface) {
+            Some(place) => self.answered.as_slice().get(*place),
+            None => None,
+        }
+    }
+
+    /// The ports of radios that join the bridge.
+    pub fn ports_of(&self, bridge: &DevName) -> &[DevName]
+        ensures { result.now ≡ group_in self.now.joining bridge.now }
+    {
+        match self.joining.get(bridge) {
+            Some(ports) => ports.as_slice(),
+            None => &[],
+        }
     }
 }
 
@@ -112,21 +166,26 @@ fn is_bridge_kind(kind: &NameKind) -> bool
     }
 }
 
-// Whether a bridge of the rows owns the port.
-fn is_named_port(names: &[NameRow], port: &DevName) -> bool
-    ensures { result ≡ list_any (λ row. list_any (λ other. bytes_eq other port.now)
-        (rows.ports_of_kind row.kind)) names.now }
+// The own ports of all bridges.
+fn named_ports(alloc: Global, names: &[NameRow]) -> Result<BTreeSet<DevName>, Memory>
+    ensures { IfOk result (λ ports. HasNames ports (λ q. list_any (λ row. list_any
+        (λ other. bytes_eq other q) (rows.ports_of_kind row.kind)) names.now)) }
 {
-    names.iter().any(|row| is_port_of(&row.kind, port))
+    let mut ports = BTreeSet::new(alloc);
+    for row in names {
+        add_ports_of(&mut ports, &row.kind)?;
+    }
+    Ok(ports)
 }
 
-fn is_port_of(kind: &NameKind, port: &DevName) -> bool
-    ensures { result ≡ list_any (λ other. bytes_eq other port.now) (rows.ports_of_kind kind.now) }
+fn add_ports_of(ports: &mut BTreeSet<DevName>, kind: &NameKind) -> Result<(), Memory>
+    ensures { OnOk result (Adds ports.old ports.new
+        (λ q. list_any (λ other. bytes_eq other q) (rows.ports_of_kind kind.now))) }
 {
     match kind {
-        NameKind::Plain => false,
-        NameKind::Bridge { ports, .. } => has_name(ports.as_slice(), port),
-        NameKind::Vlan { .. } => false,
+        NameKind::Plain => Ok(()),
+        NameKind::Bridge { ports: own, .. } => add_all(ports, own.as_slice()),
+        NameKind::Vlan { .. } => Ok(()),
     }
 }
 
@@ -260,48 +319,71 @@ fn add_port(
     Ok(())
 }
 
+// The places of answers by interface; of one interface the first.
+fn answer_places(alloc: Global, answered: &[PortAnswer]) -> Result<BTreeMap<Text, usize>, Memory>
+    ensures { IfOk result (λ places. HasPlaces places (map (λ answer. answer.interface) answered.now)) }
+{
+    let mut places = BTreeMap::new(alloc);
+    for (place, answer) in answered.iter().enumerate() {
+        note_text(&mut places, &answer.interface, place)?;
+    }
+    Ok(places)
+}
+
 // The ports that join bridges, of one port the first.
 fn joined_ports(
     alloc: Global,
     index: &Index,
     inputs: &Inputs,
+    owned: &BTreeSet<DevName>,
     answered: &[PortAnswer],
 ) -> Result<Vec<PortJoin>, Memory>
-    requires { IsIndexOf inputs.now index.now }
+    requires index { IsIndexOf inputs.now index.now }
+    requires owned { HasNames owned.now (rows.is_named_port inputs.now.conf) }
     ensures { IfOk result (λ ports. map as_joined ports.items ≡ firsts (λ joins. joins.port)
         (filter_map (spec.joined (facts_of inputs.now)) (map as_answered answered.now))) }
 {
-    let mut ports = Vec::new(alloc);
+    let mut joins = Joins {
+        list: Vec::new(alloc),
+        ports: BTreeSet::new(alloc),
+    };
     for answer in answered {
-        add_join_of(&mut ports, index, inputs, answer)?;
+        add_join_of(&mut joins, index, inputs, owned, answer)?;
     }
-    Ok(ports)
+    Ok(joins.list)
 }
 
 fn add_join_of(
-    ports: &mut Vec<PortJoin>,
+    joins: &mut Joins,
     index: &Index,
     inputs: &Inputs,
+    owned: &BTreeSet<DevName>,
     answer: &PortAnswer,
 ) -> Result<(), Memory>
-    requires { IsIndexOf inputs.now index.now }
-    ensures { OnOk result ((joins : _) → map as_joined ports.old.items ≡ firsts (λ j. j.port) joins
-        → map as_joined ports.new.items ≡ firsts (λ j. j.port) (joins
-        ++ option_to_list (spec.joined (facts_of inputs.now) (as_answered answer.now)))) }
+    requires index { IsIndexOf inputs.now index.now }
+    requires owned { HasNames owned.now (rows.is_named_port inputs.now.conf) }
+    ensures { (all : List RadioPort) → AreJoins all joins.old → OnOk result (AreJoins (all
+        ++ option_to_list (spec.joined (facts_of inputs.now) (as_answered answer.now))) joins.new) }
 {
-    match join_of(index, inputs, answer) {
-        Some(join) => add_join(ports, join),
+    match join_of(index, inputs, owned, answer) {
+        Some(join) => joins.add(join),
         None => Ok(()),
     }
 }
 
-fn join_of(index: &Index, inputs: &Inputs, answer: &PortAnswer) -> Option<PortJoin>
-    requires { IsIndexOf inputs.now index.now }
+fn join_of(
+    index: &Index,
+    inputs: &Inputs,
+    owned: &BTreeSet<DevName>,
+    answer: &PortAnswer,
+) -> Option<PortJoin>
+    requires index { IsIndexOf inputs.now index.now }
+    requires owned { HasNames owned.now (rows.is_named_port inputs.now.conf) }
     ensures { option_map as_joined result
         ≡ spec.joined (facts_of inputs.now) (as_answered answer.now) }
 {
     match index.interface(inputs, &answer.interface) {
-        Some(row) => join_by(index, inputs, answer, &row.device),
+        Some(row) => join_by(index, inputs, owned, answer, &row.device),
         None => None,
     }
 }
@@ -309,17 +391,19 @@ fn join_of(index: &Index, inputs: &Inputs, answer: &PortAnswer) -> Option<PortJo
 fn join_by(
     index: &Index,
     inputs: &Inputs,
+    owned: &BTreeSet<DevName>,
     answer: &PortAnswer,
     device: &Option<DevName>,
 ) -> Option<PortJoin>
-    requires { IsIndexOf inputs.now index.now }
+    requires index { IsIndexOf inputs.now index.now }
+    requires owned { HasNames owned.now (rows.is_named_port inputs.now.conf) }
     ensures { option_map as_joined result
         ≡ option_and_then (join_to inputs.now.conf answer.now.port) device.now }
 {
     let Some(device) = device else {
         return None;
     };
-    let is_owned = is_named_port(inputs.conf.names.as_slice(), &answer.port);
+    let is_owned = owned.contains(&answer.port);
     if is_bridge(index, inputs, device) & !is_owned {
         return Some(PortJoin {
             bridge: *device,
@@ -329,19 +413,62 @@ fn join_by(
     None
 }
 
-fn add_join(ports: &mut Vec<PortJoin>, join: PortJoin) -> Result<(), Memory>
-    ensures { OnOk result ((joins : _) → map as_joined ports.old.items ≡ firsts (λ j. j.port) joins
-        → map as_joined ports.new.items ≡ firsts (λ j. j.port) (joins ++ as_joined join ∷ [])) }
-{
-    if has_port(ports.as_slice(), &join.port) {
-        return Ok(());
+impl Joins {
+    /// Adds a port with its bridge, where the port has joined none.
+    pub fn add(&mut self, join: PortJoin) -> Result<(), Memory>
+        ensures { (all : List RadioPort) → AreJoins all self.old
+            → OnOk result (AreJoins (all ++ as_joined join ∷ []) self.new) }
+    {
+        if self.ports.contains(&join.port) {
+            return Ok(());
+        }
+        self.list.push(join)?;
+        let _added = self.ports.insert(join.port)?;
+        Ok(())
     }
-    ports.push(join)?;
+}
+
+// The ports that join each bridge.
+fn ports_by_bridge(
+    alloc: Global,
+    joins: &[PortJoin],
+) -> Result<BTreeMap<DevName, Vec<DevName>>, Memory>
+    ensures { IfOk result (λ groups. HasPorts groups (map as_joined joins.now)) }
+{
+    let mut groups = BTreeMap::new(alloc);
+    for join in joins {
+        add_to_group(alloc, &mut groups, join.bridge, join.port)?;
+    }
+    Ok(groups)
+}
+
+fn add_to_group(
+    alloc: Global,
+    groups: &mut BTreeMap<DevName, Vec<DevName>>,
+    bridge: DevName,
+    port: DevName,
+) -> Result<(), Memory>
+    ensures { OnOk result ((q : List ℕ) → group_in groups.new q
+        ≡ group_in groups.old q ++ (if bytes_eq bridge q then port ∷ [] else [])) }
+{
+    let mut group = take_group(alloc, groups, &bridge);
+    group.push(port)?;
+    let _none = groups.insert(bridge, group)?;
     Ok(())
 }
 
-fn has_port(ports: &[PortJoin], port: &DevName) -> bool
-    ensures { result ≡ list_any (λ join. bytes_eq join.port port.now) ports.now }
+// Takes the ports of a bridge out of the map.
+fn take_group(
+    alloc: Global,
+    groups: &mut BTreeMap<DevName, Vec<DevName>>,
+    bridge: &DevName,
+) -> Vec<DevName>
+    ensures ports { result.items ≡ group_in groups.old bridge.now }
+    ensures others { (q : List ℕ) → get (slice_cmp nat_cmp) groups.new q
+        ≡ (if is_at (slice_cmp nat_cmp bridge.now) q then None else get (slice_cmp nat_cmp) groups.old q) }
 {
-    ports.iter().any(|join| join.port.text() == port.text())
+    match groups.remove(bridge) {
+        Some(group) => group,
+        None => Vec::new(alloc),
+    }
 }

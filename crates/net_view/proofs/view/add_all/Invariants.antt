@@ -1,9 +1,0 @@
-use Rattle.std.proofs.Common.{take}
-use Rattle.std.specs.Prelude.{bytes_eq}
-use Rattle.std.specs.List.{list_any}
-use Rattle.net_view.specs.View.{Adds}
-use Rattle.net_view.proofs.view.add_all.Given as goal
-
--- the names so far are added
-abbrev pub invariant-loop-name : goal.invariant-loop-name
-invariant-loop-name l = Adds l.initial.names l.names (λ q. list_any (λ n. bytes_eq n q) (take l.name-index l.more))

@@ -1,0 +1,10 @@
+-- What is wanted, as the program adds it up.
+
+-- what is used
+pub mod View
+-- names, each once
+pub mod Known
+-- what is added for a used bridge
+pub mod Objects
+-- what is added for an interface that is up
+pub mod Given
