@@ -1,9 +1,11 @@
 pub mod AddressLemmas
+pub mod DigitLemmas
 pub mod Examples
 pub mod ListLemmas
 pub mod MaskLemmas
 pub mod NameLemmas
 pub mod NetworkLemmas
 pub mod PrefixLemmas
+pub mod PrefixSpellingLemmas
 pub mod RadioLemmas
 pub mod RouteLemmas

@@ -6,6 +6,8 @@ pub mod Address
 pub mod Mask
 -- prefixes
 pub mod Prefix
+-- the texts that stand for a prefix
+pub mod PrefixSpelling
 -- lists of faults, and what options give
 pub mod Given
 -- addresses of interfaces

@@ -23,7 +23,7 @@ pub use interfaces::interface_rows;
 pub use kinds::{
     INTERFACE, MAIN, MAIN_TABLE, NONE, ROUTE, ROUTE6, STATIC, UNICAST, WIFI_DEVICE, WIFI_IFACE,
 };
-pub use laws::{addresses_are_spelled, host_bits_are_cleared};
+pub use laws::{addresses_are_spelled, host_bits_are_cleared, prefixes_are_spelled};
 pub use mask::read_mask;
 pub use network::without_host_bits;
 pub use prefix::read_prefix;

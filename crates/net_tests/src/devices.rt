@@ -1,7 +1,7 @@
 use crate::shown::assert_outcomes;
 use std::test::Fail;
 
-const ROUTER: &[u8] = b"config interface 'loopback'
+pub const ROUTER: &[u8] = b"config interface 'loopback'
 \toption device 'lo'
 \toption proto 'static'
 \tlist ipaddr '127.0.0.1/8'
@@ -44,7 +44,7 @@ wan.7 vlan 7 over wan 2
 @wan plain 1
 ";
 
-const FAULTS: &[u8] = b"config device
+pub const FAULTS: &[u8] = b"config device
 config device
 \toption name 'a/b'
 config device
@@ -94,7 +94,7 @@ r.7 vlan 7 over r 2 broken SameVlan
 ";
 
 // A ring of two VLANs, and a VLAN over it.
-const RING: &[u8] = b"config device
+pub const RING: &[u8] = b"config device
 \toption name 'a'
 \toption type '8021q'
 \toption ifname 'b'
@@ -116,7 +116,7 @@ a.3 vlan 3 over a 9 broken TooHigh
 ";
 
 // Nine names one over another.
-const HIGH: &[u8] = b"config device
+pub const HIGH: &[u8] = b"config device
 \toption name 'x'
 \toption type '8021q'
 \toption ifname 'y'
@@ -138,7 +138,7 @@ x.1 vlan 1 over x 3
 ";
 
 // The last of several sections of one name counts, and the earlier ones mention nothing.
-const AGAIN: &[u8] = b"config device
+pub const AGAIN: &[u8] = b"config device
 \toption name 'br0.4'
 \toption type 'bridge'
 \tlist ports 'p'

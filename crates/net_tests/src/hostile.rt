@@ -5,21 +5,37 @@ use std::alloc::Global;
 use std::process::Abort;
 use std::test::Fail;
 
-/// How many names a bridge of so many ports makes, and how many of them are too high, or the limit. The ports are PREFIX1 and so
-/// on.
+/// A bridge `br0` of so many ports: PREFIX1 and so on.
+pub fn bridge_of(alloc: Global, prefix: &[u8], count: u32) -> Result<Vec<u8>, Fail> {
+    let mut text = Vec::new(alloc);
+    text.extend_from_slice(b"config device\n\toption name br0\n\toption type bridge\n")?;
+    push_ports(alloc, &mut text, prefix, count)?;
+    Ok(text)
+}
+
+/// Adds so many ports to the last section of a text.
+pub fn push_ports(
+    alloc: Global,
+    text: &mut Vec<u8>,
+    prefix: &[u8],
+    count: u32,
+) -> Result<(), Fail> {
+    for number in 1..=count {
+        text.extend_from_slice(b"\tlist ports ")?;
+        text.extend_from_slice(prefix)?;
+        text.extend_from_slice(format!(in alloc; "{number}\n")?.as_bytes())?;
+    }
+    Ok(())
+}
+
+/// How many names a bridge of so many ports makes, and how many of them are too high, or the limit.
 fn names_of(
     rt: &impl Abort,
     alloc: Global,
     prefix: &[u8],
     count: u32,
 ) -> Result<Result<(usize, usize), u64>, Fail> {
-    let mut text = Vec::new(alloc);
-    text.extend_from_slice(b"config device\n\toption name br0\n\toption type bridge\n")?;
-    for number in 1..=count {
-        text.extend_from_slice(b"\tlist ports ")?;
-        text.extend_from_slice(prefix)?;
-        text.extend_from_slice(format!(in alloc; "{number}\n")?.as_bytes())?;
-    }
+    let text = bridge_of(alloc, prefix, count)?;
     let package = package_of(rt, alloc, text.as_slice())?;
     match read_devices(alloc, &package) {
         Ok(conf) => {

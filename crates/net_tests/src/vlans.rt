@@ -1,7 +1,7 @@
 use crate::shown::assert_outcomes;
 use std::test::Fail;
 
-const FILTERED: &[u8] = b"config device
+pub const FILTERED: &[u8] = b"config device
 \toption name 'br0'
 \toption type 'bridge'
 \toption ports 'lan1 lan2'
@@ -23,7 +23,7 @@ vlan br0 10 local lan1:u* lan2:t
 ";
 
 // A second section of one VLAN, and the suffixes.
-const SUFFIXES: &[u8] = b"config device
+pub const SUFFIXES: &[u8] = b"config device
 \toption name 'br0'
 \toption type 'bridge'
 config bridge-vlan
@@ -44,7 +44,7 @@ vlan br0 10 local passed over f:u* SameVlan
 ";
 
 // A port has one PVID on a bridge, and one entry in a VLAN. A row that is passed over tells its faults and gives no PVID.
-const PVIDS: &[u8] = b"config device
+pub const PVIDS: &[u8] = b"config device
 \toption name 'br0'
 \toption type 'bridge'
 config device
