@@ -31,8 +31,10 @@ impl Model for Feeder {
 
     ghost Value = { Stream };
 
-    ghost coded = { code_by (List Frame × List ℕ) (coded× (coded_list the_row.coded) (coded_list coded_ℕ))
-        (λ stream. (stream.frames, stream.rest)) (λ parts. record { frames = parts.0; rest = parts.1 }) (λ _. refl) };
+    ghost coded = { code_by (List Frame × List ℕ)
+        (coded× (coded_list the_row.coded) (coded_list coded_ℕ))
+        (λ stream. (stream.frames, stream.rest))
+        (λ parts. record { frames = parts.0; rest = parts.1 }) (λ _. refl) };
 
     ghost view = { λ feeder. record { frames = feeder.ready.items; rest = feeder.rest.items } };
 

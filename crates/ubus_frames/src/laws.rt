@@ -43,10 +43,13 @@ pub fn taken_bytes()
 {}
 
 /// However the bytes were cut into pieces and whenever frames were taken: the frames taken, those that wait, and the rest
-/// are the division of all bytes.
+/// are the division of all bytes. So they depend on the bytes alone.
 pub fn divided_however_cut()
-    ensures { (bytes : List ℕ) (taken : List Frame) (now : Stream) → Reaches bytes taken now →
-        Divides bytes (taken ++ now.frames) now.rest }
+    ensures divided { (bytes : List ℕ) (taken : List Frame) (now : Stream) →
+        Reaches bytes taken now → Divides bytes (taken ++ now.frames) now.rest }
+    ensures alone { (bytes : List ℕ) (taken other : List Frame) (now end : Stream) →
+        Reaches bytes taken now → Reaches bytes other end →
+        (other ++ end.frames ≡ taken ++ now.frames) × (end.rest ≡ now.rest) }
 {}
 
 /// Bytes to which a frame is still to come are at most 1,048,583.
