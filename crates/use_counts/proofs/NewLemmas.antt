@@ -1,4 +1,4 @@
-use Rattle.std.proofs.Common.{arith, subst, ℕ, ◌<◌, ◌≡◌, ◌==◌, ◌&&◌, ⊎_elim, Bool, true, false, cond, nat_lt, List, [], ◌∷◌, length, map, refl, sym, ap, ◌∙◌}
+use Rattle.std.proofs.Common.{arith, subst, ℕ, ◌<◌, ◌≡◌, ◌==◌, ◌&&◌, ⊎_elim, Bool, true, false, cond, List, [], ◌∷◌, length, map, refl, sym, ap, ◌∙◌}
 use Rattle.std.proofs.lemmas.Bool.{cases_lt, lt-ltb, ltb-true, ltb-false, false≢true, true≢false}
 use Rattle.std.proofs.lemmas.List.{get_or_past, ext_get_or, length-map}
 use Rattle.std.proofs.lemmas.List.Sums.{sum_by-cons}

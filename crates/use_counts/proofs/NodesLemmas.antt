@@ -1,6 +1,6 @@
 -- stored nodes and their marks, when one node is written
-use Rattle.std.proofs.Common.{arith, subst, ℕ, ◌+◌, ◌-◌, ◌<◌, ◌≤◌, ◌≡◌, ◌≢◌, ◌==◌, ⊎_elim, Bool, true, false, cond, List, [], ◌∷◌, ◌++◌, ◌*◌, ◌⊎◌, inl, inr, length, map, get_or, slice_index, slice_set, Option, Some, None, IsSome, is_some, IfSome, IfNone, unwrap_or, get_or-set_same, get_or-set_other, length-set, refl, sym, ap, ◌∙◌}
-use Rattle.std.proofs.lemmas.Bool.{cases_eq, cases_lt, cases_Bool, false≢true}
+use Rattle.std.proofs.Common.{arith, subst, ℕ, ◌+◌, ◌-◌, ◌<◌, ◌≤◌, ◌≡◌, ◌≢◌, ⊎_elim, Bool, true, false, cond, List, [], ◌∷◌, ◌++◌, ◌*◌, ◌⊎◌, inl, inr, length, slice_index, slice_set, Option, Some, None, IsSome, is_some, IfSome, IfNone, unwrap_or, get_or-set_same, get_or-set_other, length-set, refl, sym, ap, ◌∙◌}
+use Rattle.std.proofs.lemmas.Bool.{cases_eq, cases_lt, false≢true}
 use Rattle.std.proofs.lemmas.List.{get_or-map, get_or_past, ext_get_or, length-map, length-append, get_or_append_left, get_or_push}
 use Rattle.slab.specs.Slab.{Slab, get, with_value, Updates}
 use Rattle.use_counts.specs.declared.node.Node.{Node}

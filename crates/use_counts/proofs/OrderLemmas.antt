@@ -1,5 +1,5 @@
 -- the order of made nodes and their ranks
-use Rattle.std.proofs.Common.{arith, ⊎_elim, ℕ, ◌+◌, ◌-◌, ◌<◌, ◌≤◌, ◌≡◌, ◌≢◌, ◌==◌, ◌&&◌, subst, zero, suc, take, replicate, Bool, true, false, List, [], ◌∷◌, ◌++◌, length, map, get_or, slice_index, slice_set, get_or-set_same, get_or-set_other, length-set, refl, sym, ap, ◌∙◌}
+use Rattle.std.proofs.Common.{arith, ⊎_elim, ℕ, ◌+◌, ◌-◌, ◌<◌, ◌≤◌, ◌^◌, ◌≡◌, ◌≢◌, ◌==◌, ◌&&◌, subst, zero, suc, take, replicate, Bool, true, false, List, [], ◌∷◌, ◌++◌, length, map, get_or, slice_index, slice_set, get_or-set_same, get_or-set_other, length-set, refl, sym, ap, ◌∙◌}
 use Rattle.std.proofs.lemmas.Bool.{cases_eq, cases_lt, eq-eqb, true≢false}
 use Rattle.std.proofs.lemmas.List.{get_or-map, get_or_past, length-map, length-append, length-replicate, get_or-replicate, get_or_append_left, get_or_push}
 use Rattle.use_counts.specs.declared.node.Edge.{Edge}
@@ -8,7 +8,9 @@ use Rattle.use_counts.specs.declared.node.Row.{Row}
 use Rattle.use_counts.specs.NodeRule.{HasRank, is_made, row_at, rank_of}
 use Rattle.use_counts.specs.Held.{IsOrder, Member}
 use Rattle.use_counts.specs.Network.{IsLoadable, loaded, member_at, no_member}
-use Rattle.use_counts.specs.Order.{ArePlaced, CanLoad, level_at}
+use Rattle.use_counts.specs.Order.{ArePlaced, CanLoad, FitsRows, HasLevel, level_at}
+use Rattle.std.specs.List.{All}
+use Rattle.std.proofs.lemmas.List.Elements.{All-map}
 
 pub ranks_apart : (order ranks : List ℕ) (size j k : ℕ) → IsOrder order (rank_of ranks) size → 0 < rank_of ranks j → rank_of ranks j ≡ rank_of ranks k → j ≡ k
 ranks_apart order ranks size j k t some e = sym ((t.turn_of j some).1) ∙ ap (λ r. slice_index order (r - 1)) e ∙ (t.turn_of k (omega (arith, some, e))).1
@@ -192,3 +194,18 @@ zeros ranks old n len is empty none =
     let count : n - len ≡ n = omega (arith, none) in
     let all : ranks ≡ replicate n 0 = is ∙ ap (λ xs. take n xs ++ replicate (n - len) 0) empty ∙ ap (λ xs. xs ++ replicate (n - len) 0) (take_none n) ∙ ap (λ m. replicate m 0) count in
     (ap length all ∙ length-replicate {A = ℕ} n 0, λ k. ap (λ rs. rank_of rs k) all ∙ ⊎_elim (λ h. get_or-replicate n k 0 0 h) (λ past. get_or_past (replicate n 0) k 0 (omega (arith, past, length-replicate {A = ℕ} n 0))) (cases_lt k n))
+
+pub can_load_from : (rows : List Row) (edges : List Edge) → length edges < 2 ^ 20 → All HasLevel rows → All (FitsRows rows) edges → CanLoad rows edges
+can_load_from rows edges few levels fit =
+    record {
+      levels = record {
+        levels = All-map (λ (m : Member). (1 ≤ m.level) × (m.level ≤ 8)) loaded rows levels;
+        order = λ k d h.
+            let f = fit k d h in
+            let e = get_or edges k d in
+            (omega (arith, f.lower, length-map rows loaded), omega (arith, f.upper, length-map rows loaded), omega (arith, f.rises, level_member rows e.lower f.lower, level_member rows e.upper f.upper));
+        claims = All-map (λ (m : Member). m.claims ≤ 1024) loaded rows (λ k d h. omega arith);
+      };
+      made = λ k d h. (fit k d h).made;
+      few = few;
+    }

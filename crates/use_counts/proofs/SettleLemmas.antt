@@ -1,18 +1,15 @@
-use Rattle.std.proofs.Common.{arith, subst, ℕ, ◌+◌, ◌-◌, ◌^◌, ◌<◌, ◌≤◌, ◌≡◌, ◌≢◌, ◌==◌, ◌||◌, Bool, true, false, nat_lt, cond, List, length, map, slice_set, get_or-set_same, get_or-set_other, refl, sym, ap, ◌∙◌}
+use Rattle.std.proofs.Common.{arith, subst, ℕ, ◌+◌, ◌-◌, ◌^◌, ◌<◌, ◌≤◌, ◌≡◌, ◌||◌, Bool, true, false, nat_lt, cond, List, length, map, slice_set, get_or-set_same, get_or-set_other, refl, sym, ap, ◌∙◌}
 use Rattle.std.proofs.lemmas.Bool.{lt-ltb, true≢false}
 use Rattle.std.proofs.lemmas.List.{ext_get_or, map-set, length-map}
 use Rattle.std.proofs.Math.ListN.{get_or-map}
 use Rattle.use_counts.specs.declared.node.Edge.{Edge}
 use Rattle.use_counts.specs.declared.node.Node.{Node}
-use Rattle.std.proofs.lemmas.List.Sums.{count_by-le-length}
-use Rattle.use_counts.specs.declared.node.Change.{Change}
-use Rattle.use_counts.specs.NodeRule.{no_node, is_used, node_at, rank_at, with_claims, occurs, times, after_lower}
-use Rattle.use_counts.specs.Edges.{lower_end, upper_end, counted, edges_at}
-use Rattle.use_counts.specs.Held.{AllRunUp, IsOrder, FollowsCounts, HoldsCounts, SettledAt, UpTo, DownTo, change_of, IsCalm, Settles, available_at, link_at, used_at, differs, moved, visits_due, member_of}
-use Rattle.use_counts.proofs.EdgeLemmas.{at_each, everywhere, each, counted_same, touching_same, counted-le-length, none_scaled, length_ends}
-use Rattle.use_counts.proofs.HeldUp.{uppers_of, kept_up, UseFollows, differs_not, or_left, or_right}
+use Rattle.use_counts.specs.NodeRule.{no_node, is_used, node_at, rank_at, with_claims}
+use Rattle.use_counts.specs.Edges.{lower_end, upper_end, counted}
+use Rattle.use_counts.specs.Held.{AllRunUp, IsOrder, FollowsCounts, HoldsCounts, UpTo, DownTo, IsCalm, Settles, available_at, link_at, used_at, differs, moved, visits_due, member_of}
+use Rattle.use_counts.proofs.EdgeLemmas.{at_each, everywhere, each, counted_same, touching_same, counted-le-length}
+use Rattle.use_counts.proofs.HeldUp.{UseFollows, differs_not, or_left, or_right}
 use Rattle.use_counts.proofs.SettledUp.{written}
-use Rattle.use_counts.proofs.VisitLemmas.{told_none}
 
 moved_to : (a b n : Node) → moved b n ≡ false → moved a n ≡ moved a b
 moved_to a b n still = ap (λ x. differs a.available x || differs a.link n.link) (sym (differs_not _ _ (or_left _ _ still))) ∙ ap (λ x. differs a.available b.available || differs a.link x) (sym (differs_not _ _ (or_right _ _ still)))

@@ -1,5 +1,5 @@
 -- What holds of nodes and their counts while an event is worked off.
-use Rattle.std.specs.Prelude.{ℕ, ◌+◌, ◌<◌, ◌≤◌, ◌≡◌, ◌≢◌, ◌&&◌, ◌||◌, Bool, true, false, not, if◌then◌else◌, List, length, nat_lt, slice_index, ◌-◌, [], slice_get, Option, Some, None, Vec}
+use Rattle.std.specs.Prelude.{ℕ, ◌+◌, ◌<◌, ◌≤◌, ◌≡◌, ◌≢◌, ◌||◌, Bool, true, false, not, if◌then◌else◌, List, length, nat_lt, slice_index, ◌-◌, [], slice_get, Option, Some, None, Vec}
 use Rattle.std.specs.declared.alloc.Global.{Global}
 use Rattle.use_counts.specs.declared.node.Kind.{Kind}
 use Rattle.std.specs.List.{AllByRecursion}
@@ -36,8 +36,10 @@ AllRunUp rank size edges = AllByRecursion (λ e. RunsUp rank size e.lower e.uppe
 -- The places of the made nodes by rank, from rank 1 on, and the rank of each node. A node that is not
 -- made has rank 0.
 pub record IsOrder (order : List ℕ) (rank : ℕ → ℕ) (size : ℕ) : Type 0 where
-  pub made_at : (turn : ℕ) → turn < length order → (slice_index order turn < size) × (rank (slice_index order turn) ≡ turn + 1)
-  pub turn_of : (k : ℕ) → 0 < rank k → (rank k ≤ length order) × (slice_index order (rank k - 1) ≡ k)
+  pub made_at : (turn : ℕ) → turn < length order → (slice_index order turn < size)
+      × (rank (slice_index order turn) ≡ turn + 1)
+  pub turn_of : (k : ℕ) → 0 < rank k → (rank k ≤ length order)
+      × (slice_index order (rank k - 1) ≡ k)
 
 -- availability and link are what the counts of the node give
 pub record FollowsCounts (node : Node) : Type 0 where
@@ -46,9 +48,12 @@ pub record FollowsCounts (node : Node) : Type 0 where
 
 -- All counts agree with the kept answers of the neighbours. What is not stale agrees with the counts.
 pub record HoldsCounts (edges : List Edge) (nodes : List Node) : Type 0 where
-  pub open_lowers : (k : ℕ) → (node_at nodes k).open_lowers ≡ counted upper_end lower_end (available_at nodes) edges k
-  pub linked_lowers : (k : ℕ) → (node_at nodes k).linked_lowers ≡ counted upper_end lower_end (link_at nodes) edges k
-  pub demand : (k : ℕ) → (node_at nodes k).demand ≡ (node_at nodes k).claims + counted lower_end upper_end (used_at nodes) edges k
+  pub open_lowers : (k : ℕ) → (node_at nodes k).open_lowers
+      ≡ counted upper_end lower_end (available_at nodes) edges k
+  pub linked_lowers : (k : ℕ) → (node_at nodes k).linked_lowers
+      ≡ counted upper_end lower_end (link_at nodes) edges k
+  pub demand : (k : ℕ) → (node_at nodes k).demand ≡ (node_at nodes k).claims
+      + counted lower_end upper_end (used_at nodes) edges k
   pub stale : (k : ℕ) → (node_at nodes k).stale ≡ false → FollowsCounts (node_at nodes k)
   pub use_stale : (k : ℕ) → (node_at nodes k).use_stale ≡ false → (node_at nodes k).used ≡ is_used (node_at nodes k).available (node_at nodes k).demand
 
@@ -72,16 +77,25 @@ settled is_made node =
 
 -- what the nodes above see of a node that moved
 abbrev pub change_of : Node → Node → Change
-change_of was now = record { was_available = was.available; now_available = now.available; had_link = was.link; has_link = now.link }
+change_of was now =
+    record {
+      was_available = was.available;
+      now_available = now.available;
+      had_link = was.link;
+      has_link = now.link;
+    }
 
 -- availability or link differ
 abbrev pub moved : Node → Node → Bool
 moved was now = differs was.available now.available || differs was.link now.link
 
 -- one node is computed anew, and those above it count how it moved
-pub record SettledAt (rank : ℕ → ℕ) (uppers : List ℕ) (place : ℕ) (old new : List Node) : Type 0 where
+pub record SettledAt (rank : ℕ → ℕ) (uppers : List ℕ) (place : ℕ)
+    (old new : List Node) : Type 0 where
   pub here : node_at new place ≡ settled (nat_lt 0 (rank place)) (node_at old place)
-  pub others : (k : ℕ) → k ≢ place → node_at new k ≡ after_lower (change_of (node_at old place) (node_at new place)) (node_at old k) (times (moved (node_at old place) (node_at new place)) (occurs k uppers))
+  pub others : (k : ℕ) → k ≢ place → node_at new k
+      ≡ after_lower (change_of (node_at old place) (node_at new place)) (node_at old k)
+      (times (moved (node_at old place) (node_at new place)) (occurs k uppers))
 
 -- the items of a list, or none
 abbrev pub items_of : Option (Vec ℕ Global) → List ℕ
@@ -102,11 +116,19 @@ pub record Member : Type 0 where
 
 -- what they said of a kept node
 abbrev pub member_of : Node → Member
-member_of node = record { kind = node.kind; level = node.level; present = node.present; carrier = node.carrier; claims = node.claims }
+member_of node =
+    record {
+      kind = node.kind;
+      level = node.level;
+      present = node.present;
+      carrier = node.carrier;
+      claims = node.claims;
+    }
 
 -- Upward so far: what is stale has a greater rank than p, and nodes of greater rank answer as before.
 -- Each visit is of an edge over a node that moved.
-pub record UpTo (edges : List Edge) (rank : ℕ → ℕ) (p : ℕ) (before nodes : List Node) (started spent : ℕ) : Type 0 where
+pub record UpTo (edges : List Edge) (rank : ℕ → ℕ) (p : ℕ) (before nodes : List Node)
+    (started spent : ℕ) : Type 0 where
   pub kept : HoldsCounts edges nodes
   pub ranks : (k : ℕ) → rank_at nodes k ≡ rank k
   pub size : length nodes ≡ length before
@@ -115,29 +137,36 @@ pub record UpTo (edges : List Edge) (rank : ℕ → ℕ) (p : ℕ) (before nodes
   pub untouched : (k : ℕ) → p < rank k → moved (node_at before k) (node_at nodes k) ≡ false
   pub members : (k : ℕ) → member_of (node_at nodes k) ≡ member_of (node_at before k)
   pub used : (k : ℕ) → 0 < rank k → used_at nodes k ≡ used_at before k
-  pub cost : spent ≤ started + edges_at lower_end (λ k. moved (node_at before k) (node_at nodes k)) edges
+  pub cost : spent ≤ started + edges_at lower_end
+      (λ k. moved (node_at before k) (node_at nodes k)) edges
 
 -- a node with its use computed anew
 abbrev pub use_settled : Node → Node
 use_settled node = record node { used = is_used node.available node.demand; use_stale = false }
 
 -- the use of one node is computed anew, and those under it count how it changed
-pub record UseSettledAt (rank : ℕ → ℕ) (lowers : List ℕ) (place : ℕ) (old new : List Node) : Type 0 where
+pub record UseSettledAt (rank : ℕ → ℕ) (lowers : List ℕ) (place : ℕ)
+    (old new : List Node) : Type 0 where
   pub here : node_at new place ≡ use_settled (node_at old place)
-  pub others : (k : ℕ) → k ≢ place → node_at new k ≡ after_upper (used_at old place) (used_at new place) (nat_lt 0 (rank k)) (node_at old k) (times (differs (used_at old place) (used_at new place)) (occurs k lowers))
+  pub others : (k : ℕ) → k ≢ place → node_at new k
+      ≡ after_upper (used_at old place) (used_at new place) (nat_lt 0 (rank k)) (node_at old k)
+      (times (differs (used_at old place) (used_at new place)) (occurs k lowers))
 
 -- Downward so far: a stale use has a rank of at most p, and made nodes of rank at most p are used as
 -- before. Each visit is of an edge under a node whose use changed.
-pub record DownTo (edges : List Edge) (rank : ℕ → ℕ) (p : ℕ) (before nodes : List Node) (started spent : ℕ) : Type 0 where
+pub record DownTo (edges : List Edge) (rank : ℕ → ℕ) (p : ℕ) (before nodes : List Node)
+    (started spent : ℕ) : Type 0 where
   pub kept : HoldsCounts edges nodes
   pub ranks : (k : ℕ) → rank_at nodes k ≡ rank k
   pub size : length nodes ≡ length before
   pub ups : (k : ℕ) → (node_at nodes k).stale ≡ false
   pub use_marks : (k : ℕ) → (node_at nodes k).use_stale ≡ true → (0 < rank k) × (rank k ≤ p)
-  pub untouched : (k : ℕ) → 0 < rank k → rank k ≤ p → differs (used_at before k) (used_at nodes k) ≡ false
+  pub untouched : (k : ℕ) → 0 < rank k → rank k ≤ p → differs (used_at before k) (used_at nodes k)
+      ≡ false
   pub members : (k : ℕ) → member_of (node_at nodes k) ≡ member_of (node_at before k)
   pub still : (k : ℕ) → moved (node_at before k) (node_at nodes k) ≡ false
-  pub cost : spent ≤ started + edges_at upper_end (λ k. differs (used_at before k) (used_at nodes k)) edges
+  pub cost : spent ≤ started + edges_at upper_end
+      (λ k. differs (used_at before k) (used_at nodes k)) edges
 
 -- the counts hold, and nothing is stale
 pub record IsCalm (edges : List Edge) (nodes : List Node) : Type 0 where
@@ -147,7 +176,9 @@ pub record IsCalm (edges : List Edge) (nodes : List Node) : Type 0 where
 
 -- the edges over nodes that moved and those under nodes whose use changed
 abbrev pub visits_due : List Edge → List Node → List Node → ℕ
-visits_due edges before after = edges_at lower_end (λ k. moved (node_at before k) (node_at after k)) edges + edges_at upper_end (λ k. differs (used_at before k) (used_at after k)) edges
+visits_due edges before after =
+    edges_at lower_end (λ k. moved (node_at before k) (node_at after k)) edges
+    + edges_at upper_end (λ k. differs (used_at before k) (used_at after k)) edges
 
 -- all is computed, with no more visits than are due
 pub record Settles (edges : List Edge) (before nodes : List Node) (started spent : ℕ) : Type 0 where

@@ -1,5 +1,5 @@
 -- The answers of a network by plain recursion over its edges.
-use Rattle.std.specs.Prelude.{ℕ, ◌+◌, ◌^◌, ◌<◌, ◌≤◌, ◌≡◌, map, ◌&&◌, ◌||◌, Bool, false, if◌then◌else◌, zero, suc, List, length, count_by, slice_index_or, All}
+use Rattle.std.specs.Prelude.{ℕ, ◌+◌, ◌^◌, ◌<◌, ◌≤◌, ◌≡◌, map, ◌&&◌, ◌||◌, Bool, false, if◌then◌else◌, zero, suc, List, length, count_by, slice_set, slice_index_or, All}
 use Rattle.use_counts.specs.declared.node.Edge.{Edge}
 use Rattle.use_counts.specs.declared.node.Kind.TheVariants.{Broken}
 use Rattle.use_counts.specs.declared.node.Row.{Row}
@@ -36,7 +36,8 @@ unfoldable pub link_within : ℕ → Network → ℕ → Bool
 link_within zero net k = false
 link_within (suc levels) net k =
     let p = member_at net.members k in
-    links p.kind (available net k) (p.present && p.carrier) (counted upper_end lower_end (link_within levels net) net.edges k)
+    links p.kind (available net k) (p.present && p.carrier)
+    (counted upper_end lower_end (link_within levels net) net.edges k)
 
 -- a node has link
 unfoldable pub link : Network → ℕ → Bool
@@ -47,7 +48,8 @@ link net k = link_within 8 net k
 unfoldable pub used_within : ℕ → Network → ℕ → Bool
 used_within zero net k = false
 used_within (suc levels) net k =
-    is_used (available net k) ((member_at net.members k).claims + counted lower_end upper_end (used_within levels net) net.edges k)
+    is_used (available net k) ((member_at net.members k).claims
+    + counted lower_end upper_end (used_within levels net) net.edges k)
 
 -- a node is used
 unfoldable pub used : Network → ℕ → Bool
@@ -55,25 +57,53 @@ used net k = used_within 8 net k
 
 -- the claims of an available node and the used nodes that stand on it, else 0
 unfoldable pub users : Network → ℕ → ℕ
-users net k = if available net k then (member_at net.members k).claims + counted lower_end upper_end (used net) net.edges k else 0
+users net k =
+    if available net k
+    then (member_at net.members k).claims + counted lower_end upper_end (used net) net.edges k else 0
 
 -- an answer of a node differs between two networks
 abbrev pub changed : Network → Network → ℕ → Bool
-changed before after k = (differs (available before k) (available after k) || differs (link before k) (link after k)) || differs (used before k) (used after k)
+changed before after k =
+    (differs (available before k) (available after k) || differs (link before k) (link after k))
+    || differs (used before k) (used after k)
 
 -- the edges with an end at a node of which an answer differs
 unfoldable pub changed_edges : Network → Network → ℕ
-changed_edges before after = count_by (λ e. changed before after e.lower || changed before after e.upper) before.edges
+changed_edges before after =
+    count_by (λ e. changed before after e.lower || changed before after e.upper) before.edges
 
 -- levels go from 1 to 8 and rise along each edge, and a node has at most 1,024 claims
 pub record HasLevels (net : Network) : Type 0 where
   pub levels : All (λ p. (1 ≤ p.level) × (p.level ≤ 8)) net.members
-  pub order : All (λ e. (e.lower < length net.members) × (e.upper < length net.members) × ((member_at net.members e.lower).level < (member_at net.members e.upper).level)) net.edges
+  pub order : All (λ e. (e.lower < length net.members) × (e.upper < length net.members)
+      × ((member_at net.members e.lower).level < (member_at net.members e.upper).level)) net.edges
   pub claims : All (λ p. p.claims ≤ 1024) net.members
 
 -- a row without a device and without claims
 abbrev pub loaded : Row → Member
-loaded row = record { kind = row.kind; level = row.level; present = false; carrier = false; claims = 0 }
+loaded row =
+    record { kind = row.kind; level = row.level; present = false; carrier = false; claims = 0 }
+
+-- rows and their edges, without devices and claims
+abbrev pub network_from : List Row → List Edge → Network
+network_from rows edges = record { members = map loaded rows; edges = edges }
+
+-- a network in which one node is as given
+abbrev pub with_member : Network → ℕ → Member → Network
+with_member net k member = record net { members = slice_set net.members k member }
+
+-- the device of a node is there or not, with or without carrier
+abbrev pub with_device : Network → ℕ → Bool → Bool → Network
+with_device net k present carrier =
+    with_member net k (record (member_at net.members k) { present = present; carrier = carrier })
+
+-- the carrier of a device is on or off
+abbrev pub with_carrier : Network → ℕ → Bool → Network
+with_carrier net k carrier = with_member net k (record (member_at net.members k) { carrier = carrier })
+
+-- a node has this many claims
+abbrev pub with_claim : Network → ℕ → ℕ → Network
+with_claim net k claims = with_member net k (record (member_at net.members k) { claims = claims })
 
 -- rows and edges with an order of the made rows in which each edge runs up
 pub record IsLoadable (order ranks : List ℕ) (rows : List Row) (edges : List Edge) : Type 0 where

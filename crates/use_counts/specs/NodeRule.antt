@@ -87,7 +87,8 @@ occurs k xs = count_by (λ x. x == k) xs
 abbrev pub after_lower : Change → Node → ℕ → Node
 after_lower change node n =
     record node {
-      open_lowers = (node.open_lowers + times change.now_available n) - times change.was_available n;
+      open_lowers =
+          (node.open_lowers + times change.now_available n) - times change.was_available n;
       linked_lowers = (node.linked_lowers + times change.has_link n) - times change.had_link n;
       stale = node.stale || nat_lt 0 n;
     }
@@ -99,7 +100,11 @@ after_upper was now is_made node n =
     record node {
       demand = (node.demand + times now n) - times was n;
       use_stale = node.use_stale || (is_made && nat_lt 0 n);
-      used = if is_made then node.used else (if nat_lt 0 n then is_used node.available ((node.demand + times now n) - times was n) else node.used);
+      used =
+          if is_made then node.used else
+          (if nat_lt 0 n
+          then is_used node.available ((node.demand + times now n) - times was n)
+          else node.used);
     }
 
 -- a node with other claims, as after a change of use above it
@@ -109,7 +114,9 @@ with_claims claims is_made node =
       claims = claims;
       demand = (node.demand + claims) - node.claims;
       use_stale = node.use_stale || is_made;
-      used = if is_made then node.used else is_used node.available ((node.demand + claims) - node.claims);
+      used =
+          if is_made then node.used
+          else is_used node.available ((node.demand + claims) - node.claims);
     }
 
 -- an absent node without claims; a made one is stale

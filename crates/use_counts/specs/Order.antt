@@ -1,5 +1,5 @@
 -- The order of VLANs and bridges by their levels.
-use Rattle.std.specs.Prelude.{◌≡◌, ◌≤◌, ◌<◌, ◌+◌, ◌-◌, ◌^◌, ℕ, true, List, length, map, slice_index, All}
+use Rattle.std.specs.Prelude.{◌≡◌, ◌≤◌, ◌<◌, ◌^◌, ℕ, true, List, length, map, All}
 use Rattle.use_counts.specs.declared.node.Edge.{Edge}
 use Rattle.use_counts.specs.declared.node.Row.{Row}
 use Rattle.use_counts.specs.NodeRule.{is_made, row_at, rank_of}
@@ -23,6 +23,17 @@ pub record ArePlaced (rows : List Row) (level place : ℕ) (places ranks : List 
       → IsBefore rows level place k → 0 < rank_of ranks k
   pub rises : (j k : ℕ) → 0 < rank_of ranks j → 0 < rank_of ranks k
       → level_at rows j < level_at rows k → rank_of ranks j < rank_of ranks k
+
+-- a level that a row may have
+abbrev pub HasLevel : Row → Type 0
+HasLevel row = (1 ≤ row.level) × (row.level ≤ 8)
+
+-- an edge from a VLAN or bridge among some rows to a row of a lower level
+pub record FitsRows (rows : List Row) (e : Edge) : Type 0 where
+  pub lower : e.lower < length rows
+  pub upper : e.upper < length rows
+  pub made : is_made (row_at rows e.upper).kind ≡ true
+  pub rises : level_at rows e.lower < level_at rows e.upper
 
 -- Rows of levels from 1 to 8, and fewer edges than 2 ^ 20, each from a VLAN or bridge to a node of a
 -- lower level.

@@ -85,7 +85,8 @@ row_links carries ready below (Ports empty ports) = ready && list_any below port
 -- a row has link
 abbrev pub row_link : List Standing → Network → ℕ → Bool
 row_link rows net =
-    by_levels 8 (λ below k. row_links (carries_at net k) (row_available rows net k) below (standing_at rows k))
+    by_levels 8 (λ below k. row_links (carries_at net k) (row_available rows net k) below
+    (standing_at rows k))
 
 -- a row names a lower
 abbrev pub names : Standing → ℕ → Bool
@@ -100,7 +101,8 @@ standing_on passes k number (s ∷ ss) =
 -- a row is used: it is available, and it is claimed or a used row stands on it
 abbrev pub row_used : List Standing → Network → ℕ → Bool
 row_used rows net =
-    by_levels 8 (λ above k. is_used (row_available rows net k) ((member_at net.members k).claims + standing_on above k 0 rows))
+    by_levels 8 (λ above k. is_used (row_available rows net k) ((member_at net.members k).claims
+    + standing_on above k 0 rows))
 
 -- the claims of an available row and the used rows that stand on it
 abbrev pub row_users : List Standing → Network → ℕ → ℕ

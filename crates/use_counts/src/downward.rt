@@ -22,7 +22,9 @@ fn tell_lowers<L: Ledger>(
     requires before { (k : ℕ) → times was (occurs k lowers.now) ≤ (node_at nodes.old k).demand }
     requires fits { (k : ℕ) → (node_at nodes.old k).demand + occurs k lowers.now < 2 ^ 32 }
     ensures size { length nodes.new ≡ length nodes.old }
-    ensures after_upper { (k : ℕ) → node_at nodes.new k ≡ after_upper was now (nat_lt 0 (rank_of ranks.now k)) (node_at nodes.old k) (occurs k lowers.now) }
+    ensures after_upper { (k : ℕ) → node_at nodes.new k
+        ≡ after_upper was now (nat_lt 0 (rank_of ranks.now k)) (node_at nodes.old k)
+        (occurs k lowers.now) }
     ensures cost { steps.new ≡ steps.old + length lowers.now }
 {
     for lower in lowers {
@@ -39,8 +41,11 @@ fn settle_use<L: Ledger>(topology: &Topology, place: usize, nodes: &mut Nodes, s
     requires kept { HoldsCounts topology.now.edges.items nodes.old }
     requires claims { (k : ℕ) → (node_at nodes.old k).claims ≤ 1024 }
     ensures size { length nodes.new ≡ length nodes.old }
-    ensures use_marks { UseSettledAt (rank_of topology.now.ranks.items) (far_ends lower_end upper_end topology.now.edges.items place) place nodes.old nodes.new }
-    ensures cost { steps.new ≡ steps.old + times (differs (used_at nodes.old place) (used_at nodes.new place)) (edges_at upper_end (λ k. k == place) topology.now.edges.items) }
+    ensures use_marks { UseSettledAt (rank_of topology.now.ranks.items)
+        (far_ends lower_end upper_end topology.now.edges.items place) place nodes.old nodes.new }
+    ensures cost { steps.new ≡ steps.old + times
+        (differs (used_at nodes.old place) (used_at nodes.new place))
+        (edges_at upper_end (λ k. k == place) topology.now.edges.items) }
 {
     let was = nodes.node(place);
     let now = was.use_settled();
@@ -64,8 +69,10 @@ pub fn pass_down<L: Ledger>(topology: &Topology, nodes: &mut Nodes, steps: &mut 
     requires kept { HoldsCounts topology.now.edges.items nodes.old }
     requires claims { (k : ℕ) → (node_at nodes.old k).claims ≤ 1024 }
     requires ups { (k : ℕ) → (node_at nodes.old k).stale ≡ false }
-    requires use_marks { (k : ℕ) → (node_at nodes.old k).use_stale ≡ true → 0 < rank_of topology.now.ranks.items k }
-    ensures { DownTo topology.now.edges.items (rank_of topology.now.ranks.items) 0 nodes.old nodes.new steps.old steps.new }
+    requires use_marks { (k : ℕ) → (node_at nodes.old k).use_stale ≡ true
+        → 0 < rank_of topology.now.ranks.items k }
+    ensures { DownTo topology.now.edges.items
+        (rank_of topology.now.ranks.items) 0 nodes.old nodes.new steps.old steps.new }
 {
     let mut turn = topology.made_count();
     while turn > 0 {

@@ -1,8 +1,8 @@
-ghost use Rattle.std.specs.Prelude.{◌≡◌, ◌≤◌, ◌<◌, ◌+◌, ◌*◌, ℕ, IfOk, length, map, nat_lt, slice_set, true, false, vec_len};
+ghost use Rattle.std.specs.Prelude.{◌≡◌, ◌≤◌, ◌<◌, ◌+◌, ◌*◌, ℕ, IfOk, length, map, true, false, vec_len};
 ghost use Rattle.use_counts.specs.Held.{IsCalm, HoldsCounts, member_of};
 ghost use Rattle.use_counts.specs.NodeRule.{node_at, rank_at, rank_of};
 ghost use Rattle.use_counts.specs.Order.{CanLoad};
-ghost use Rattle.use_counts.specs.Network.{IsLoadable, available, loaded, changed_edges, link, member_at, used, users};
+ghost use Rattle.use_counts.specs.Network.{IsLoadable, available, changed_edges, link, member_at, network_from, used, users, with_carrier, with_claim, with_device};
 
 use crate::node::{Edge, Row};
 use crate::nodes::Nodes;
@@ -43,8 +43,10 @@ fn settle_all<L: Ledger>(topology: &Topology, nodes: &mut Nodes, blank: Blank)
     requires ranks { (k : ℕ) → rank_at nodes.old k ≡ rank_of topology.now.ranks.items k }
     requires kept { HoldsCounts topology.now.edges.items nodes.old }
     requires claims { (k : ℕ) → (node_at nodes.old k).claims ≤ 1024 }
-    requires marks { (k : ℕ) → (node_at nodes.old k).stale ≡ true → 0 < rank_of topology.now.ranks.items k }
-    requires use_marks { (k : ℕ) → (node_at nodes.old k).use_stale ≡ true → 0 < rank_of topology.now.ranks.items k }
+    requires marks { (k : ℕ) → (node_at nodes.old k).stale ≡ true
+        → 0 < rank_of topology.now.ranks.items k }
+    requires use_marks { (k : ℕ) → (node_at nodes.old k).use_stale ≡ true
+        → 0 < rank_of topology.now.ranks.items k }
     ensures size { length nodes.new ≡ length nodes.old }
     ensures ranks { (k : ℕ) → rank_at nodes.new k ≡ rank_at nodes.old k }
     ensures rest { IsCalm topology.now.edges.items nodes.new }
@@ -60,7 +62,7 @@ impl Graph {
     /// The graph of some rows and of the edges between them. No device is there, and nothing is claimed.
     pub fn load(alloc: Global, rows: &[Row], edges: &[Edge]) -> Result<Graph, Memory>
         requires { CanLoad rows.now edges.now }
-        ensures { IfOk result (λ g. g ≡ record { members = map loaded rows.now; edges = edges.now }) }
+        ensures { IfOk result (λ g. g ≡ network_from rows.now edges.now) }
     {
         let order = Order::of(alloc, rows)?;
         Graph::with_order(alloc, order, rows, edges)
@@ -73,7 +75,7 @@ impl Graph {
         edges: &[Edge],
     ) -> Result<Graph, Memory>
         requires { IsLoadable order.places.items order.ranks.items rows.now edges.now }
-        ensures { IfOk result (λ g. g ≡ record { members = map loaded rows.now; edges = edges.now }) }
+        ensures { IfOk result (λ g. g ≡ network_from rows.now edges.now) }
     {
         let Order { places, ranks } = order;
         let mut nodes = Nodes::new(alloc, rows, &ranks, places.len())?;
@@ -137,8 +139,8 @@ impl Graph {
         steps: &mut Steps<L>,
     )
         requires { id < length self.old.members }
-        ensures net { self.new ≡ record self.old { members = slice_set self.old.members id (record (member_at self.old.members id) { present = present; carrier = carrier }) } }
-        ensures cost { steps.new ≤ steps.old + 2 * changed_edges self.old self.new + 1 }
+        ensures net { self.new ≡ with_device self.old id present carrier }
+        ensures cost { steps.new ≤ steps.old + (1 + 2 * changed_edges self.old self.new) }
     {
         put_device(&self.topology, id, present, carrier, &mut self.nodes, steps);
     }
@@ -146,8 +148,8 @@ impl Graph {
     /// A device is there, with or without a carrier.
     pub fn set_present<L: Ledger>(&mut self, id: usize, carrier: bool, steps: &mut Steps<L>)
         requires { id < length self.old.members }
-        ensures net { self.new ≡ record self.old { members = slice_set self.old.members id (record (member_at self.old.members id) { present = true; carrier = carrier }) } }
-        ensures cost { steps.new ≤ steps.old + 2 * changed_edges self.old self.new + 1 }
+        ensures net { self.new ≡ with_device self.old id true carrier }
+        ensures cost { steps.new ≤ steps.old + (1 + 2 * changed_edges self.old self.new) }
     {
         self.set_device(id, true, carrier, steps);
     }
@@ -155,8 +157,8 @@ impl Graph {
     /// A device is gone.
     pub fn set_absent<L: Ledger>(&mut self, id: usize, steps: &mut Steps<L>)
         requires { id < length self.old.members }
-        ensures net { self.new ≡ record self.old { members = slice_set self.old.members id (record (member_at self.old.members id) { present = false; carrier = false }) } }
-        ensures cost { steps.new ≤ steps.old + 2 * changed_edges self.old self.new + 1 }
+        ensures net { self.new ≡ with_device self.old id false false }
+        ensures cost { steps.new ≤ steps.old + (1 + 2 * changed_edges self.old self.new) }
     {
         self.set_device(id, false, false, steps);
     }
@@ -164,8 +166,8 @@ impl Graph {
     /// The carrier of a device is on or off.
     pub fn set_carrier<L: Ledger>(&mut self, id: usize, on: bool, steps: &mut Steps<L>)
         requires { id < length self.old.members }
-        ensures net { self.new ≡ record self.old { members = slice_set self.old.members id (record (member_at self.old.members id) { carrier = on }) } }
-        ensures cost { steps.new ≤ steps.old + 2 * changed_edges self.old self.new + 1 }
+        ensures net { self.new ≡ with_carrier self.old id on }
+        ensures cost { steps.new ≤ steps.old + (1 + 2 * changed_edges self.old self.new) }
     {
         let present = self.present(id);
         self.set_device(id, present, on, steps);
@@ -175,8 +177,8 @@ impl Graph {
     pub fn set_claim<L: Ledger>(&mut self, id: usize, claims: u32, steps: &mut Steps<L>)
         requires within { id < length self.old.members }
         requires few { claims ≤ 1024 }
-        ensures net { self.new ≡ record self.old { members = slice_set self.old.members id (record (member_at self.old.members id) { claims = claims }) } }
-        ensures cost { steps.new ≤ steps.old + 2 * changed_edges self.old self.new + 1 }
+        ensures net { self.new ≡ with_claim self.old id claims }
+        ensures cost { steps.new ≤ steps.old + (1 + 2 * changed_edges self.old self.new) }
     {
         put_claims(&self.topology, id, claims, &mut self.nodes, steps);
     }

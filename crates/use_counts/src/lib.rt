@@ -9,6 +9,7 @@
 mod downward;
 mod graph;
 mod laws;
+mod loads;
 mod marks;
 mod node;
 mod nodes;
@@ -20,5 +21,6 @@ mod upward;
 
 pub use graph::Graph;
 pub use laws::edges_are_of_the_rows;
+pub use loads::can_load;
 pub use node::{Edge, Kind, Row};
 pub use steps::Steps;

@@ -41,7 +41,8 @@ fn stored(
     requires { length ranks.now ≡ length rows.now }
     ensures keys { IfOk result (λ s. AreKeys s.0 s.1.items) }
     ensures size { IfOk result (λ s. vec_len s.1 ≡ length rows.now) }
-    ensures nodes { IfOk result (λ s. (k : ℕ) → k < length rows.now → node_at (list_of s.0 s.1.items) k ≡ new_node (rank_of ranks.now k) (row_at rows.now k)) }
+    ensures nodes { IfOk result (λ s. (k : ℕ) → k < length rows.now
+        → node_at (list_of s.0 s.1.items) k ≡ new_node (rank_of ranks.now k) (row_at rows.now k)) }
 {
     let mut slab = Slab::new(alloc);
     let mut keys = Vec::new(alloc);
@@ -77,10 +78,12 @@ impl Nodes {
         requires size { length ranks.now ≡ length rows.now }
         requires few { made + 64 < 2 ^ 64 }
         requires top { (k : ℕ) → rank_of ranks.now k ≤ made }
-        requires one { (j k : ℕ) → 0 < rank_of ranks.now j → rank_of ranks.now j ≡ rank_of ranks.now k → j ≡ k }
+        requires one { (j k : ℕ) → 0 < rank_of ranks.now j → rank_of ranks.now j
+            ≡ rank_of ranks.now k → j ≡ k }
         requires all { (turn : ℕ) → turn < made → HasRank ranks.now turn }
         ensures size { IfOk result (λ n. length n ≡ length rows.now) }
-        ensures nodes { IfOk result (λ n. (k : ℕ) → k < length rows.now → node_at n k ≡ new_node (rank_of ranks.now k) (row_at rows.now k)) }
+        ensures nodes { IfOk result (λ n. (k : ℕ) → k < length rows.now → node_at n k
+            ≡ new_node (rank_of ranks.now k) (row_at rows.now k)) }
     {
         let (slab, keys) = stored(alloc, rows, ranks)?;
         let stale = all_marked(alloc, made)?;
@@ -127,7 +130,8 @@ impl Nodes {
     pub fn first_stale(&mut self) -> Option<usize>
         ensures same { self.new ≡ self.old }
         ensures found { IfSome result (IsFirstStale self.old) }
-        ensures none { IfNone result ((k : ℕ) → 0 < rank_at self.old k → (node_at self.old k).stale ≡ false) }
+        ensures none { IfNone result ((k : ℕ) → 0 < rank_at self.old k → (node_at self.old k).stale
+            ≡ false) }
     {
         self.stale.first()
     }
@@ -136,7 +140,8 @@ impl Nodes {
     pub fn last_use_stale(&mut self) -> Option<usize>
         ensures same { self.new ≡ self.old }
         ensures found { IfSome result (IsLastUseStale self.old) }
-        ensures none { IfNone result ((k : ℕ) → 0 < rank_at self.old k → (node_at self.old k).use_stale ≡ false) }
+        ensures none { IfNone result ((k : ℕ) → 0 < rank_at self.old k
+            → (node_at self.old k).use_stale ≡ false) }
     {
         match self.use_stale.first() {
             Some(number) => Some(self.made - 1 - number),

@@ -19,7 +19,8 @@ fn add_level(
     ranks: &mut Vec<usize>,
 ) -> Result<(), AllocError>
     requires { ArePlaced rows.now level 0 places.old.items ranks.old.items }
-    ensures { OnOk result (ArePlaced rows.now level (length rows.now) places.new.items ranks.new.items) }
+    ensures { OnOk result (ArePlaced rows.now level
+        (length rows.now) places.new.items ranks.new.items) }
 {
     for place in 0..rows.len() {
         if rows[place].kind.is_made() && rows[place].level == level {

@@ -17,8 +17,10 @@ pub fn settle<L: Ledger>(topology: &Topology, start: usize, nodes: &mut Nodes, s
     requires ranks { (k : ℕ) → rank_at nodes.old k ≡ rank_of topology.now.ranks.items k }
     requires kept { HoldsCounts topology.now.edges.items nodes.old }
     requires claims { (k : ℕ) → (node_at nodes.old k).claims ≤ 1024 }
-    requires marks { (k : ℕ) → k ≢ start → (node_at nodes.old k).stale ≡ true → rank_of topology.now.ranks.items start < rank_of topology.now.ranks.items k }
-    requires use_marks { (k : ℕ) → (node_at nodes.old k).use_stale ≡ true → 0 < rank_of topology.now.ranks.items k }
+    requires marks { (k : ℕ) → k ≢ start → (node_at nodes.old k).stale ≡ true
+        → rank_of topology.now.ranks.items start < rank_of topology.now.ranks.items k }
+    requires use_marks { (k : ℕ) → (node_at nodes.old k).use_stale ≡ true
+        → 0 < rank_of topology.now.ranks.items k }
     ensures { Settles topology.now.edges.items nodes.old nodes.new steps.old steps.new }
 {
     pass_up(topology, start, nodes, steps);
@@ -42,7 +44,8 @@ pub fn put_device<L: Ledger>(
     ensures size { length nodes.new ≡ length nodes.old }
     ensures ranks { (k : ℕ) → rank_at nodes.new k ≡ rank_at nodes.old k }
     ensures rest { IsCalm topology.now.edges.items nodes.new }
-    ensures members { map member_of nodes.new ≡ slice_set (map member_of nodes.old) place (record (member_of (node_at nodes.old place)) { present = present; carrier = carrier }) }
+    ensures members { map member_of nodes.new ≡ slice_set (map member_of nodes.old) place
+        (record (member_of (node_at nodes.old place)) { present = present; carrier = carrier }) }
     ensures cost { steps.new ≤ steps.old + visits_due topology.now.edges.items nodes.old nodes.new }
 {
     let node = Node {
@@ -72,7 +75,8 @@ pub fn put_claims<L: Ledger>(
     ensures size { length nodes.new ≡ length nodes.old }
     ensures ranks { (k : ℕ) → rank_at nodes.new k ≡ rank_at nodes.old k }
     ensures rest { IsCalm topology.now.edges.items nodes.new }
-    ensures members { map member_of nodes.new ≡ slice_set (map member_of nodes.old) place (record (member_of (node_at nodes.old place)) { claims = claims }) }
+    ensures members { map member_of nodes.new ≡ slice_set (map member_of nodes.old) place
+        (record (member_of (node_at nodes.old place)) { claims = claims }) }
     ensures cost { steps.new ≤ steps.old + visits_due topology.now.edges.items nodes.old nodes.new }
 {
     let node = nodes

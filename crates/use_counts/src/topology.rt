@@ -13,13 +13,16 @@ pub struct Topology {
     pub edges: Vec<Edge>,
     pub uppers: Vec<Vec<usize>>,
     pub lowers: Vec<Vec<usize>>,
-    ghost stand: { All (λ e. RunsUp (rank_of ranks.items) (vec_len uppers) e.lower e.upper) edges.items },
+    ghost stand: { All (λ e. RunsUp (rank_of ranks.items)
+        (vec_len uppers) e.lower e.upper) edges.items },
     ghost ordered: { IsOrder order.items (rank_of ranks.items) (vec_len uppers) },
     ghost ranked: { vec_len ranks ≡ vec_len uppers },
     ghost few: { length edges.items < 2 ^ 20 },
     ghost sizes: { vec_len lowers ≡ vec_len uppers },
-    ghost uppers_are: { (k : ℕ) → k < vec_len uppers → items_at uppers.items k ≡ far_ends upper_end lower_end edges.items k },
-    ghost lowers_are: { (k : ℕ) → k < vec_len lowers → items_at lowers.items k ≡ far_ends lower_end upper_end edges.items k },
+    ghost uppers_are: { (k : ℕ) → k < vec_len uppers → items_at uppers.items k
+        ≡ far_ends upper_end lower_end edges.items k },
+    ghost lowers_are: { (k : ℕ) → k < vec_len lowers → items_at lowers.items k
+        ≡ far_ends lower_end upper_end edges.items k },
 }
 
 fn no_lists(alloc: Global, count: usize) -> Result<Vec<Vec<usize>>, AllocError>
@@ -34,7 +37,8 @@ fn no_lists(alloc: Global, count: usize) -> Result<Vec<Vec<usize>>, AllocError>
 
 fn list_uppers(alloc: Global, count: usize, edges: &[Edge]) -> Result<Vec<Vec<usize>>, AllocError>
     requires { All (λ e. e.lower < count) edges.now }
-    ensures { IfOk result (λ v. (vec_len v ≡ count) × ((k : ℕ) → k < count → items_at v.items k ≡ far_ends upper_end lower_end edges.now k)) }
+    ensures { IfOk result (λ v. (vec_len v ≡ count)
+        × ((k : ℕ) → k < count → items_at v.items k ≡ far_ends upper_end lower_end edges.now k)) }
 {
     let mut lists = no_lists(alloc, count)?;
     for edge in edges {
@@ -45,7 +49,8 @@ fn list_uppers(alloc: Global, count: usize, edges: &[Edge]) -> Result<Vec<Vec<us
 
 fn list_lowers(alloc: Global, count: usize, edges: &[Edge]) -> Result<Vec<Vec<usize>>, AllocError>
     requires { All (λ e. e.upper < count) edges.now }
-    ensures { IfOk result (λ v. (vec_len v ≡ count) × ((k : ℕ) → k < count → items_at v.items k ≡ far_ends lower_end upper_end edges.now k)) }
+    ensures { IfOk result (λ v. (vec_len v ≡ count)
+        × ((k : ℕ) → k < count → items_at v.items k ≡ far_ends lower_end upper_end edges.now k)) }
 {
     let mut lists = no_lists(alloc, count)?;
     for edge in edges {
@@ -61,10 +66,12 @@ impl Topology {
         ranks: Vec<usize>,
         edges: &[Edge],
     ) -> Result<Topology, AllocError>
-        requires stand { All (λ e. RunsUp (rank_of ranks.items) (vec_len ranks) e.lower e.upper) edges.now }
+        requires stand { All (λ e. RunsUp (rank_of ranks.items)
+            (vec_len ranks) e.lower e.upper) edges.now }
         requires few { length edges.now < 2 ^ 20 }
         requires ordered { IsOrder order.items (rank_of ranks.items) (vec_len ranks) }
-        ensures { IfOk result (λ s. (s.ranks.items ≡ ranks.items) × (s.edges.items ≡ edges.now) × (vec_len s.uppers ≡ vec_len ranks)) }
+        ensures { IfOk result (λ s. (s.ranks.items ≡ ranks.items) × (s.edges.items ≡ edges.now)
+            × (vec_len s.uppers ≡ vec_len ranks)) }
     {
         let uppers = list_uppers(alloc, ranks.len(), edges)?;
         let lowers = list_lowers(alloc, ranks.len(), edges)?;

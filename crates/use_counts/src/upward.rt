@@ -13,12 +13,17 @@ use std::sync::ledger::Ledger;
 /// Counts a move at each node right above, one step an edge.
 fn tell_uppers<L: Ledger>(uppers: &[usize], change: Change, nodes: &mut Nodes, steps: &mut Steps<L>)
     requires inside { All (λ u. u < length nodes.old) uppers.now }
-    requires ready_before { (k : ℕ) → times change.was_available (occurs k uppers.now) ≤ (node_at nodes.old k).open_lowers }
-    requires linked_before { (k : ℕ) → times change.had_link (occurs k uppers.now) ≤ (node_at nodes.old k).linked_lowers }
-    requires ready_fits { (k : ℕ) → (node_at nodes.old k).open_lowers + occurs k uppers.now < 2 ^ 32 }
-    requires linked_fits { (k : ℕ) → (node_at nodes.old k).linked_lowers + occurs k uppers.now < 2 ^ 32 }
+    requires ready_before { (k : ℕ) → times change.was_available (occurs k uppers.now)
+        ≤ (node_at nodes.old k).open_lowers }
+    requires linked_before { (k : ℕ) → times change.had_link (occurs k uppers.now)
+        ≤ (node_at nodes.old k).linked_lowers }
+    requires ready_fits { (k : ℕ) → (node_at nodes.old k).open_lowers + occurs k uppers.now
+        < 2 ^ 32 }
+    requires linked_fits { (k : ℕ) → (node_at nodes.old k).linked_lowers + occurs k uppers.now
+        < 2 ^ 32 }
     ensures size { length nodes.new ≡ length nodes.old }
-    ensures after_lower { (k : ℕ) → node_at nodes.new k ≡ after_lower change (node_at nodes.old k) (occurs k uppers.now) }
+    ensures after_lower { (k : ℕ) → node_at nodes.new k
+        ≡ after_lower change (node_at nodes.old k) (occurs k uppers.now) }
     ensures cost { steps.new ≡ steps.old + length uppers.now }
 {
     for upper in uppers {
@@ -39,8 +44,11 @@ pub fn settle_node<L: Ledger>(
     requires size { length nodes.old ≡ vec_len topology.now.uppers }
     requires kept { HoldsCounts topology.now.edges.items nodes.old }
     ensures size { length nodes.new ≡ length nodes.old }
-    ensures spreads { SettledAt (rank_of topology.now.ranks.items) (far_ends upper_end lower_end topology.now.edges.items place) place nodes.old nodes.new }
-    ensures cost { steps.new ≡ steps.old + times (moved (node_at nodes.old place) (node_at nodes.new place)) (edges_at lower_end (λ k. k == place) topology.now.edges.items) }
+    ensures spreads { SettledAt (rank_of topology.now.ranks.items)
+        (far_ends upper_end lower_end topology.now.edges.items place) place nodes.old nodes.new }
+    ensures cost { steps.new ≡ steps.old + times
+        (moved (node_at nodes.old place) (node_at nodes.new place))
+        (edges_at lower_end (λ k. k == place) topology.now.edges.items) }
 {
     let was = nodes.node(place);
     let now = was.settled(topology.rank(place) > 0);
@@ -67,9 +75,12 @@ pub fn pass_up<L: Ledger>(
     requires size { length nodes.old ≡ vec_len topology.now.uppers }
     requires ranks { (k : ℕ) → rank_at nodes.old k ≡ rank_of topology.now.ranks.items k }
     requires kept { HoldsCounts topology.now.edges.items nodes.old }
-    requires marks { (k : ℕ) → k ≢ start → (node_at nodes.old k).stale ≡ true → rank_of topology.now.ranks.items start < rank_of topology.now.ranks.items k }
-    requires use_marks { (k : ℕ) → (node_at nodes.old k).use_stale ≡ true → 0 < rank_of topology.now.ranks.items k }
-    ensures { UpTo topology.now.edges.items (rank_of topology.now.ranks.items) (length topology.now.order.items) nodes.old nodes.new steps.old steps.new }
+    requires marks { (k : ℕ) → k ≢ start → (node_at nodes.old k).stale ≡ true
+        → rank_of topology.now.ranks.items start < rank_of topology.now.ranks.items k }
+    requires use_marks { (k : ℕ) → (node_at nodes.old k).use_stale ≡ true
+        → 0 < rank_of topology.now.ranks.items k }
+    ensures { UpTo topology.now.edges.items (rank_of topology.now.ranks.items)
+        (length topology.now.order.items) nodes.old nodes.new steps.old steps.new }
 {
     settle_node(topology, start, nodes, steps);
     let mut turn = topology.rank(start);

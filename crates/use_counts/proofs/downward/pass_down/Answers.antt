@@ -1,4 +1,4 @@
-use Rattle.std.proofs.Common.{arith, length, vec_len, subst, sym, ap, List, ◌+◌, ◌==◌, ◌≡◌, ◌<◌, ◌∙◌, ℕ}
+use Rattle.std.proofs.Common.{arith, vec_len, subst, sym, List, ◌+◌, ◌==◌, ◌≡◌, ◌∙◌, ℕ}
 use Rattle.std.proofs.lemmas.List.Elements.{recursion_from_All}
 use Rattle.use_counts.specs.declared.node.Node.{Node}
 use Rattle.use_counts.specs.NodeRule.{times, rank_of}

@@ -1,4 +1,4 @@
-use Rattle.std.proofs.Common.{arith, ⊎_elim, sym, ◌∙◌, ◌+◌}
+use Rattle.std.proofs.Common.{arith, ⊎_elim, sym, ◌∙◌}
 use Rattle.std.proofs.lemmas.Bool.{cases_eq}
 use Rattle.use_counts.proofs.nodes.all_marked.Goals as goal
 

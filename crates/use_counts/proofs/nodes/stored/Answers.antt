@@ -1,4 +1,4 @@
-use Rattle.std.proofs.Common.{arith, subst, ⊎_elim, ◌≡◌, ◌<◌, ◌+◌, ◌++◌, ◌∷◌, [], ℕ, List, length, sym, ap, ◌∙◌}
+use Rattle.std.proofs.Common.{arith, subst, ⊎_elim, ◌≡◌, ◌++◌, ◌∷◌, [], ℕ, List, length, sym, ap, ◌∙◌}
 use Rattle.std.proofs.lemmas.Bool.{cases_eq}
 use Rattle.use_counts.specs.NodeRule.{node_at, rank_of, row_at, new_node}
 use Rattle.use_counts.specs.NodesInside.{AreKeys, list_of}

@@ -1,7 +1,6 @@
-use Rattle.std.proofs.Common.{arith, subst, ◌≡◌, ◌+◌, ◌++◌, ◌∷◌, [], ◌&&◌, ◌==◌, ℕ, Bool, true, false, List, length, slice_set, sym, ap, ◌∙◌}
+use Rattle.std.proofs.Common.{arith, ◌≡◌, ◌+◌, length, slice_set, sym, ap, ◌∙◌}
 use Rattle.std.proofs.lemmas.Bool.{ne_eqb}
-use Rattle.use_counts.specs.NodeRule.{is_made, row_at}
-use Rattle.use_counts.specs.Order.{ArePlaced, level_at}
+use Rattle.use_counts.specs.Order.{level_at}
 use Rattle.use_counts.proofs.OrderLemmas.{placed_skip, placed_more, and_left, and_right, as_placed}
 use Rattle.use_counts.proofs.order.add_level.Goals as goal
 use Rattle.use_counts.proofs.order.add_level.Goals.{then-is_made+then-rows-place+in_ok-push, else-is_made, else-is_made-via-then-is_made+else-rows-place, else-is_made-via-else-is_made}

@@ -1,5 +1,5 @@
-use Rattle.std.proofs.Common.{nat_lt, arith, subst, true, false, sym, ap, length, length-set, map, slice_set, List, ◌≡◌, ◌<◌, ◌≤◌, ◌+◌, ◌^◌, ◌∙◌, ⊎_elim, vec_len}
-use Rattle.std.proofs.lemmas.Bool.{true≢false, or_cases, ltb-true, cases_eq}
+use Rattle.std.proofs.Common.{nat_lt, arith, subst, true, sym, ap, length, length-set, map, slice_set, List, ◌≡◌, ◌<◌, ◌≤◌, ◌∙◌, ⊎_elim, vec_len}
+use Rattle.std.proofs.lemmas.Bool.{true≢false, or_cases, ltb-true}
 use Rattle.std.proofs.lemmas.List.{get_or-set_same, get_or-set_other}
 use Rattle.std.proofs.lemmas.List.Elements.{recursion_from_All}
 use Rattle.use_counts.specs.declared.node.Node.{Node}

@@ -1,4 +1,4 @@
-use Rattle.std.proofs.Common.{arith, vec_len, true, false, Bool, subst, sym, ap, length, length-set, get_or-set_other, slice_set, map, List, ◌≡◌, ◌∙◌}
+use Rattle.std.proofs.Common.{arith, vec_len, true, Bool, subst, sym, ap, length, get_or-set_other, slice_set, map, List, ◌∙◌}
 use Rattle.std.proofs.lemmas.Bool.{true≢false}
 use Rattle.std.proofs.lemmas.List.Elements.{recursion_from_All}
 use Rattle.use_counts.specs.declared.node.Node.{Node}

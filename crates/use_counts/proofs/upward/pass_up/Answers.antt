@@ -1,4 +1,4 @@
-use Rattle.std.proofs.Common.{arith, subst, sym, ap, length, ℕ, List, ◌<◌, ◌≡◌, vec_len, slice_index, ◌+◌, ◌∙◌}
+use Rattle.std.proofs.Common.{arith, subst, sym, length, ℕ, List, ◌<◌, vec_len, ◌+◌, ◌∙◌}
 use Rattle.std.proofs.lemmas.List.Elements.{recursion_from_All}
 use Rattle.use_counts.specs.declared.node.Node.{Node}
 use Rattle.use_counts.specs.NodeRule.{rank_of}

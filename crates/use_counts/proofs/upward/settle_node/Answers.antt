@@ -1,7 +1,7 @@
 use Rattle.std.proofs.Common.{◌≡◌, nat_lt, arith, subst, ◌∙◌, ◌<◌, ℕ, List, length, slice_set, vec_len, length-set, ◌==◌, All, sym, ap}
 use Rattle.std.proofs.lemmas.List.Elements.{recursion_from_All}
 use Rattle.use_counts.specs.declared.node.Node.{Node}
-use Rattle.use_counts.specs.NodeRule.{no_node, node_at, occurs, times, after_lower, rank_of}
+use Rattle.use_counts.specs.NodeRule.{node_at, occurs, times, after_lower, rank_of}
 use Rattle.use_counts.specs.Edges.{lower_end, upper_end, edges_at}
 use Rattle.use_counts.specs.Held.{settled, RunsUp, AllRunUp, moved, change_of}
 use Rattle.use_counts.proofs.EdgeLemmas.{length_ends}

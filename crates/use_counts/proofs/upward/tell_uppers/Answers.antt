@@ -1,6 +1,6 @@
 use Rattle.std.proofs.Common.{arith, ◌<◌, length, slice_index_or, length-set, ap, ◌∙◌}
 use Rattle.use_counts.specs.declared.node.Node.{Node}
-use Rattle.use_counts.specs.NodeRule.{no_node, node_at, after_lower}
+use Rattle.use_counts.specs.NodeRule.{node_at, after_lower}
 use Rattle.use_counts.proofs.VisitLemmas.{told_next, occurs_now, left_before, fits_before}
 use Rattle.use_counts.proofs.upward.tell_uppers.Goals as goal
 

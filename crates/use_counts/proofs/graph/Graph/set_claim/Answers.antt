@@ -1,8 +1,8 @@
-use Rattle.std.proofs.Common.{arith, ap, sym, refl, length, ◌<◌, ◌∙◌}
+use Rattle.std.proofs.Common.{arith, ap, refl, length, ◌<◌, ◌∙◌}
 use Rattle.std.proofs.lemmas.List.{length-map}
 use Rattle.use_counts.specs.Held.{member_of}
 use Rattle.use_counts.specs.Network.{Network, HasLevels, changed_edges}
-use Rattle.use_counts.proofs.NetworkLemmas.{net, few_claims, few_claims_all, levels_after, payment_within}
+use Rattle.use_counts.proofs.NetworkLemmas.{net, few_claims_all, levels_after, payment_within}
 use Rattle.use_counts.proofs.graph.Graph.set_claim.Goals as goal
 use Rattle.use_counts.proofs.graph.Graph.set_claim.Given.{Over}
 

@@ -1,4 +1,4 @@
-use Rattle.std.proofs.Common.{arith, ap, sym, refl, length, ◌<◌, ◌∙◌}
+use Rattle.std.proofs.Common.{arith, ap, refl, length, ◌<◌, ◌∙◌}
 use Rattle.std.proofs.lemmas.List.{length-map}
 use Rattle.use_counts.specs.Held.{member_of}
 use Rattle.use_counts.specs.Network.{Network, HasLevels, changed_edges}

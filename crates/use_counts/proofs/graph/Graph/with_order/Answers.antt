@@ -1,9 +1,8 @@
-use Rattle.std.proofs.Common.{arith, ap, subst, sym, map, length, List, ℕ, ◌≡◌, ◌<◌, ◌≤◌, ◌+◌, ◌∙◌, ⊎_elim}
-use Rattle.std.proofs.lemmas.Bool.{false≢true, cases_lt}
+use Rattle.std.proofs.Common.{arith, ap, subst, sym, map, length, List, ℕ, ◌≡◌, ◌∙◌}
+use Rattle.std.proofs.lemmas.Bool.{false≢true}
 use Rattle.use_counts.specs.declared.node.Edge.{Edge}
-use Rattle.use_counts.specs.declared.node.Node.{Node}
-use Rattle.use_counts.specs.NodeRule.{HasRank, rank_at, rank_of, node_at, new_node, row_at}
-use Rattle.use_counts.specs.Held.{Member, IsOrder}
+use Rattle.use_counts.specs.NodeRule.{HasRank, rank_of, new_node, row_at}
+use Rattle.use_counts.specs.Held.{Member}
 use Rattle.use_counts.specs.Network.{Network, HasLevels, loaded}
 use Rattle.use_counts.proofs.NewLemmas.{AreFresh, kept_fresh, fresh_up, fresh_down, fresh_claims, fresh_points, fresh_ranks}
 use Rattle.use_counts.proofs.UpLemmas.{rank_within}

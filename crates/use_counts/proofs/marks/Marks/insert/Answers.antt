@@ -1,4 +1,4 @@
-use Rattle.std.proofs.Common.{arith, ℕ, ◌*◌, ◌/◌, ◌<◌, length, ap, ◌∙◌}
+use Rattle.std.proofs.Common.{arith, ◌*◌, ◌/◌, ◌<◌, length, ap, ◌∙◌}
 use Rattle.std.proofs.lemmas.List.{get_or_read}
 use Rattle.use_counts.specs.Marked.{mark}
 use Rattle.use_counts.proofs.MarkLemmas.{inserted, inserted_other}

@@ -1,4 +1,4 @@
-use Rattle.std.proofs.Common.{arith, length, ◌∙◌}
+use Rattle.std.proofs.Common.{arith}
 use Rattle.std.proofs.lemmas.List.{length-map}
 use Rattle.use_counts.specs.NodesInside.{stored}
 use Rattle.use_counts.proofs.NodesLemmas.{sound_new}

@@ -1,7 +1,6 @@
-use Rattle.std.proofs.Common.{arith, ◌≡◌, ◌<◌, ℕ, List, length, slice_index, slice_set, map, subst, sym, ap, ◌∙◌}
+use Rattle.std.proofs.Common.{arith, ◌<◌, ℕ, length, slice_set, subst, sym, ap, ◌∙◌}
 use Rattle.std.proofs.lemmas.List.{get_or_read, length-map}
 use Rattle.slab.specs.Slab.{with_value}
-use Rattle.use_counts.specs.declared.node.Node.{Node}
 use Rattle.use_counts.specs.NodeRule.{rank_at}
 use Rattle.use_counts.specs.NodesInside.{AreSound, stored, list_of}
 use Rattle.use_counts.proofs.NodesLemmas.{put_list, sound_plain, sound_put}

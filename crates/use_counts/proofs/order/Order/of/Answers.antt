@@ -1,4 +1,4 @@
-use Rattle.std.proofs.Common.{arith, length}
+use Rattle.std.proofs.Common.{length}
 use Rattle.use_counts.proofs.OrderLemmas.{placed_start, zeros, as_started}
 use Rattle.use_counts.proofs.order.Order.of.Goals as goal
 
