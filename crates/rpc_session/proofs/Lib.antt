@@ -1,3 +1,6 @@
+mod AlteredLemmas
+mod ArgumentLemmas
 mod PatternLemmas
 mod SessionListLemmas
 mod StepLemmas
+mod ServeLemmas

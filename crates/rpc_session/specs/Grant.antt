@@ -8,6 +8,10 @@ use Rattle.rpc_session.specs.declared.grant.Grant.{Grant}
 abbrev pub same_text : List ℕ → List ℕ → Bool
 same_text = pointwise nat_eq
 
+-- the grant of a scope, an object and a function
+abbrev pub grant_of : List ℕ → List ℕ → List ℕ → Grant
+grant_of scope object function = record { scope = scope; object = object; function = function }
+
 -- the grants have the same texts
 abbrev pub same_grant : Grant → Grant → Bool
 same_grant one other = same_text one.scope other.scope && same_text one.object other.object && same_text one.function other.function

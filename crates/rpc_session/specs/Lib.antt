@@ -14,3 +14,15 @@ pub mod Session
 pub mod SessionList
 -- all sessions, and what each call makes of them
 pub mod Sessions
+-- the arguments of a method
+pub mod Arguments
+-- pairs of an object and a function
+pub mod Objects
+-- what a user keeps in a session
+pub mod Values
+-- how a session is told
+pub mod Description
+-- the methods by name
+pub mod Method
+-- what a call answers and leaves
+pub mod Serve

@@ -5,6 +5,10 @@ use Rattle.rpc_session.specs.declared.grant.Grant.{Grant}
 use Rattle.rpc_session.specs.declared.session.Session.{Session}
 use Rattle.rpc_session.specs.Grant.{permits, same_grant}
 
+-- a new session
+abbrev pub new_session : ℕ → ℕ → ℕ → Session
+new_session id timeout now = record { id = id; timeout = timeout; last_use = now; grants = []; values = [] }
+
 -- live at this second: without a timeout, or used less than so many seconds ago
 abbrev pub is_live : ℕ → Session → Bool
 is_live now session = nat_eq session.timeout 0 || nat_lt (now - session.last_use) session.timeout
@@ -28,3 +32,7 @@ without_grant grant session = record session { grants = filter (λ held. not (sa
 -- the session, used at this second
 abbrev pub used_at : ℕ → Session → Session
 used_at now session = record session { last_use = now }
+
+-- the seconds that are left without a use: 0 where there is no timeout
+abbrev pub seconds_left : ℕ → Session → ℕ
+seconds_left now session = session.timeout - (now - session.last_use)

@@ -8,7 +8,7 @@ use Rattle.rpc_session.specs.declared.session_error.SessionError.{SessionError}
 use Rattle.rpc_session.specs.declared.session_error.SessionError.TheVariants.{NoSession, Full, DefaultSession}
 use Rattle.rpc_session.specs.declared.sessions.TheConstants.{MOST_SESSIONS}
 use Rattle.rpc_session.specs.SessionList.{SessionList}
-use Rattle.rpc_session.specs.Session.{is_live, may, with_grant, without_grant, used_at}
+use Rattle.rpc_session.specs.Session.{new_session, is_live, may, with_grant, without_grant, used_at}
 
 -- the session of an id
 abbrev pub session_of : ℕ → List Session → Option Session
@@ -38,10 +38,6 @@ first_expired now (session ∷ others) = if is_live now session then first_expir
 -- an id: 16 hexadecimal digits of the session's number, and 16 of a random word
 abbrev pub id_of : ℕ → ℕ → ℕ
 id_of number word = number * 2 ^ 64 + word
-
--- a new session
-abbrev pub new_session : ℕ → ℕ → ℕ → Session
-new_session id timeout now = record { id = id; timeout = timeout; last_use = now; grants = []; values = [] }
 
 -- a function of the object `session` that anyone may call
 abbrev pub default_grant : List ℕ → Grant
@@ -93,8 +89,8 @@ denial_of now wanted (Some session) = if not (is_live now session) then Some Not
 abbrev pub denial : ℕ → Grant → ℕ → SessionList → Option Denied
 denial id wanted now list = denial_of now wanted (session_of id list.sessions)
 
--- a call made this of the sessions, or was refused and left them
-abbrev pub Does : {A : Type 0} → Result SessionList SessionError → Result A SessionError → SessionList → SessionList → Type 0
+-- a call made this, or was refused and left what was
+abbrev pub Does : {S A : Type 0} → Result S SessionError → Result A SessionError → S → S → Type 0
 Does (Ok made) result old new = IsOk result × (new ≡ made)
 Does (Err error) result old new = (result ≡ Err error) × (new ≡ old)
 

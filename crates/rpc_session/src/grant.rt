@@ -3,6 +3,7 @@ ghost use Rattle.rpc_session.specs.Grant as spec;
 
 use crate::pattern::fits;
 use plane_io::{Memory, Text};
+use std::alloc::Global;
 
 /// What a session may do: call this function of this object, in a scope. The object and the function are patterns.
 #[derive(Debug, Drop)]
@@ -13,6 +14,18 @@ pub struct Grant {
 }
 
 impl Grant {
+    /// The grant of these texts.
+    pub fn of(alloc: Global, scope: &[u8], object: &[u8], function: &[u8]) -> Result<Grant, Memory>
+        ensures { IfOk result (λ grant.
+            grant ≡ spec.grant_of scope.now object.now function.now) }
+    {
+        Ok(Grant {
+            scope: Text::from_bytes(alloc, scope)?,
+            object: Text::from_bytes(alloc, object)?,
+            function: Text::from_bytes(alloc, function)?,
+        })
+    }
+
     /// Whether the grant permits what is wanted.
     pub fn permits(&self, wanted: &Grant) -> bool
         ensures { result ≡ spec.permits self.now wanted.now }

@@ -22,6 +22,19 @@ pub struct Session {
 }
 
 impl Session {
+    /// A new session, used now.
+    pub(crate) fn fresh(alloc: Global, id: u128, timeout: u32, now: u64) -> Session
+        ensures { result ≡ spec.new_session id timeout now }
+    {
+        Session {
+            id,
+            timeout,
+            last_use: now,
+            grants: Items::new(alloc),
+            values: sqlite_items::Items::new(alloc),
+        }
+    }
+
     /// Whether the session is live at this second.
     pub fn is_live(&self, now: u64) -> bool
         ensures { result ≡ spec.is_live now self.now }
@@ -64,5 +77,16 @@ impl Session {
         let mut grants = mem::replace(&mut self.grants, Items::new(alloc)).into_vec();
         grants.retain(|held| !held.same(grant));
         self.grants = Items::from_vec(grants);
+    }
+
+    /// The seconds that are left without a use: 0 where there is no timeout.
+    pub(crate) fn seconds_left(&self, now: u64) -> u32
+        ensures { result ≡ spec.seconds_left now self.now }
+    {
+        let idle = now.saturating_sub(self.last_use);
+        if idle >= u64::from(self.timeout) {
+            return 0;
+        }
+        self.timeout - idle as u32
     }
 }

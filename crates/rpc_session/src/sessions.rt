@@ -15,7 +15,7 @@ pub const MOST_SESSIONS: usize = 1024;
 /// The others have as id their number, from 1 on, times 2^64, and a random word. A session is found by a binary search.
 #[derive(Debug, Drop)]
 pub struct Sessions {
-    rows: Vec<Session>,
+    pub(crate) rows: Vec<Session>,
     next: u64,
 }
 
@@ -69,16 +69,25 @@ impl Sessions {
             return Err(SessionError::Full);
         }
         let alloc = *self.rows.allocator();
-        let id = (u128::from(self.next) << 64) + u128::from(word);
-        self.rows.push(Session {
-            id,
-            timeout,
-            last_use: now,
-            grants: Items::new(alloc),
-            values: sqlite_items::Items::new(alloc),
-        })?;
+        let id = self.next_id(word);
+        self.rows.push(Session::fresh(alloc, id, timeout, now))?;
         self.next += 1;
         Ok(id)
+    }
+
+    /// The number that the next session gets. `create` and `serve` have the condition that it is below 2^63.
+    pub fn next_number(&self) -> u64
+        ensures { result ≡ self.now.next }
+    {
+        self.next
+    }
+
+    /// The id that the next session gets with this random word.
+    pub(crate) fn next_id(&self, word: u64) -> u128
+        requires { self.now.next < 2 ^ 63 }
+        ensures { result ≡ spec.id_of self.now.next word }
+    {
+        (u128::from(self.next) << 64) + u128::from(word)
     }
 
     /// Takes a session out, also an expired one. It takes no memory.
@@ -187,7 +196,7 @@ impl Sessions {
 }
 
 /// The place of a session, or where it would stand.
-fn search(rows: &[Session], sid: u128) -> Result<usize, usize>
+pub(crate) fn search(rows: &[Session], sid: u128) -> Result<usize, usize>
     requires { RiseById rows.now }
     ensures found { IfOk result (IsAt rows.now sid) }
     ensures absent { IfErr result (λ gap. spec.session_of sid rows.now ≡ None) }
