@@ -1,0 +1,91 @@
+ghost use Rattle.std.specs.Prelude.{◌≡◌, ◌<◌, length};
+
+use crate::table::loaded;
+use std::alloc::Global;
+use std::marker::Brand;
+use std::process::Abort;
+use std::sync::ledger::{Blank, Ledger};
+use use_counts::{Edge, Graph, Kind, Row, Steps};
+
+const BRIDGE: Row = Row {
+    kind: Kind::Bridge(false),
+    level: 2,
+};
+
+const PORT: Row = Row {
+    kind: Kind::Plain(true),
+    level: 1,
+};
+
+/// A bridge with two ports, and a name beside it.
+fn small(rt: &impl Abort, alloc: Global) -> Graph
+    ensures { length result.members ≡ 4 }
+{
+    let first = Edge { lower: 1, upper: 0 };
+    let second = Edge { lower: 2, upper: 0 };
+    let graph = loaded(rt, alloc, &[BRIDGE, PORT, PORT, PORT], &[first, second]);
+    assert!(rt; graph.len() == 4);
+    graph
+}
+
+fn ports_leave<L: Ledger>(rt: &impl Abort, graph: &mut Graph, blank: Blank)
+    requires name { blank.name ≡ L.name }
+    requires parts { blank.parts ≡ L.parts }
+    requires some { 0 < L.parts }
+    requires size { length graph.old.members ≡ 4 }
+{
+    let mut steps = Steps::<L>::new(blank);
+    graph.set_claim(0, 1, &mut steps);
+    assert!(rt; !graph.available(0));
+    assert_eq!(rt; graph.users(0), 0);
+    graph.set_present(1, true, &mut steps);
+    graph.set_present(2, false, &mut steps);
+    assert_eq!(rt; graph.users(0), 1);
+    assert_eq!(rt; graph.users(1), 1);
+    assert!(rt; graph.link(0));
+    graph.set_absent(1, &mut steps);
+    assert!(rt; graph.available(0));
+    assert!(rt; !graph.link(0));
+    assert_eq!(rt; graph.users(1), 0);
+    graph.set_absent(2, &mut steps);
+    assert!(rt; !graph.available(0));
+    assert_eq!(rt; graph.users(0), 0);
+}
+
+fn names_are_taken<L: Ledger>(rt: &impl Abort, graph: &mut Graph, blank: Blank)
+    requires name { blank.name ≡ L.name }
+    requires parts { blank.parts ≡ L.parts }
+    requires some { 0 < L.parts }
+    requires size { length graph.old.members ≡ 4 }
+{
+    let mut steps = Steps::<L>::new(blank);
+    graph.set_present(1, true, &mut steps);
+    graph.set_claim(0, 2, &mut steps);
+    assert_eq!(rt; graph.users(0), 2);
+    graph.set_claim(0, 1, &mut steps);
+    assert_eq!(rt; graph.users(0), 1);
+    graph.set_present(0, true, &mut steps);
+    assert!(rt; !graph.available(0));
+    assert!(rt; !graph.link(0));
+    assert_eq!(rt; graph.users(1), 0);
+    graph.set_absent(0, &mut steps);
+    assert!(rt; graph.link(0));
+    assert_eq!(rt; graph.users(1), 1);
+    graph.set_carrier(3, true, &mut steps);
+    assert!(rt; !graph.link(3));
+    graph.set_present(3, false, &mut steps);
+    graph.set_carrier(3, true, &mut steps);
+    assert!(rt; graph.link(3));
+}
+
+#[test]
+fn a_bridge_follows_its_ports(rt: HostRuntime) {
+    let mut graph = small(&rt, rt.alloc());
+    ports_leave::<Brand>(&rt, &mut graph, Blank::new(1));
+}
+
+#[test]
+fn a_taken_name_is_not_available(rt: HostRuntime) {
+    let mut graph = small(&rt, rt.alloc());
+    names_are_taken::<Brand>(&rt, &mut graph, Blank::new(1));
+}
