@@ -1,7 +1,6 @@
 //! What a network wants of the kernel, computed as its definitions say.
 #![tactic(auto)]
 
-mod changes;
 mod given;
 mod index;
 mod interfaces;
@@ -13,7 +12,6 @@ mod radio_ports;
 mod view;
 mod wants;
 
-pub use changes::changed;
 pub use given::MAIN_TABLE;
 pub use index::{Index, interface_places};
 pub use interfaces::{asks_nothing, is_static, needs_device};
