@@ -1,7 +1,6 @@
 //! Which names are available and have link, and which interfaces are up, computed as their definitions say.
 #![tactic(auto)]
 
-mod changes;
 mod index;
 mod interfaces;
 mod levels;
@@ -9,7 +8,6 @@ mod names;
 mod places;
 mod radio_ports;
 
-pub use changes::changed;
 pub use index::{Index, interface_places};
 pub use interfaces::{asks_nothing, is_name, is_static, needs_device};
 pub use levels::{LEVELS, Levels, Question, Told};

@@ -1,7 +1,7 @@
 use Rattle.std.proofs.Common.{◌≡◌, ◌++◌}
 use Rattle.std.specs.Vec.Iter.{into_iter_items}
 use Rattle.net_rules.specs.After.{kept_commands}
-use Rattle.net_view.proofs.changes.kept_commands.Given as goal
+use Rattle.net_after.proofs.changes.kept_commands.Given as goal
 
 -- the commands so far, and those of the others that stay
 abbrev pub invariant-loop-command : goal.invariant-loop-command

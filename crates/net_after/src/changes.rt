@@ -3,10 +3,11 @@ ghost use Rattle.net_rules.specs.Rows.{interface_named};
 ghost use Rattle.net_rules.specs.After as spec;
 ghost use Rattle.net_view.specs.Places.{HasPlaces};
 
-use crate::index::interface_places;
 use kern_model::{DevEvent, DevName, Device};
+use net_copies::{copy_answer, copy_items};
 use net_rows::Conf;
-use net_rules::{Answer, AnswerRoute, Command, Event, Inputs, OpenInterface, OpenRadio};
+use net_rules::{Answer, Command, Event, Inputs, OpenInterface, OpenRadio};
+use net_view::interface_places;
 use plane_io::{Items, Memory, Text};
 use std::alloc::Global;
 use std::collections::BTreeMap;
@@ -280,23 +281,6 @@ fn with_answer(
         });
     }
     Ok(asked)
-}
-
-fn copy_answer(alloc: Global, answer: &Answer) -> Result<Answer, Memory>
-    ensures { IfOk result (λ copy. copy ≡ answer.now) }
-{
-    Ok(Answer {
-        up: answer.up,
-        device: answer.device,
-        addresses: copy_items(alloc, answer.addresses.as_slice())?,
-        routes: copy_items(alloc, answer.routes.as_slice())?,
-    })
-}
-
-fn copy_items<T: Copy>(alloc: Global, items: &[T]) -> Result<Items<T>, Memory>
-    ensures { IfOk result (λ copies. copies ≡ items.now) }
-{
-    Ok(Items::from_vec(Vec::from_slice(alloc, items)?))
 }
 
 fn radio_answered(

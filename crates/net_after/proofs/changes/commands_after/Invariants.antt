@@ -1,7 +1,7 @@
 use Rattle.std.proofs.Common.{◌≡◌, ◌++◌}
 use Rattle.std.specs.Prelude.{filter, not, bytes_eq}
 use Rattle.std.specs.Vec.Iter.{into_iter_items}
-use Rattle.net_view.proofs.changes.commands_after.Given as goal
+use Rattle.net_after.proofs.changes.commands_after.Given as goal
 
 -- the other commands so far, and those that are left
 abbrev pub invariant-loop-command : goal.invariant-loop-command
