@@ -1,3 +1,4 @@
 pub mod ViewLemmas
 pub mod KnownLemmas
 pub mod UserLemmas
+pub mod GroupLemmas

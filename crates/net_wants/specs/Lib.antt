@@ -2,6 +2,8 @@
 
 -- what is used
 pub mod View
+-- the rows that belong to a bridge or an interface
+pub mod Grouped
 -- names, each once
 pub mod Known
 -- what is added for a used bridge

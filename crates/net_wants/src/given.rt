@@ -1,56 +1,60 @@
-ghost use Rattle.std.specs.Prelude.{◌≡◌, ◌++◌, map, Some, if◌then◌else◌, OnOk};
+ghost use Rattle.std.specs.Prelude.{◌≡◌, ◌++◌, [], ◌∷◌, map, Some, if◌then◌else◌, OnOk, option_to_list};
+ghost use Rattle.std.specs.List.{filter_map, flat_map, slice_get};
+ghost use Rattle.std.specs.Option.{option_copied};
 ghost use Rattle.kern_model.specs.declared.object.Object.TheVariants as object;
 ghost use Rattle.net_rules.specs.Rows as rows;
 ghost use Rattle.net_rules.specs.Want as spec;
 ghost use Rattle.net_rules.specs.Inputs.{facts_of};
 ghost use Rattle.net_rules.specs.Interfaces.{answer_of};
-ghost use Rattle.net_wants.specs.Given.{answer_route, routes_on, is_place_in};
+ghost use Rattle.net_wants.specs.Given.{answer_route, route_on};
+ghost use Rattle.net_wants.specs.Grouped.{IsGroupedOf};
 ghost use Rattle.net_view.specs.Levels.{AreLevelsOf};
 
+use crate::grouped::Grouped;
 use crate::objects::add_object;
 use kern_model::{DevName, Object, RouteObject};
 use net_addr::{Addr, Cidr, V4, V6};
 use net_rows::{InterfaceRow, RouteRow};
 use net_rules::{Answer, AnswerRoute, Inputs};
 use net_view::{Levels, is_static};
-use plane_io::{Memory, Text};
+use plane_io::Memory;
 
 /// The table of routes that are in no other (`main`).
 pub const MAIN_TABLE: u32 = 254;
 
 /// Adds the addresses and routes of an interface, on its layer-3 device, where it is up.
 pub fn add_given(
-    levels: &Levels,
+    grouped: &Grouped,
     objects: &mut Vec<Object>,
     inputs: &Inputs,
     row: &InterfaceRow,
 ) -> Result<(), Memory>
-    requires { AreLevelsOf inputs.now levels.now }
+    requires { IsGroupedOf inputs.now grouped.now }
     ensures { OnOk result (objects.new.items
         ≡ objects.old.items ++ spec.given (facts_of inputs.now) row.now) }
 {
-    if !levels.is_up(inputs, row) {
+    if !grouped.view.levels.is_up(inputs, row) {
         return Ok(());
     }
-    match levels.layer_of(inputs, row) {
-        Some(dev) => add_given_on(levels, objects, inputs, row, dev),
+    match grouped.view.levels.layer_of(inputs, row) {
+        Some(dev) => add_given_on(grouped, objects, inputs, row, dev),
         None => Ok(()),
     }
 }
 
 fn add_given_on(
-    levels: &Levels,
+    grouped: &Grouped,
     objects: &mut Vec<Object>,
     inputs: &Inputs,
     row: &InterfaceRow,
     dev: DevName,
 ) -> Result<(), Memory>
-    requires { AreLevelsOf inputs.now levels.now }
+    requires { IsGroupedOf inputs.now grouped.now }
     ensures { OnOk result (objects.new.items
         ≡ objects.old.items ++ spec.given_on (facts_of inputs.now) row.now dev) }
 {
-    add_own(levels, objects, inputs, row, dev)?;
-    add_sections(objects, inputs, row, dev, inputs.conf.routes.as_slice())
+    add_own(&grouped.view.levels, objects, inputs, row, dev)?;
+    add_sections(grouped, objects, inputs, row, dev)
 }
 
 // Adds what the options of a static interface give, or what the answer of another gives.
@@ -169,51 +173,64 @@ fn add_answer_routes(
 
 // Adds the routes of sections that name the interface.
 fn add_sections(
+    grouped: &Grouped,
     objects: &mut Vec<Object>,
     inputs: &Inputs,
     row: &InterfaceRow,
     dev: DevName,
+) -> Result<(), Memory>
+    requires { IsGroupedOf inputs.now grouped.now }
+    ensures { OnOk result (objects.new.items
+        ≡ objects.old.items ++ spec.of_sections (facts_of inputs.now) row.now dev) }
+{
+    let places = grouped.routes_of(&row.name);
+    add_routes_at(objects, inputs.conf.routes.as_slice(), dev, places)
+}
+
+fn add_routes_at(
+    objects: &mut Vec<Object>,
     routes: &[RouteRow],
+    dev: DevName,
+    places: &[usize],
 ) -> Result<(), Memory>
     ensures { OnOk result (objects.new.items ≡ objects.old.items
-        ++ routes_on (facts_of inputs.now) row.now dev routes.now) }
+        ++ flat_map (λ r. route_on dev r ∷ []) (filter_map (slice_get routes.now) places.now)) }
 {
-    for route in routes {
-        if is_route_of(inputs, row, route) {
-            add_object(
-                objects,
-                Object::Route(RouteObject {
-                    target: route.target,
-                    via: route.via,
-                    dev,
-                    metric: route.metric,
-                    table: route.table,
-                }),
-            )?;
-        }
+    for place in places {
+        add_route_at(objects, routes, dev, place)?;
     }
     Ok(())
 }
 
-fn is_route_of(inputs: &Inputs, row: &InterfaceRow, route: &RouteRow) -> bool
-    ensures { result ≡ spec.is_route_of (facts_of inputs.now) row.now route.now }
+fn add_route_at(
+    objects: &mut Vec<Object>,
+    routes: &[RouteRow],
+    dev: DevName,
+    place: &usize,
+) -> Result<(), Memory>
+    ensures { OnOk result (objects.new.items ≡ objects.old.items
+        ++ flat_map (λ r. route_on dev r ∷ []) (option_to_list (slice_get routes.now place.now))) }
 {
-    let is_of = is_place_of(
-        inputs.conf.interfaces.as_slice(),
-        &row.name,
-        route.interface,
-    );
-    route.faults.as_slice().is_empty() & (!route.disabled & is_of)
+    match route_row(routes, *place) {
+        Some(route) => add_object(objects, section_route(route, dev)),
+        None => Ok(()),
+    }
 }
 
-fn is_place_of(interfaces: &[InterfaceRow], name: &Text, place: Option<usize>) -> bool
-    ensures { result ≡ is_place_in interfaces.now name.now place }
+fn route_row(routes: &[RouteRow], place: usize) -> Option<&RouteRow>
+    ensures { option_copied result ≡ slice_get routes.now place }
 {
-    let Some(place) = place else {
-        return false;
-    };
-    match interfaces.get(place) {
-        Some(row) => row.name.as_bytes() == name.as_bytes(),
-        None => false,
-    }
+    routes.get(place)
+}
+
+fn section_route(route: &RouteRow, dev: DevName) -> Object
+    ensures { result ≡ route_on dev route.now }
+{
+    Object::Route(RouteObject {
+        target: route.target,
+        via: route.via,
+        dev,
+        metric: route.metric,
+        table: route.table,
+    })
 }

@@ -2,6 +2,7 @@
 #![tactic(auto)]
 
 mod given;
+mod grouped;
 mod known;
 mod objects;
 mod users;
@@ -9,6 +10,8 @@ mod view;
 mod wants;
 
 pub use given::MAIN_TABLE;
+pub use grouped::Grouped;
 pub use known::Known;
+pub use objects::BridgePorts;
 pub use view::View;
 pub use wants::wanted;

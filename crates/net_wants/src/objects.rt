@@ -1,5 +1,6 @@
-ghost use Rattle.std.specs.Prelude.{◌≡◌, ◌++◌, [], ◌∷◌, map, Bool, false, IfOk, OnOk};
-ghost use Rattle.std.specs.List.{list_any};
+ghost use Rattle.std.specs.Prelude.{◌≡◌, ◌++◌, [], ◌∷◌, Bool, false, IfOk, OnOk, bytes_eq, option_to_list};
+ghost use Rattle.std.specs.List.{list_any, filter_map, flat_map, slice_get};
+ghost use Rattle.std.specs.Option.{option_copied};
 ghost use Rattle.kern_model.specs.declared.object.Object.TheVariants as object;
 ghost use Rattle.net_rules.specs.Rows as rows;
 ghost use Rattle.net_rules.specs.RadioPorts.{radio_ports_of};
@@ -9,57 +10,69 @@ ghost use Rattle.net_rows.specs.declared.rows.NameKind.TheVariants.{Vlan};
 ghost use Rattle.net_rules.specs.Want as spec;
 ghost use Rattle.net_rules.specs.Inputs.{facts_of};
 ghost use Rattle.net_view.specs.RadioPorts.{ArePortsOf};
-ghost use Rattle.net_wants.specs.Objects.{entries_on, vlans_on};
+ghost use Rattle.net_view.specs.Names.{HasNames};
+ghost use Rattle.net_wants.specs.Objects.{entries_on, ArePorts};
+ghost use Rattle.net_wants.specs.Grouped.{IsGroupedOf};
 ghost use Rattle.net_wants.specs.View.{IsViewOf};
 
+use crate::grouped::Grouped;
 use crate::view::View;
 use kern_model::{DevName, LinkKind, Mac, Object};
 use net_rows::{NameKind, NameRow, VlanEntry, VlanRow};
 use net_rules::Inputs;
-use net_view::{RadioPorts, has_name, is_name};
+use net_view::{RadioPorts, add_all};
 use plane_io::Memory;
 use std::alloc::Global;
+use std::collections::BTreeSet;
+
+/// The own ports of a bridge and those of radios that join it, as a list and as a set.
+#[derive(Drop)]
+pub struct BridgePorts {
+    pub list: Vec<DevName>,
+    pub names: BTreeSet<DevName>,
+}
 
 /// Adds the objects of a used name that has a row.
 pub fn add_objects_of_row(
     alloc: Global,
-    view: &View,
+    grouped: &Grouped,
     objects: &mut Vec<Object>,
     inputs: &Inputs,
     name: &DevName,
     row: &NameRow,
 ) -> Result<(), Memory>
-    requires { IsViewOf inputs.now view.now }
+    requires { IsGroupedOf inputs.now grouped.now }
     ensures { OnOk result (objects.new.items ≡ objects.old.items
         ++ (spec.mtu_of name.now row.now.mtu ++ spec.objects_by (facts_of inputs.now) name.now
         row.now.mac (standing_of_row row.now
         (radio_ports_of (facts_of inputs.now) name.now)))) }
 {
     add_mtu(objects, name, row.mtu)?;
-    add_by_kind(alloc, view, objects, inputs, name, row)
+    add_by_kind(alloc, grouped, objects, inputs, name, row)
 }
 
 fn add_by_kind(
     alloc: Global,
-    view: &View,
+    grouped: &Grouped,
     objects: &mut Vec<Object>,
     inputs: &Inputs,
     name: &DevName,
     row: &NameRow,
 ) -> Result<(), Memory>
-    requires { IsViewOf inputs.now view.now }
+    requires { IsGroupedOf inputs.now grouped.now }
     ensures { OnOk result (objects.new.items ≡ objects.old.items
         ++ spec.objects_by (facts_of inputs.now) name.now row.now.mac (standing_of_row row.now
         (radio_ports_of (facts_of inputs.now) name.now))) }
 {
     match &row.kind {
         NameKind::Plain => add_plain(objects, name, row.mac),
-        NameKind::Bridge { ports, .. } => {
+        NameKind::Bridge { ports: own, .. } => {
             if row.broken {
                 return Ok(());
             }
-            let ports = all_ports(alloc, &view.levels.ports, inputs, name, ports.as_slice())?;
-            add_bridge(view, objects, inputs, name, row.mac, ports.as_slice())
+            let radios = &grouped.view.levels.ports;
+            let ports = all_ports(alloc, radios, inputs, name, own.as_slice())?;
+            add_bridge(grouped, objects, inputs, name, row.mac, &ports)
         }
         NameKind::Vlan { lower, id } => {
             if row.broken {
@@ -71,19 +84,20 @@ fn add_by_kind(
 }
 
 fn add_bridge(
-    view: &View,
+    grouped: &Grouped,
     objects: &mut Vec<Object>,
     inputs: &Inputs,
     name: &DevName,
     mac: Option<Mac>,
-    ports: &[DevName],
+    ports: &BridgePorts,
 ) -> Result<(), Memory>
-    requires { IsViewOf inputs.now view.now }
+    requires grouped { IsGroupedOf inputs.now grouped.now }
+    requires ports { ArePorts ports.now }
     ensures { (empty : Bool) → OnOk result (objects.new.items ≡ objects.old.items
-        ++ spec.objects_by (facts_of inputs.now) name.now mac (Ports empty ports.now)) }
+        ++ spec.objects_by (facts_of inputs.now) name.now mac (Ports empty ports.now.list.items)) }
 {
     add_object(objects, Object::Up { name: *name })?;
-    let filtering = is_filtering(inputs.conf.vlans.as_slice(), name);
+    let filtering = is_filtering(grouped, inputs, name);
     add_object(
         objects,
         Object::Link {
@@ -91,15 +105,8 @@ fn add_bridge(
             kind: LinkKind::Bridge { mac, filtering },
         },
     )?;
-    add_masters(view, objects, inputs, name, ports)?;
-    add_vlans(
-        view,
-        objects,
-        inputs,
-        name,
-        ports,
-        inputs.conf.vlans.as_slice(),
-    )
+    add_masters(&grouped.view, objects, inputs, name, ports.list.as_slice())?;
+    add_vlans(grouped, objects, inputs, name, ports)
 }
 
 fn add_masters(
@@ -127,24 +134,75 @@ fn add_masters(
     Ok(())
 }
 
+// Whether a VLAN is set on the bridge.
+fn is_filtering(grouped: &Grouped, inputs: &Inputs, bridge: &DevName) -> bool
+    requires { IsGroupedOf inputs.now grouped.now }
+    ensures { result ≡ rows.is_filtering inputs.now.conf bridge.now }
+{
+    !grouped.vlans_of(bridge).is_empty()
+}
+
 fn add_vlans(
+    grouped: &Grouped,
+    objects: &mut Vec<Object>,
+    inputs: &Inputs,
+    bridge: &DevName,
+    ports: &BridgePorts,
+) -> Result<(), Memory>
+    requires grouped { IsGroupedOf inputs.now grouped.now }
+    requires ports { ArePorts ports.now }
+    ensures { OnOk result (objects.new.items ≡ objects.old.items
+        ++ flat_map (spec.vlan_objects (facts_of inputs.now) bridge.now ports.now.list.items)
+        (rows.vlans_of inputs.now.conf bridge.now)) }
+{
+    let places = grouped.vlans_of(bridge);
+    add_vlans_at(&grouped.view, objects, inputs, bridge, ports, places)
+}
+
+fn add_vlans_at(
     view: &View,
     objects: &mut Vec<Object>,
     inputs: &Inputs,
     bridge: &DevName,
-    ports: &[DevName],
-    vlans: &[VlanRow],
+    ports: &BridgePorts,
+    places: &[usize],
 ) -> Result<(), Memory>
-    requires { IsViewOf inputs.now view.now }
+    requires view { IsViewOf inputs.now view.now }
+    requires ports { ArePorts ports.now }
     ensures { OnOk result (objects.new.items ≡ objects.old.items
-        ++ vlans_on (facts_of inputs.now) bridge.now ports.now vlans.now) }
+        ++ flat_map (spec.vlan_objects (facts_of inputs.now) bridge.now ports.now.list.items)
+        (filter_map (slice_get inputs.now.conf.vlans) places.now)) }
 {
-    for row in vlans {
-        if is_vlan_of(row, bridge) {
-            add_vlan(view, objects, inputs, bridge, ports, row)?;
-        }
+    for place in places {
+        add_vlan_at(view, objects, inputs, bridge, ports, place)?;
     }
     Ok(())
+}
+
+fn add_vlan_at(
+    view: &View,
+    objects: &mut Vec<Object>,
+    inputs: &Inputs,
+    bridge: &DevName,
+    ports: &BridgePorts,
+    place: &usize,
+) -> Result<(), Memory>
+    requires view { IsViewOf inputs.now view.now }
+    requires ports { ArePorts ports.now }
+    ensures { OnOk result (objects.new.items ≡ objects.old.items
+        ++ flat_map (spec.vlan_objects (facts_of inputs.now) bridge.now ports.now.list.items)
+        (option_to_list (slice_get inputs.now.conf.vlans place.now))) }
+{
+    match vlan_row(inputs.conf.vlans.as_slice(), *place) {
+        Some(row) => add_vlan(view, objects, inputs, bridge, ports, row),
+        None => Ok(()),
+    }
+}
+
+fn vlan_row(vlans: &[VlanRow], place: usize) -> Option<&VlanRow>
+    ensures { option_copied result ≡ slice_get vlans.now place }
+{
+    vlans.get(place)
 }
 
 fn add_vlan(
@@ -152,22 +210,16 @@ fn add_vlan(
     objects: &mut Vec<Object>,
     inputs: &Inputs,
     bridge: &DevName,
-    ports: &[DevName],
+    ports: &BridgePorts,
     row: &VlanRow,
 ) -> Result<(), Memory>
-    requires { IsViewOf inputs.now view.now }
+    requires view { IsViewOf inputs.now view.now }
+    requires ports { ArePorts ports.now }
     ensures { OnOk result (objects.new.items ≡ objects.old.items
-        ++ spec.vlan_objects (facts_of inputs.now) bridge.now ports.now row.now) }
+        ++ spec.vlan_objects (facts_of inputs.now) bridge.now ports.now.list.items row.now) }
 {
-    add_entries(
-        view,
-        objects,
-        inputs,
-        bridge,
-        ports,
-        row.id,
-        row.entries.as_slice(),
-    )?;
+    let entries = row.entries.as_slice();
+    add_entries(view, objects, inputs, bridge, ports, row.id, entries)?;
     add_local(objects, bridge, row.id, row.local)
 }
 
@@ -176,13 +228,14 @@ fn add_entries(
     objects: &mut Vec<Object>,
     inputs: &Inputs,
     bridge: &DevName,
-    ports: &[DevName],
+    ports: &BridgePorts,
     id: u16,
     entries: &[VlanEntry],
 ) -> Result<(), Memory>
-    requires { IsViewOf inputs.now view.now }
+    requires view { IsViewOf inputs.now view.now }
+    requires ports { ArePorts ports.now }
     ensures { OnOk result (objects.new.items ≡ objects.old.items
-        ++ entries_on (facts_of inputs.now) bridge.now ports.now id entries.now) }
+        ++ entries_on (facts_of inputs.now) bridge.now ports.now.list.items id entries.now) }
 {
     for entry in entries {
         if entry_counts(view, inputs, ports, entry) {
@@ -201,11 +254,12 @@ fn add_entries(
     Ok(())
 }
 
-fn entry_counts(view: &View, inputs: &Inputs, ports: &[DevName], entry: &VlanEntry) -> bool
-    requires { IsViewOf inputs.now view.now }
-    ensures { result ≡ spec.entry_counts (facts_of inputs.now) ports.now entry.now }
+fn entry_counts(view: &View, inputs: &Inputs, ports: &BridgePorts, entry: &VlanEntry) -> bool
+    requires view { IsViewOf inputs.now view.now }
+    requires ports { ArePorts ports.now }
+    ensures { result ≡ spec.entry_counts (facts_of inputs.now) ports.now.list.items entry.now }
 {
-    let is_port = has_name(ports, &entry.port);
+    let is_port = ports.names.contains(&entry.port);
     view.is_used(inputs, &entry.port) & is_port
 }
 
@@ -291,32 +345,29 @@ fn add_local(
     Ok(())
 }
 
-// Whether the row is a VLAN that is set on the bridge.
-fn is_vlan_of(row: &VlanRow, bridge: &DevName) -> bool
-    ensures { result ≡ rows.is_vlan_of bridge.now row.now }
-{
-    !row.passed_over & is_name(&row.bridge, bridge)
-}
-
-fn is_filtering(vlans: &[VlanRow], bridge: &DevName) -> bool
-    ensures { result ≡ list_any (rows.is_vlan_of bridge.now) vlans.now }
-{
-    vlans.iter().any(|row| is_vlan_of(row, bridge))
-}
-
 // The own ports of a bridge, and those of radios that join it.
 fn all_ports(
     alloc: Global,
-    ports: &RadioPorts,
+    radios: &RadioPorts,
     inputs: &Inputs,
     bridge: &DevName,
     own: &[DevName],
-) -> Result<Vec<DevName>, Memory>
-    requires { ArePortsOf inputs.now ports.now }
-    ensures { IfOk result (λ all. all.items
+) -> Result<BridgePorts, Memory>
+    requires { ArePortsOf inputs.now radios.now }
+    ensures list { IfOk result (λ ports. ports.list.items
         ≡ own.now ++ radio_ports_of (facts_of inputs.now) bridge.now) }
+    ensures names { IfOk result (λ ports. ArePorts ports) }
 {
-    let mut all = Vec::from_slice(alloc, own)?;
-    all.extend_from_slice(ports.ports_of(bridge))?;
-    Ok(all)
+    let mut list = Vec::from_slice(alloc, own)?;
+    list.extend_from_slice(radios.ports_of(bridge))?;
+    let names = name_set(alloc, list.as_slice())?;
+    Ok(BridgePorts { list, names })
+}
+
+fn name_set(alloc: Global, names: &[DevName]) -> Result<BTreeSet<DevName>, Memory>
+    ensures { IfOk result (λ set. HasNames set (λ q. list_any (λ n. bytes_eq n q) names.now)) }
+{
+    let mut set = BTreeSet::new(alloc);
+    add_all(&mut set, names)?;
+    Ok(set)
 }

@@ -16,8 +16,10 @@ ghost use Rattle.net_view.specs.Places.{is_place};
 ghost use Rattle.net_wants.specs.Known.{IsKnown};
 ghost use Rattle.net_view.specs.Levels.{AreLevelsOf};
 ghost use Rattle.net_wants.specs.View.{IsViewOf};
+ghost use Rattle.net_wants.specs.Grouped.{IsGroupedOf};
 
 use crate::given::add_given;
+use crate::grouped::Grouped;
 use crate::known::Known;
 use crate::objects::{add_object, add_objects_of_row};
 use crate::view::View;
@@ -40,12 +42,12 @@ pub fn wanted(alloc: Global, inputs: &Inputs) -> Result<Vec<Object>, Memory>
 fn wanted_list(alloc: Global, inputs: &Inputs) -> Result<Vec<Object>, Memory>
     ensures { IfOk result (λ objects. objects.items ≡ spec.wanted_list (facts_of inputs.now)) }
 {
-    let view = View::of(alloc, inputs)?;
-    let known = known_names(alloc, &view, inputs)?;
+    let grouped = Grouped::of(alloc, inputs)?;
+    let known = known_names(alloc, &grouped.view, inputs)?;
     let mut objects = Vec::new(alloc);
-    add_of_names(alloc, &mut objects, &view, inputs, known.list.as_slice())?;
+    add_of_names(alloc, &mut objects, &grouped, inputs, known.list.as_slice())?;
     let interfaces = inputs.conf.interfaces.as_slice();
-    add_of_interfaces(&mut objects, &view.levels, inputs, interfaces)?;
+    add_of_interfaces(&mut objects, &grouped, inputs, interfaces)?;
     Ok(objects)
 }
 
@@ -140,16 +142,16 @@ fn add_layer_if_first(
 fn add_of_names(
     alloc: Global,
     objects: &mut Vec<Object>,
-    view: &View,
+    grouped: &Grouped,
     inputs: &Inputs,
     names: &[DevName],
 ) -> Result<(), Memory>
-    requires { IsViewOf inputs.now view.now }
+    requires { IsGroupedOf inputs.now grouped.now }
     ensures { OnOk result (objects.new.items
         ≡ objects.old.items ++ flat_map (spec.objects_at (facts_of inputs.now)) names.now) }
 {
     for name in names {
-        add_at(alloc, objects, view, inputs, name)?;
+        add_at(alloc, objects, grouped, inputs, name)?;
     }
     Ok(())
 }
@@ -158,16 +160,16 @@ fn add_of_names(
 fn add_at(
     alloc: Global,
     objects: &mut Vec<Object>,
-    view: &View,
+    grouped: &Grouped,
     inputs: &Inputs,
     name: &DevName,
 ) -> Result<(), Memory>
-    requires { IsViewOf inputs.now view.now }
+    requires { IsGroupedOf inputs.now grouped.now }
     ensures { OnOk result (objects.new.items
         ≡ objects.old.items ++ spec.objects_at (facts_of inputs.now) name.now) }
 {
-    if view.is_used(inputs, name) {
-        return add_used(alloc, objects, view, inputs, name);
+    if grouped.view.is_used(inputs, name) {
+        return add_used(alloc, objects, grouped, inputs, name);
     }
     Ok(())
 }
@@ -175,17 +177,17 @@ fn add_at(
 fn add_used(
     alloc: Global,
     objects: &mut Vec<Object>,
-    view: &View,
+    grouped: &Grouped,
     inputs: &Inputs,
     name: &DevName,
 ) -> Result<(), Memory>
-    requires { IsViewOf inputs.now view.now }
+    requires { IsGroupedOf inputs.now grouped.now }
     ensures { OnOk result (objects.new.items ≡ objects.old.items
         ++ spec.objects_of_row (facts_of inputs.now) name.now
         (row_at inputs.now.conf.names name.now)) }
 {
-    match view.levels.ports.index.row(inputs, name) {
-        Some(row) => add_objects_of_row(alloc, view, objects, inputs, name, row),
+    match grouped.view.levels.ports.index.row(inputs, name) {
+        Some(row) => add_objects_of_row(alloc, grouped, objects, inputs, name, row),
         None => add_without_row(objects, name),
     }
 }
@@ -203,36 +205,40 @@ fn add_without_row(objects: &mut Vec<Object>, name: &DevName) -> Result<(), Memo
 
 fn add_of_interfaces(
     objects: &mut Vec<Object>,
-    levels: &Levels,
+    grouped: &Grouped,
     inputs: &Inputs,
     interfaces: &[InterfaceRow],
 ) -> Result<(), Memory>
-    requires levels { AreLevelsOf inputs.now levels.now }
+    requires grouped { IsGroupedOf inputs.now grouped.now }
     requires interfaces { interfaces.now ≡ inputs.now.conf.interfaces }
     ensures { OnOk result (objects.new.items ≡ objects.old.items
         ++ flat_map (spec.given (facts_of inputs.now)) (firsts (λ row. row.name) interfaces.now)) }
 {
     for (place, row) in interfaces.iter().enumerate() {
-        add_given_if_first(objects, levels, inputs, row, place)?;
+        add_given_if_first(objects, grouped, inputs, row, place)?;
     }
     Ok(())
 }
 
 fn add_given_if_first(
     objects: &mut Vec<Object>,
-    levels: &Levels,
+    grouped: &Grouped,
     inputs: &Inputs,
     row: &InterfaceRow,
     place: usize,
 ) -> Result<(), Memory>
-    requires { AreLevelsOf inputs.now levels.now }
+    requires { IsGroupedOf inputs.now grouped.now }
     ensures { OnOk result (objects.new.items ≡ objects.old.items
         ++ flat_map (spec.given (facts_of inputs.now)) (if is_place place
-        (get (slice_cmp nat_cmp) levels.now.ports.index.interfaces row.now.name)
+        (get (slice_cmp nat_cmp) grouped.now.view.levels.ports.index.interfaces row.now.name)
         then row.now ∷ [] else [])) }
 {
-    if !is_first(&levels.ports.index.interfaces, &row.name, place) {
+    if !is_first(
+        &grouped.view.levels.ports.index.interfaces,
+        &row.name,
+        place,
+    ) {
         return Ok(());
     }
-    add_given(levels, objects, inputs, row)
+    add_given(grouped, objects, inputs, row)
 }

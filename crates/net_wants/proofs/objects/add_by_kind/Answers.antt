@@ -15,5 +15,5 @@ returns-in_ok-ports-in-Bridge c =
     let more : List (List ℕ) = radio_ports_of facts c.args.name.now in
     on_ok_then c.add_bridge.result (λ made.
     made
-    ∙ ap (λ (z : List (List ℕ)). c.args.objects.now.items ++ objects_by facts c.args.name.now c.args.row.now.mac (Ports c.in-Bridge.empty z)) (c.as_slice-in-Bridge.ensures.value ∙ c.in_ok-ports-in-Bridge.ensures ∙ ap (λ (z : List (List ℕ)). z ++ more) c.as_slice.ensures)
-    ∙ ap (λ (s : Standing). c.args.objects.now.items ++ objects_by facts c.args.name.now c.args.row.now.mac s) (sym (standing_is c.args.row.now (Bridge c.in-Bridge.empty c.in-Bridge.ports) false more c.in-Bridge.is c.if-row.false))) (c.add_bridge.ensures c.in-Bridge.empty)
+    ∙ ap (λ (z : List (List ℕ)). c.args.objects.now.items ++ objects_by facts c.args.name.now c.args.row.now.mac (Ports c.in-Bridge.empty z)) (c.in_ok-ports-in-Bridge.ensures.list ∙ ap (λ (z : List (List ℕ)). z ++ more) c.as_slice.ensures)
+    ∙ ap (λ (s : Standing). c.args.objects.now.items ++ objects_by facts c.args.name.now c.args.row.now.mac s) (sym (standing_is c.args.row.now (Bridge c.in-Bridge.empty c.in-Bridge.own) false more c.in-Bridge.is c.if-row.false))) (c.add_bridge.ensures c.in-Bridge.empty)

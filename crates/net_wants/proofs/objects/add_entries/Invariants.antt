@@ -5,4 +5,4 @@ use Rattle.net_wants.proofs.objects.add_entries.Given as goal
 
 -- those so far, and those of the others
 abbrev pub invariant-loop-entry : goal.invariant-loop-entry
-invariant-loop-entry l = l.objects.items ++ entries_on (facts_of l.inputs) l.bridge l.ports l.id (drop l.entry-index l.entries) ≡ l.initial.objects.items ++ entries_on (facts_of l.inputs) l.bridge l.ports l.id l.entries
+invariant-loop-entry l = l.objects.items ++ entries_on (facts_of l.inputs) l.bridge l.ports.list.items l.id (drop l.entry-index l.entries) ≡ l.initial.objects.items ++ entries_on (facts_of l.inputs) l.bridge l.ports.list.items l.id l.entries
