@@ -1,0 +1,129 @@
+//! `count_load NODE BRIDGES TURNS`: a graph of so many bridges, each over a port of its own, and a name beside them. So many times
+//! the carrier of a device goes on or off, of the port of the last bridge where NODE is `port`, else of the name beside. Printed
+//! is how many times that was.
+#![tactic(auto)]
+
+ghost use Rattle.std.specs.Prelude.{◌≡◌, ◌<◌};
+
+use plane_io::Memory;
+use std::alloc::Global;
+use std::marker::Brand;
+use std::process::ExitCode;
+use std::rt::Env;
+use std::sync::ledger::{Blank, Ledger};
+use std::{env, io};
+use use_counts::{Edge, Graph, Kind, Row, Steps, can_load};
+
+/// What the words of the command line ask for.
+#[derive(Drop)]
+struct Load {
+    is_port: bool,
+    bridges: u16,
+    turns: u32,
+}
+
+/// The bridges, their ports, and a name.
+fn rows_of(alloc: Global, bridges: u16) -> Result<Vec<Row>, Memory> {
+    let mut rows = Vec::new(alloc);
+    for _ in 0..bridges {
+        rows.push(Row {
+            kind: Kind::Bridge(false),
+            level: 2,
+        })?;
+    }
+    for _ in 0..bridges {
+        rows.push(Row {
+            kind: Kind::Plain(true),
+            level: 1,
+        })?;
+    }
+    rows.push(Row {
+        kind: Kind::Plain(true),
+        level: 1,
+    })?;
+    Ok(rows)
+}
+
+fn edges_of(alloc: Global, bridges: u16) -> Result<Vec<Edge>, Memory> {
+    let mut edges = Vec::new(alloc);
+    for upper in 0..bridges {
+        edges.push(Edge {
+            lower: usize::from(bridges) + usize::from(upper),
+            upper: usize::from(upper),
+        })?;
+    }
+    Ok(edges)
+}
+
+fn tell<L: Ledger>(graph: &mut Graph, id: usize, bridges: u16, turns: u32, blank: Blank) -> u32
+    requires name { blank.name ≡ L.name }
+    requires parts { blank.parts ≡ L.parts }
+    requires some { 0 < L.parts }
+{
+    let mut steps = Steps::<L>::new(blank);
+    for port in 0..=usize::from(bridges) {
+        let place = usize::from(bridges) + port;
+        if place < graph.len() {
+            graph.set_present(place, true, &mut steps);
+        }
+    }
+    let mut told = 0;
+    for turn in 0..turns {
+        if id < graph.len() {
+            graph.set_carrier(id, turn % 2 == 1, &mut steps);
+            told = turn + 1;
+        }
+    }
+    told
+}
+
+fn run(alloc: Global, load: &Load) -> Result<u32, Memory> {
+    let rows = rows_of(alloc, load.bridges)?;
+    let edges = edges_of(alloc, load.bridges)?;
+    if !can_load(rows.as_slice(), edges.as_slice()) {
+        return Ok(0);
+    }
+    let mut graph = Graph::load(alloc, rows.as_slice(), edges.as_slice())?;
+    let name = 2 * usize::from(load.bridges);
+    let id = if load.is_port && name > 0 {
+        name - 1
+    } else {
+        name
+    };
+    Ok(tell::<Brand>(&mut graph, id, load.bridges, load.turns, Blank::new(1)))
+}
+
+fn asked(rt: &(impl Env + AllocGlobal)) -> io::Result<Load> {
+    let mut words = env::args(rt)?.skip(1);
+    let is_port = match words.next() {
+        Some(word) => word.as_str() == "port",
+        None => false,
+    };
+    let bridges = match words.next() {
+        Some(word) => word.as_str().parse().unwrap_or(0),
+        None => 0,
+    };
+    let turns = match words.next() {
+        Some(word) => word.as_str().parse().unwrap_or(0),
+        None => 0,
+    };
+    Ok(Load {
+        is_port,
+        bridges,
+        turns,
+    })
+}
+
+fn main(rt: HostRuntime) -> io::Result<ExitCode> {
+    let load = asked(&rt)?;
+    match run(rt.alloc(), &load) {
+        Ok(told) => {
+            println!(rt; "{told}")?;
+            Ok(ExitCode::SUCCESS)
+        }
+        Err(_) => {
+            eprintln!(rt; "count_load: out of memory")?;
+            Ok(ExitCode::FAILURE)
+        }
+    }
+}
