@@ -1,7 +1,9 @@
 //! Worked examples of the message bus, by public calls alone: blobs that are read, refused and
-//! written, and JSON both ways.
+//! written, JSON both ways, and frames however their bytes are cut.
 #![tactic(auto)]
 
+#[cfg(test)]
+mod frames;
 #[cfg(test)]
 mod hostile;
 #[cfg(test)]
