@@ -251,26 +251,28 @@ const NOTHING: Network = Network {
     facts: &[],
 };
 
+const ROUTER_PORTS: &[Fact<'static>] = &[
+    Present("lo", true),
+    Present("lan1", true),
+    Present("lan2", true),
+    Present("lan3", true),
+    Present("lan4", true),
+    Present("wan", true),
+];
+
+const ROUTER_ANSWERED: &[Fact<'static>] = &[
+    Present("wan", true),
+    Answer("wan", None, "192.0.2.5/24"),
+    Answer("wan6", None, "2001:db8::5/64"),
+];
+
 #[test]
 fn the_file_of_a_router(rt: HostRuntime) -> Result<(), Fail> {
-    let ports = [
-        Present("lo", true),
-        Present("lan1", true),
-        Present("lan2", true),
-        Present("lan3", true),
-        Present("lan4", true),
-        Present("wan", true),
-    ];
-    let answered = [
-        Present("wan", true),
-        Answer("wan", None, "192.0.2.5/24"),
-        Answer("wan6", None, "2001:db8::5/64"),
-    ];
     let cases: [(Network, Network, &[u8]); 2] = [
-        (NOTHING, wired(ROUTER, &ports), ROUTER_CALLS),
+        (NOTHING, wired(ROUTER, ROUTER_PORTS), ROUTER_CALLS),
         (
             NOTHING,
-            wired(ROUTER, &answered),
+            wired(ROUTER, ROUTER_ANSWERED),
             b"link set dev wan up
 addr add 192.0.2.5/24 dev wan
 addr add 2001:db8::5/64 dev wan
@@ -406,57 +408,65 @@ config interface x
     assert_asked(&rt, rt.alloc(), &cases)
 }
 
+const DARK_ALONE: &[Fact<'static>] = &[Present("eth1", false)];
+
+const ANSWERED_ALONE: &[Fact<'static>] = &[Answer("wan", None, "192.0.2.5/24")];
+
+const DARK: &[Fact<'static>] = &[Present("eth1", false), Answer("wan", None, "192.0.2.5/24")];
+
+const LIT: &[Fact<'static>] = &[Present("eth1", true), Answer("wan", None, "192.0.2.5/24")];
+
+const BROUGHT_DOWN: &[Fact<'static>] = &[
+    Present("eth1", true),
+    Answer("wan", None, "192.0.2.5/24"),
+    Command("wan", false),
+];
+
 #[test]
 fn an_interface_waits_for_carrier_and_an_answer(rt: HostRuntime) -> Result<(), Fail> {
-    let dark = [Present("eth1", false), Answer("wan", None, "192.0.2.5/24")];
-    let lit = [Present("eth1", true), Answer("wan", None, "192.0.2.5/24")];
-    let down = [
-        Present("eth1", true),
-        Answer("wan", None, "192.0.2.5/24"),
-        Command("wan", false),
-    ];
     let cases: [(Network, Network, &[u8]); 4] = [
         (
             NOTHING,
-            wired(ONE_WAN, &[Present("eth1", false)]),
+            wired(ONE_WAN, DARK_ALONE),
             b"link set dev eth1 up\n",
         ),
         (
-            wired(ONE_WAN, &dark),
-            wired(ONE_WAN, &lit),
+            wired(ONE_WAN, DARK),
+            wired(ONE_WAN, LIT),
             b"addr add 192.0.2.5/24 dev eth1\n",
         ),
         (
-            wired(ONE_WAN, &lit),
-            wired(ONE_WAN, &down),
+            wired(ONE_WAN, LIT),
+            wired(ONE_WAN, BROUGHT_DOWN),
             b"addr del 192.0.2.5/24 dev eth1\nlink set dev eth1 down\n",
         ),
-        (
-            NOTHING,
-            wired(ONE_WAN, &[Answer("wan", None, "192.0.2.5/24")]),
-            b"",
-        ),
+        (NOTHING, wired(ONE_WAN, ANSWERED_ALONE), b""),
     ];
     assert_asked(&rt, rt.alloc(), &cases)
 }
 
-#[test]
-fn a_port_of_a_radio_joins_a_bridge(rt: HostRuntime) -> Result<(), Fail> {
-    let told = [Present("lan1", true), Port("radio0", Some("phy0-ap0"))];
-    let there = [
-        Present("lan1", true),
-        Present("phy0-ap0", true),
-        Port("radio0", Some("phy0-ap0")),
-    ];
-    let network = |facts| Network {
+const PORT_TOLD: &[Fact<'static>] = &[Present("lan1", true), Port("radio0", Some("phy0-ap0"))];
+
+const PORT_THERE: &[Fact<'static>] = &[
+    Present("lan1", true),
+    Present("phy0-ap0", true),
+    Port("radio0", Some("phy0-ap0")),
+];
+
+fn with_radio<'a>(facts: &'a [Fact<'a>]) -> Network<'a> {
+    Network {
         network: WITH_RADIO,
         wireless: RADIO,
         facts,
-    };
+    }
+}
+
+#[test]
+fn a_port_of_a_radio_joins_a_bridge(rt: HostRuntime) -> Result<(), Fail> {
     let cases: [(Network, Network, &[u8]); 2] = [
         (
             NOTHING,
-            network(&told),
+            with_radio(PORT_TOLD),
             b"link add name br-lan type bridge
 link set dev lan1 master br-lan
 link set dev br-lan up
@@ -465,8 +475,8 @@ addr add 192.168.1.1/24 dev br-lan
 ",
         ),
         (
-            network(&told),
-            network(&there),
+            with_radio(PORT_TOLD),
+            with_radio(PORT_THERE),
             b"link set dev phy0-ap0 master br-lan
 link set dev phy0-ap0 up
 ",
