@@ -2,5 +2,18 @@
 #![tactic(auto)]
 
 mod changes;
+mod drops;
+mod needed;
+mod needs;
+mod opens;
+mod order;
+mod places;
+mod same;
+mod steps;
 
 pub use changes::changed;
+pub use needed::{interface_needs, radio_needs};
+pub use needs::{interface_need, radio_need};
+pub use order::in_order;
+pub use same::{same_interface_ask, same_radio_ask};
+pub use steps::{after, asked};

@@ -1,0 +1,3 @@
+pub mod OrderLemmas
+pub mod NeededLemmas
+pub mod AskedLemmas

@@ -1,0 +1,4 @@
+-- What an event makes of inputs, as the program computes it.
+
+-- options by their names
+pub mod ByName

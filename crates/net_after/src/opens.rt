@@ -1,0 +1,147 @@
+ghost use Rattle.std.specs.Prelude.{◌≡◌, ◌+◌, ◌++◌, ◌^◌, ◌<◌, ◌≤◌, map, length, filter, is_none, IfOk};
+ghost use Rattle.std.specs.List.{filter_map};
+ghost use Rattle.net_rules.specs.Rows.{interfaces_of, radios_of};
+ghost use Rattle.net_rules.specs.Need as need;
+ghost use Rattle.net_rules.specs.After as spec;
+ghost use Rattle.net_rules.specs.Inputs.{facts_of, open_interface, open_radio};
+ghost use Rattle.net_rules.specs.Numbers.{AreCountable};
+ghost use Rattle.net_view.specs.Places.{HasPlaces};
+
+use crate::places::{open_interface_places, open_radio_places};
+use net_rules::{Inputs, InterfaceAsk, OpenInterface, OpenRadio, RadioAsk};
+use plane_io::{Items, Memory, Text};
+use std::alloc::Global;
+use std::collections::BTreeMap;
+
+/// The inputs where each of these needs has an ask: one that had none gets the next number, interfaces first.
+pub fn asks_opened(
+    alloc: Global,
+    inputs: Inputs,
+    interface_needs: Items<InterfaceAsk>,
+    radio_needs: Items<RadioAsk>,
+) -> Result<Inputs, Memory>
+    requires countable { AreCountable inputs }
+    requires interfaces { interface_needs
+        ≡ filter_map (need.interface_need (facts_of inputs)) (interfaces_of inputs.conf) }
+    requires radios { radio_needs ≡ filter_map need.radio_need (radios_of inputs.conf) }
+    ensures { IfOk result (λ now. now ≡ spec.asks_opened inputs) }
+{
+    let Inputs {
+        conf,
+        devices,
+        commands,
+        interfaces,
+        radios,
+        next,
+    } = inputs;
+    let new_interfaces = interfaces_without_ask(alloc, interface_needs, interfaces.as_slice())?;
+    let new_radios = radios_without_ask(alloc, radio_needs, radios.as_slice())?;
+    let middle = next + new_interfaces.as_slice().len() as u64;
+    let end = middle + new_radios.as_slice().len() as u64;
+    Ok(Inputs {
+        conf,
+        devices,
+        commands,
+        interfaces: with_interfaces(interfaces, next, new_interfaces)?,
+        radios: with_radios(radios, middle, new_radios)?,
+        next: end,
+    })
+}
+
+fn interfaces_without_ask(
+    alloc: Global,
+    needs: Items<InterfaceAsk>,
+    current: &[OpenInterface],
+) -> Result<Items<InterfaceAsk>, Memory>
+    ensures { IfOk result (λ asks. asks
+        ≡ filter (λ ask. is_none (open_interface current.now ask.name)) needs) }
+{
+    let places = open_interface_places(alloc, current)?;
+    let mut asks = Items::new(alloc);
+    for ask in needs.into_vec() {
+        if lacks_interface_ask(current, &places, &ask.name) {
+            asks.push(ask)?;
+        }
+    }
+    Ok(asks)
+}
+
+fn lacks_interface_ask(
+    current: &[OpenInterface],
+    places: &BTreeMap<Text, usize>,
+    name: &Text,
+) -> bool
+    requires { HasPlaces places.now (map (λ o. o.ask.name) current.now) }
+    ensures { result ≡ is_none (open_interface current.now name.now) }
+{
+    !places.contains_key(name)
+}
+
+fn radios_without_ask(
+    alloc: Global,
+    needs: Items<RadioAsk>,
+    current: &[OpenRadio],
+) -> Result<Items<RadioAsk>, Memory>
+    ensures { IfOk result (λ asks. asks
+        ≡ filter (λ ask. is_none (open_radio current.now ask.name)) needs) }
+{
+    let places = open_radio_places(alloc, current)?;
+    let mut asks = Items::new(alloc);
+    for ask in needs.into_vec() {
+        if lacks_radio_ask(current, &places, &ask.name) {
+            asks.push(ask)?;
+        }
+    }
+    Ok(asks)
+}
+
+fn lacks_radio_ask(current: &[OpenRadio], places: &BTreeMap<Text, usize>, name: &Text) -> bool
+    requires { HasPlaces places.now (map (λ o. o.ask.name) current.now) }
+    ensures { result ≡ is_none (open_radio current.now name.now) }
+{
+    !places.contains_key(name)
+}
+
+// The open asks and these with rising numbers.
+fn with_interfaces(
+    current: Items<OpenInterface>,
+    next: u64,
+    asks: Items<InterfaceAsk>,
+) -> Result<Items<OpenInterface>, Memory>
+    requires { next + length asks < 2 ^ 64 }
+    ensures { IfOk result (λ now. now ≡ current ++ spec.opened_interfaces next asks) }
+{
+    let mut now = current;
+    let mut number = next;
+    for ask in asks.into_vec() {
+        now.push(OpenInterface {
+            number,
+            ask,
+            answer: None,
+        })?;
+        number += 1;
+    }
+    Ok(now)
+}
+
+// The open asks and these with rising numbers.
+fn with_radios(
+    current: Items<OpenRadio>,
+    next: u64,
+    asks: Items<RadioAsk>,
+) -> Result<Items<OpenRadio>, Memory>
+    requires { next + length asks < 2 ^ 64 }
+    ensures { IfOk result (λ now. now ≡ current ++ spec.opened_radios next asks) }
+{
+    let mut now = current;
+    let mut number = next;
+    for ask in asks.into_vec() {
+        now.push(OpenRadio {
+            number,
+            ask,
+            ports: None,
+        })?;
+        number += 1;
+    }
+    Ok(now)
+}
