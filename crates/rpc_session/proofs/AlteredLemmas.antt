@@ -1,5 +1,5 @@
 -- What a change of a session at its place makes of the sessions.
-use Rattle.std.proofs.Common.{◌≡◌, ℕ, List, [], get_or, set, Result, Ok, Err, refl, sym, ap, subst, ◌∙◌}
+use Rattle.std.proofs.Common.{◌≡◌, ℕ, List, [], get_or, set, Result, Ok, Err, sym, ap, subst, ◌∙◌}
 use Rattle.std.proofs.lemmas.List.{get_or_default}
 use Rattle.blob_codec.specs.declared.blob.Attr.{Attr}
 use Rattle.rpc_session.specs.declared.session.Session.{Session}

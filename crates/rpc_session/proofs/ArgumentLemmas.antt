@@ -1,5 +1,5 @@
 -- What decoding says of an id.
-use Rattle.std.proofs.Common.{◌≡◌, ℕ, List, Option, Some, None, Result, Ok, Err, MatchResult, refl, sym, ap, ◌∙◌}
+use Rattle.std.proofs.Common.{◌≡◌, ℕ, List, Some, None, Result, Ok, Err, MatchResult, refl, sym, ap, ◌∙◌}
 use Rattle.std.specs.Int.{w128, from_be_bytes}
 use Rattle.hex.specs.declared.error.FromHexError.{FromHexError}
 use Rattle.rpc_session.specs.Arguments.{number_in}

@@ -1,6 +1,7 @@
 mod AlteredLemmas
 mod ArgumentLemmas
-mod PatternLemmas
+mod NameLemmas
+mod OrderLemmas
 mod SessionListLemmas
 mod StepLemmas
 mod ServeLemmas

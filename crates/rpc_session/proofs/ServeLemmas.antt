@@ -1,5 +1,5 @@
 -- What a call of the object `session` answers and leaves, from what its parts do.
-use Rattle.std.proofs.Common.{◌≡◌, ℕ, ◌<◌, List, [], Bool, true, false, length, get_or, set, if◌then◌else◌, Some, None, Option, Result, Ok, Err, IsOk, refl, sym, ap, subst, ◌∙◌, arith}
+use Rattle.std.proofs.Common.{◌≡◌, ℕ, List, [], Bool, true, false, get_or, set, if◌then◌else◌, Some, None, Option, Result, Ok, Err, IsOk, refl, sym, ap, subst, ◌∙◌}
 use Rattle.blob_codec.specs.declared.blob.Attr.{Attr}
 use Rattle.rpc_session.specs.declared.session.Session.{Session}
 use Rattle.rpc_session.specs.declared.session_error.SessionError.{SessionError}
@@ -9,7 +9,7 @@ use Rattle.rpc_session.specs.declared.method.Change.{Change}
 use Rattle.rpc_session.specs.declared.method.Method.{Method}
 use Rattle.rpc_session.specs.Session.{is_live, used_at}
 use Rattle.rpc_session.specs.SessionList.{SessionList, nobody, RiseById, IsAt}
-use Rattle.rpc_session.specs.Sessions.{session_of, only_live, changed, where_present, used, Does}
+use Rattle.rpc_session.specs.Sessions.{session_of, only_live, changed, where_present, Does}
 use Rattle.rpc_session.specs.Arguments.{id_in}
 use Rattle.rpc_session.specs.Method.{method_of}
 use Rattle.rpc_session.specs.Serve as spec

@@ -1,6 +1,6 @@
 -- How a session is told: its grants, its values, its seconds and its id.
-use Rattle.std.specs.Prelude.{ℕ, ◌^◌, pos, List, [], ◌∷◌, codes, map, filter, nat_lt, ◌&&◌, fold, ◌++◌, Bool, if◌then◌else◌}
-use Rattle.std.specs.List.{list_any}
+use Rattle.std.specs.Prelude.{ℕ, ◌^◌, pos, List, [], ◌∷◌, codes, map, filter, nat_lt, ◌&&◌, if◌then◌else◌}
+use Rattle.plane_words.specs.InOrder.{ordered}
 use Rattle.blob_codec.specs.declared.blob.Blob.{Blob}
 use Rattle.blob_codec.specs.declared.blob.Blob.TheVariants.{Array, Table, Str, I64, I32}
 use Rattle.blob_codec.specs.declared.blob.Attr.{Attr}
@@ -9,22 +9,11 @@ use Rattle.rpc_session.specs.declared.session.Session.{Session}
 use Rattle.rpc_session.specs.Grant.{same_text}
 use Rattle.rpc_session.specs.Session.{seconds_left}
 use Rattle.rpc_session.specs.Arguments.{id_text}
+use Rattle.rpc_session.specs.Values.{byte_order, in_order}
 
 -- a value by name
 abbrev pub named : List ℕ → Blob → Attr
 named name value = record { name = name; value = value }
-
--- a text is among these
-abbrev pub has_text : List (List ℕ) → List ℕ → Bool
-has_text texts text = list_any (λ other. same_text other text) texts
-
--- the texts with another one at their end, where they lack it
-abbrev pub with_text : List (List ℕ) → List ℕ → List (List ℕ)
-with_text texts text = if has_text texts text then texts else texts ++ text ∷ []
-
--- the texts with each of the others once, at its first place
-abbrev pub with_texts : List (List ℕ) → List (List ℕ) → List (List ℕ)
-with_texts texts others = fold with_text texts others
 
 -- a function without a name
 abbrev pub function_item : Grant → Attr
@@ -35,10 +24,10 @@ abbrev pub functions : List Grant → List ℕ → List ℕ → List Attr
 functions grants scope object =
     map function_item (filter (λ grant. same_text grant.scope scope && same_text grant.object object) grants)
 
--- the objects of a scope, each once, as they were first granted
+-- the objects of a scope in byte order, each once
 abbrev pub objects : List Grant → List ℕ → List (List ℕ)
 objects grants scope =
-    with_texts [] (map (λ (grant : Grant). grant.object) (filter (λ grant. same_text grant.scope scope) grants))
+    ordered byte_order (map (λ (grant : Grant). grant.object) (filter (λ grant. same_text grant.scope scope) grants))
 
 -- an object with its functions
 abbrev pub object_item : List Grant → List ℕ → List ℕ → Attr
@@ -48,9 +37,9 @@ object_item grants scope object = named object (Array (functions grants scope ob
 abbrev pub object_items : List Grant → List ℕ → List Attr
 object_items grants scope = map (object_item grants scope) (objects grants scope)
 
--- the scopes, each once, as they were first granted
+-- the scopes in byte order, each once
 abbrev pub scopes : List Grant → List (List ℕ)
-scopes grants = with_texts [] (map (λ (grant : Grant). grant.scope) grants)
+scopes grants = ordered byte_order (map (λ (grant : Grant). grant.scope) grants)
 
 -- a scope with its objects
 abbrev pub scope_item : List Grant → List ℕ → Attr
@@ -64,11 +53,11 @@ acls grants = map (scope_item grants) (scopes grants)
 abbrev pub number : ℕ → Blob
 number n = if nat_lt n (2 ^ 31) then I32 (pos n) else I64 (pos n)
 
--- what `create` and `list` tell of a session
+-- what `create` and `list` tell of a session: its values in byte order of their names
 abbrev pub description : ℕ → Session → List Attr
 description now session =
     named (codes "acls") (Table (acls session.grants))
-    ∷ named (codes "data") (Table session.values)
+    ∷ named (codes "data") (Table (in_order session.values))
     ∷ named (codes "expires") (number (seconds_left now session))
     ∷ named (codes "timeout") (number session.timeout)
     ∷ named (codes "ubus_rpc_session") (Str (id_text session.id))

@@ -1,5 +1,6 @@
 -- Grants, which say who may do what (OpenWrt's rpcd, sessions).
-use Rattle.std.specs.Prelude.{ℕ, List, Bool, ◌&&◌, nat_eq}
+use Rattle.std.specs.Prelude.{ℕ, List, [], ◌∷◌, ◌++◌, Bool, ◌&&◌, nat_eq, if◌then◌else◌}
+use Rattle.std.specs.List.{list_any}
 use Rattle.std.specs.Cmp.Lexicographic.{pointwise}
 use Rattle.plane_words.specs.Pattern.{fits}
 use Rattle.rpc_session.specs.declared.grant.Grant.{Grant}
@@ -19,3 +20,11 @@ same_grant one other = same_text one.scope other.scope && same_text one.object o
 -- the grant has the scope that is wanted, and its patterns fit the object and the function
 abbrev pub permits : Grant → Grant → Bool
 permits grant wanted = same_text grant.scope wanted.scope && fits grant.object wanted.object && fits grant.function wanted.function
+
+-- the grant is one of these
+abbrev pub holds : List Grant → Grant → Bool
+holds grants grant = list_any (λ held. same_grant held grant) grants
+
+-- the grants with another one at their end, where they lack it
+abbrev pub with : Grant → List Grant → List Grant
+with grant grants = if holds grants grant then grants else grants ++ grant ∷ []

@@ -4,8 +4,6 @@
 pub mod Denied
 -- numbers of errors
 pub mod SessionError
--- how a pattern goes on behind its first star
-pub mod Pattern
 -- what a grant permits
 pub mod Grant
 -- one session
@@ -20,6 +18,8 @@ pub mod Arguments
 pub mod Objects
 -- what a user keeps in a session
 pub mod Values
+-- values by their names, as the program keeps them
+pub mod ByName
 -- how a session is told
 pub mod Description
 -- the methods by name

@@ -1,8 +1,6 @@
 -- The methods of the object `session`, by name.
-use Rattle.std.specs.Prelude.{ℕ, List, Option, Some, None, Bool, codes, if◌then◌else◌}
-use Rattle.rpc_session.specs.declared.method.Question.{Question}
+use Rattle.std.specs.Prelude.{ℕ, List, Option, Some, None, codes, if◌then◌else◌}
 use Rattle.rpc_session.specs.declared.method.Question.TheVariants.{Listing, Access, Values}
-use Rattle.rpc_session.specs.declared.method.Change.{Change}
 use Rattle.rpc_session.specs.declared.method.Change.TheVariants.{Grant as ToGrant, Revoke, Set, Unset}
 use Rattle.rpc_session.specs.declared.method.Method.{Method}
 use Rattle.rpc_session.specs.declared.method.Method.TheVariants.{Create, Destroy, Ask, Alter}

@@ -1,10 +1,10 @@
 -- The argument `objects`: pairs of an object and a function, with which a scope makes grants.
-use Rattle.std.specs.Prelude.{ℕ, List, [], ◌∷◌, ◌++◌, Option, Some, None, Bool, true, false, ◌&&◌, is_some, if◌then◌else◌}
+use Rattle.std.specs.Prelude.{ℕ, List, [], ◌∷◌, Option, Some, None, Bool, false, ◌&&◌, is_some}
 use Rattle.std.specs.List.{list_any, list_all}
 use Rattle.blob_codec.specs.declared.blob.Blob.{Blob}
 use Rattle.blob_codec.specs.declared.blob.Attr.{Attr}
 use Rattle.rpc_session.specs.declared.grant.Grant.{Grant}
-use Rattle.rpc_session.specs.Grant.{same_text, same_grant}
+use Rattle.rpc_session.specs.Grant.{same_text, grant_of, with}
 use Rattle.rpc_session.specs.Arguments.{text_of, array_of}
 
 -- an object and a function
@@ -50,18 +50,10 @@ has_pair items grant = list_any (λ item. is_pair_of grant (pair_of item.value))
 abbrev pub is_told : List ℕ → List Attr → Grant → Bool
 is_told scope items grant = same_text grant.scope scope && has_pair items grant
 
--- the grant is one of these
-abbrev pub holds : List Grant → Grant → Bool
-holds grants grant = list_any (λ held. same_grant held grant) grants
-
--- the grants with another one at their end, where they lack it
-abbrev pub with : Grant → List Grant → List Grant
-with grant grants = if holds grants grant then grants else grants ++ grant ∷ []
-
 -- the grants with that of a scope and a pair
 abbrev pub with_pair : List Grant → List ℕ → Option Pair → List Grant
 with_pair grants scope None = grants
-with_pair grants scope (Some pair) = with (record { scope = scope; object = pair.0; function = pair.1 }) grants
+with_pair grants scope (Some pair) = with (grant_of scope pair.0 pair.1) grants
 
 -- the grants with those of a scope and of each pair
 abbrev pub with_pairs : List Grant → List ℕ → List Attr → List Grant

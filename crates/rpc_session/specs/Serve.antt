@@ -3,7 +3,6 @@ use Rattle.std.specs.Prelude.{ℕ, ◌≡◌, ◌<◌, pos, length, slice_index_
 use Rattle.blob_codec.specs.declared.blob.Blob.{Blob}
 use Rattle.blob_codec.specs.declared.blob.Blob.TheVariants.{Table, I8}
 use Rattle.blob_codec.specs.declared.blob.Attr.{Attr}
-use Rattle.rpc_session.specs.declared.grant.Grant.{Grant}
 use Rattle.rpc_session.specs.declared.session.Session.{Session}
 use Rattle.rpc_session.specs.declared.session_error.SessionError.{SessionError}
 use Rattle.rpc_session.specs.declared.session_error.SessionError.TheVariants.{NoSession, Argument, NoMethod}

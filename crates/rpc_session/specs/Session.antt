@@ -1,9 +1,9 @@
 -- Sessions (OpenWrt's rpcd).
-use Rattle.std.specs.Prelude.{ℕ, [], ◌∷◌, ◌++◌, ◌-◌, Bool, not, ◌||◌, nat_eq, nat_lt, filter, if◌then◌else◌}
+use Rattle.std.specs.Prelude.{ℕ, [], ◌-◌, Bool, not, ◌||◌, nat_eq, nat_lt, filter}
 use Rattle.std.specs.List.{list_any}
 use Rattle.rpc_session.specs.declared.grant.Grant.{Grant}
 use Rattle.rpc_session.specs.declared.session.Session.{Session}
-use Rattle.rpc_session.specs.Grant.{permits, same_grant}
+use Rattle.rpc_session.specs.Grant.{permits, same_grant, with}
 
 -- a new session
 abbrev pub new_session : ℕ → ℕ → ℕ → Session
@@ -17,13 +17,9 @@ is_live now session = nat_eq session.timeout 0 || nat_lt (now - session.last_use
 abbrev pub may : Grant → Session → Bool
 may wanted session = list_any (λ grant. permits grant wanted) session.grants
 
--- the grant is one of the session's
-abbrev pub has_grant : Grant → Session → Bool
-has_grant grant session = list_any (λ held. same_grant held grant) session.grants
-
--- the session with the grant, at the end where it is new
+-- the session with the grant
 abbrev pub with_grant : Grant → Session → Session
-with_grant grant session = if has_grant grant session then session else record session { grants = session.grants ++ grant ∷ [] }
+with_grant grant session = record session { grants = with grant session.grants }
 
 -- the session without the grant
 abbrev pub without_grant : Grant → Session → Session

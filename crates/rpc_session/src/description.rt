@@ -1,19 +1,23 @@
 ghost use Rattle.std.specs.Prelude.{◌≡◌, IfOk, OnOk};
+ghost use Rattle.plane_words.specs.InOrder.{put_in};
+ghost use Rattle.rpc_session.specs.Values.{byte_order};
 ghost use Rattle.rpc_session.specs.Description as spec;
 
 use crate::arguments::id_text;
+use crate::by_name::in_order;
 use crate::{Grant, Session};
 use blob_codec::{Attr, Blob, copy_attrs};
 use plane_io::{Memory, Text};
 use sqlite_items::Items;
 use std::alloc::Global;
+use std::collections::BTreeSet;
 
 /// What `create` and `list` tell of a session: its grants, its values, the seconds that are left, its timeout and its id.
 pub(crate) fn describe(alloc: Global, session: &Session, now: u64) -> Result<Items<Attr>, Memory>
     ensures { IfOk result (λ told. told ≡ spec.description now session.now) }
 {
     let acls = acls(alloc, session.grants.as_slice())?;
-    let values = copy_attrs(alloc, session.values.as_slice())?;
+    let values = in_order(alloc, copy_attrs(alloc, session.values.as_slice())?)?;
     let id = id_text(alloc, session.id)?;
     let mut told = Items::new(alloc);
     told.push(named(alloc, b"acls", Blob::Table(acls))?)?;
@@ -46,9 +50,8 @@ fn number(number: u32) -> Blob
 fn acls(alloc: Global, grants: &[Grant]) -> Result<Items<Attr>, Memory>
     ensures { IfOk result (λ told. told ≡ spec.acls grants.now) }
 {
-    let scopes = scopes(alloc, grants)?;
     let mut told = Items::new(alloc);
-    for scope in scopes.as_slice() {
+    for scope in scopes(alloc, grants)? {
         let objects = object_items(alloc, grants, scope.as_bytes())?;
         told.push(named(alloc, scope.as_bytes(), Blob::Table(objects))?)?;
     }
@@ -58,9 +61,8 @@ fn acls(alloc: Global, grants: &[Grant]) -> Result<Items<Attr>, Memory>
 fn object_items(alloc: Global, grants: &[Grant], scope: &[u8]) -> Result<Items<Attr>, Memory>
     ensures { IfOk result (λ told. told ≡ spec.object_items grants.now scope.now) }
 {
-    let objects = objects(alloc, grants, scope)?;
     let mut told = Items::new(alloc);
-    for object in objects.as_slice() {
+    for object in objects(alloc, grants, scope)? {
         let functions = functions(alloc, grants, scope, object.as_bytes())?;
         told.push(named(alloc, object.as_bytes(), Blob::Array(functions))?)?;
     }
@@ -85,22 +87,22 @@ fn functions(
     Ok(told)
 }
 
-/// The scopes, each once.
-fn scopes(alloc: Global, grants: &[Grant]) -> Result<plane_io::Items<Text>, Memory>
-    ensures { IfOk result (λ scopes. scopes ≡ spec.scopes grants.now) }
+/// The scopes in byte order, each once.
+fn scopes(alloc: Global, grants: &[Grant]) -> Result<BTreeSet<Text>, Memory>
+    ensures { IfOk result (λ scopes. scopes.keys ≡ spec.scopes grants.now) }
 {
-    let mut scopes = plane_io::Items::new(alloc);
+    let mut scopes = BTreeSet::new(alloc);
     for grant in grants {
         add_text(&mut scopes, &grant.scope)?;
     }
     Ok(scopes)
 }
 
-/// The objects of a scope, each once.
-fn objects(alloc: Global, grants: &[Grant], scope: &[u8]) -> Result<plane_io::Items<Text>, Memory>
-    ensures { IfOk result (λ objects. objects ≡ spec.objects grants.now scope.now) }
+/// The objects of a scope in byte order, each once.
+fn objects(alloc: Global, grants: &[Grant], scope: &[u8]) -> Result<BTreeSet<Text>, Memory>
+    ensures { IfOk result (λ objects. objects.keys ≡ spec.objects grants.now scope.now) }
 {
-    let mut objects = plane_io::Items::new(alloc);
+    let mut objects = BTreeSet::new(alloc);
     for grant in grants {
         if grant.scope.as_bytes() == scope {
             add_text(&mut objects, &grant.object)?;
@@ -109,17 +111,9 @@ fn objects(alloc: Global, grants: &[Grant], scope: &[u8]) -> Result<plane_io::It
     Ok(objects)
 }
 
-fn add_text(texts: &mut plane_io::Items<Text>, text: &Text) -> Result<(), Memory>
-    ensures { OnOk result (texts.new ≡ spec.with_text texts.old text.now) }
+fn add_text(texts: &mut BTreeSet<Text>, text: &Text) -> Result<(), Memory>
+    ensures { OnOk result (texts.new.keys ≡ put_in byte_order text.now texts.old.keys) }
 {
-    if !has_text(texts.as_slice(), text) {
-        texts.push(text.copy()?)?;
-    }
+    let _new = texts.insert(text.copy()?)?;
     Ok(())
-}
-
-fn has_text(texts: &[Text], text: &Text) -> bool
-    ensures { result ≡ spec.has_text texts.now text.now }
-{
-    texts.iter().any(|other| other == text)
 }

@@ -1,7 +1,7 @@
 ghost use Rattle.std.specs.Prelude.{◌≡◌, IfOk};
 ghost use Rattle.rpc_session.specs.Grant as spec;
 
-use crate::pattern::fits;
+use grant_patterns::fits;
 use plane_io::{Memory, Text};
 use std::alloc::Global;
 
@@ -52,4 +52,11 @@ impl Grant {
             function: self.function.copy()?,
         })
     }
+}
+
+/// Whether the grant is one of these.
+pub(crate) fn holds(grants: &[Grant], grant: &Grant) -> bool
+    ensures { result ≡ spec.holds grants.now grant.now }
+{
+    grants.iter().any(|held| held.same(grant))
 }

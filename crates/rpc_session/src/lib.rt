@@ -4,12 +4,13 @@
 mod altering;
 mod answering;
 mod arguments;
+mod by_name;
 mod denied;
 mod description;
 mod grant;
+mod laws;
 mod method;
 mod objects;
-mod pattern;
 mod serve;
 mod session;
 mod session_error;
@@ -22,6 +23,7 @@ pub use arguments::{
 };
 pub use denied::Denied;
 pub use grant::Grant;
+pub use laws::values_stand_in_order;
 pub use session::Session;
 pub use session_error::SessionError;
 pub use sessions::{MOST_SESSIONS, Sessions};

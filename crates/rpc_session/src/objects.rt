@@ -1,8 +1,10 @@
 ghost use Rattle.std.specs.Prelude.{◌≡◌, Some, None, IfSome, IfNone, IfOk, OnOk};
+ghost use Rattle.rpc_session.specs.Grant.{with};
 ghost use Rattle.rpc_session.specs.Objects as spec;
 
 use crate::Grant;
 use crate::arguments::{array_of, text_of};
+use crate::grant::holds;
 use blob_codec::{Attr, Blob};
 use plane_io::{Items, Memory};
 use std::alloc::Global;
@@ -86,18 +88,12 @@ pub(crate) fn with_pairs(
 }
 
 fn add(grants: &mut Items<Grant>, grant: Grant) -> Result<(), Memory>
-    ensures { OnOk result (grants.new ≡ spec.with grant grants.old) }
+    ensures { OnOk result (grants.new ≡ with grant grants.old) }
 {
     if !holds(grants.as_slice(), &grant) {
         grants.push(grant)?;
     }
     Ok(())
-}
-
-fn holds(grants: &[Grant], grant: &Grant) -> bool
-    ensures { result ≡ spec.holds grants.now grant.now }
-{
-    grants.iter().any(|held| held.same(grant))
 }
 
 fn copy_grants(alloc: Global, grants: &[Grant]) -> Result<Items<Grant>, Memory>

@@ -1,4 +1,4 @@
-ghost use Rattle.std.specs.Prelude.{◌≡◌, ◌≢◌, ◌<◌, ◌^◌, Ok, Err, IfOk, IfErr, length, slice_index_or};
+ghost use Rattle.std.specs.Prelude.{◌≡◌, ◌≢◌, ◌<◌, ◌^◌, Ok, Err, IfOk, IfErr, codes, length, slice_index_or};
 ghost use Rattle.rpc_session.specs.Arguments.{id_in};
 ghost use Rattle.rpc_session.specs.SessionList.{nobody};
 ghost use Rattle.rpc_session.specs.Serve as spec;
@@ -30,7 +30,7 @@ impl Sessions {
         now: u64,
         word: u64,
     ) -> Result<Items<Attr>, SessionError>
-        requires { self.old.next < 2 ^ 63 }
+        requires { method.now ≡ codes "create" → self.old.next < 2 ^ 63 }
         ensures done { result ≢ Err SessionError.Memory →
             spec.IsDone (spec.session_done method.now args.now now word self.old) result self.new }
         ensures memory { result ≡ Err SessionError.Memory →

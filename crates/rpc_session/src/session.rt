@@ -2,6 +2,7 @@ ghost use Rattle.std.specs.Prelude.{◌≡◌, OnOk, OnErr};
 ghost use Rattle.rpc_session.specs.Session as spec;
 
 use crate::Grant;
+use crate::grant::holds;
 use blob_codec::Attr;
 use plane_io::{Items, Memory};
 use std::alloc::Global;
@@ -52,19 +53,12 @@ impl Session {
             .any(|grant| grant.permits(wanted))
     }
 
-    /// Whether it has the grant.
-    pub(crate) fn has(&self, grant: &Grant) -> bool
-        ensures { result ≡ spec.has_grant grant.now self.now }
-    {
-        self.grants.as_slice().iter().any(|held| held.same(grant))
-    }
-
     /// Adds the grant at the end, where the session does not have it.
     pub(crate) fn add(&mut self, grant: &Grant) -> Result<(), Memory>
         ensures ok { OnOk result (self.new ≡ spec.with_grant grant.now self.old) }
         ensures err { OnErr result (self.new ≡ self.old) }
     {
-        if !self.has(grant) {
+        if !holds(self.grants.as_slice(), grant) {
             self.grants.push(grant.copy()?)?;
         }
         Ok(())

@@ -75,7 +75,7 @@ impl Sessions {
         Ok(id)
     }
 
-    /// The number that the next session gets. `create` and `serve` have the condition that it is below 2^63.
+    /// The number that the next session gets. Where one is made, it is to be below 2^63.
     pub fn next_number(&self) -> u64
         ensures { result ≡ self.now.next }
     {
@@ -84,7 +84,6 @@ impl Sessions {
 
     /// The id that the next session gets with this random word.
     pub(crate) fn next_id(&self, word: u64) -> u128
-        requires { self.now.next < 2 ^ 63 }
         ensures { result ≡ spec.id_of self.now.next word }
     {
         (u128::from(self.next) << 64) + u128::from(word)

@@ -4,13 +4,14 @@ ghost use Rattle.rpc_session.specs.Arguments.{text_of as text_in};
 ghost use Rattle.rpc_session.specs.Values as spec;
 
 use crate::arguments::{array_of, text_of};
+use crate::by_name::in_order;
 use blob_codec::{Attr, Blob, copy_attrs};
 use plane_io::Memory;
 use sqlite_items::Items;
 use std::alloc::Global;
 use std::slice;
 
-/// The values with others set, in memory of their own. Of equal names the last counts.
+/// The values with others set, in memory of their own.
 pub(crate) fn with_values(
     alloc: Global,
     values: &[Attr],
@@ -18,36 +19,9 @@ pub(crate) fn with_values(
 ) -> Result<Items<Attr>, Memory>
     ensures { IfOk result (λ made. made ≡ spec.with_values values.now others.now) }
 {
-    let mut made = Items::new(alloc);
-    add_lasts(alloc, &mut made, values, others)?;
-    add_lasts(alloc, &mut made, others, &[])?;
-    Ok(made)
-}
-
-/// Adds copies of the values that no later one has the name of: those of `later` stand behind them.
-fn add_lasts(
-    alloc: Global,
-    made: &mut Items<Attr>,
-    values: &[Attr],
-    later: &[Attr],
-) -> Result<(), Memory>
-    ensures { OnOk result (made.new ≡ made.old ++ spec.lasts later.now values.now) }
-{
-    let mut rest = values;
-    while let Some((attr, others)) = rest.split_first() {
-        if !has_name(others, attr.name.as_bytes()) && !has_name(later, attr.name.as_bytes()) {
-            add_copy(alloc, made, attr)?;
-        }
-        rest = others;
-    }
-    Ok(())
-}
-
-/// Whether a value with this name is among these.
-fn has_name(attrs: &[Attr], name: &[u8]) -> bool
-    ensures { result ≡ spec.has_name attrs.now name.now }
-{
-    attrs.iter().any(|attr| attr.name.as_bytes() == name)
+    let mut made = copy_attrs(alloc, values)?;
+    made.append(copy_attrs(alloc, others)?)?;
+    in_order(alloc, made)
 }
 
 /// Adds a copy of the value at the end.
@@ -115,7 +89,7 @@ fn is_name(value: &Blob, name: &[u8]) -> bool
     text == name
 }
 
-/// The values that are asked for, in memory of their own.
+/// The values that are asked for in byte order of their names, in memory of their own.
 pub(crate) fn asked_values(
     alloc: Global,
     keys: Option<&Blob>,
@@ -130,7 +104,7 @@ pub(crate) fn asked_values(
             add_copy(alloc, &mut made, attr)?;
         }
     }
-    Ok(made)
+    in_order(alloc, made)
 }
 
 /// The values that are not asked for, in memory of their own.

@@ -11,7 +11,7 @@ use Rattle.ubus_frames.specs.declared.frame_error.FrameError.{FrameError}
 use Rattle.ubus_frames.specs.declared.frame_error.FrameError.TheVariants.{Version, TooLong}
 use Rattle.ubus_frames.specs.Fault as fault
 use Rattle.ubus_frames.specs.Fault.{IsFieldsFault, IsFrameFault, IsHeadFault, IsWordFault, too_long, bad_length, bad_type}
-use Rattle.ubus_frames.specs.Feeding.{HasFound, HasFront, Moves, StreamSoFar, IsFaultOf, no_fault, a_fault}
+use Rattle.ubus_frames.specs.Feeding.{HasFound, HasFront, Moves, PushesSoFar, StreamSoFar, IsFaultOf, no_fault, a_fault}
 use Rattle.ubus_frames.specs.Frame.{HasHead, IsPlainBlob, bare, version_in, bare_in, blob_in, blob_length_in, fields_in}
 use Rattle.ubus_frames.specs.Layout.{BeginsWithFrame, IsUnfinished, MakesOf, SpellsFrame}
 use Rattle.ubus_frames.specs.Stream as stream
@@ -217,15 +217,39 @@ divides_more bytes piece frames found rest end (stream.frame _ first others _ _ 
 pub front_shorter : (rest : List ℕ) (front : Front) → HasFront rest front → length front.behind.now < length rest
 front_shorter rest front h = let s : front.size ≡ 8 + blob_length_in rest = h.size_is in omega (arith, shorter rest front h)
 
-pub moves_from : (others after : List Frame) (bytes slice rest : List ℕ) (found : Found) → HasFound slice found → slice ≡ bytes → rest ≡ drop found.size bytes
-    → after ≡ others ++ found.frames.items → Moves others after bytes rest found.fault
-moves_from others after bytes slice rest found h s r a =
-    let e : drop found.size slice ≡ rest = ap (drop found.size) s ∙ sym r in
+pub pushes_start : (bytes : List ℕ) (others after : List Frame) → after ≡ others → PushesSoFar 0 bytes bytes others after
+pushes_start bytes others after same = record { found = []; frames = same ∙ sym (append-nil others); so_far = stream_start bytes }
+
+pub pushes_more : (at : ℕ) (bytes rest : List ℕ) (others before after : List Frame) (front : Front) → PushesSoFar at bytes rest others before → HasFront rest front
+    → after ≡ before ++ front.frame ∷ [] → PushesSoFar (at + front.size) bytes front.behind.now others after
+pushes_more at bytes rest others before after front so h p =
     record {
-      found = found.frames.items;
-      divides = subst (λ (xs : List ℕ). Divides xs found.frames.items rest) s (subst (λ (xs : List ℕ). Divides slice found.frames.items xs) e h.divides);
-      frames = a;
-      fault_is = subst (λ (xs : List ℕ). IsFaultOf xs found.fault) e h.fault;
+      found = so.found ++ front.frame ∷ [];
+      frames = p ∙ (ap (λ fs. fs ++ front.frame ∷ []) so.frames ∙ append_assoc others so.found (front.frame ∷ []));
+      so_far = stream_more at bytes rest so.found (so.found ++ front.frame ∷ []) front so.so_far h refl;
+    }
+
+pub pushes_end : (at : ℕ) (bytes rest : List ℕ) (others after : List Frame) (fault : Option FrameError) → PushesSoFar at bytes rest others after → IsFaultOf rest fault
+    → HasFound bytes others after (record { size = at; fault = fault })
+pushes_end at bytes rest others after fault so f =
+    let k : at + length rest ≡ length bytes = so.so_far.room in
+    record {
+      found = so.found;
+      frames = so.frames;
+      room = omega arith;
+      divides = stream_end at bytes rest so.found so.so_far (rest_of rest fault f);
+      fault = subst (λ (end : List ℕ). IsFaultOf end fault) so.so_far.place f;
+    }
+
+pub moves_from : (others after : List Frame) (bytes slice rest : List ℕ) (front : Found) → HasFound slice others after front → slice ≡ bytes → rest ≡ drop front.size bytes
+    → Moves others after bytes rest front.fault
+moves_from others after bytes slice rest front h s r =
+    let e : drop front.size slice ≡ rest = ap (drop front.size) s ∙ sym r in
+    record {
+      found = h.found;
+      divides = subst (λ (xs : List ℕ). Divides xs h.found rest) s (subst (λ (xs : List ℕ). Divides slice h.found xs) e h.divides);
+      frames = h.frames;
+      fault_is = subst (λ (xs : List ℕ). IsFaultOf xs front.fault) e h.fault;
     }
 
 pub fault_there : (rest : List ℕ) (o : Option FrameError) (error : FrameError) → IsFaultOf rest o → o ≡ Some error → IsFrameFault rest error

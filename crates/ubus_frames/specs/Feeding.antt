@@ -1,5 +1,5 @@
 -- What the feeder keeps, and finds.
-use Rattle.std.specs.Prelude.{ℕ, ◌+◌, ◌≡◌, ◌≢◌, ◌≤◌, List, ◌++◌, drop, length, Option, Some, None}
+use Rattle.std.specs.Prelude.{ℕ, ◌+◌, ◌≡◌, ◌≢◌, ◌≤◌, List, ◌++◌, take, drop, length, Option, Some, None}
 use Rattle.ubus_frames.specs.declared.frame.Frame.{Frame}
 use Rattle.ubus_frames.specs.declared.frame_error.FrameError.{FrameError}
 use Rattle.ubus_frames.specs.declared.frame_error.FrameError.TheVariants.{Memory}
@@ -30,11 +30,23 @@ pub record StreamSoFar (at : ℕ) (bytes rest : List ℕ) (frames : List Frame) 
   pub sound : (others : List Frame) (end : List ℕ) → Divides rest others end
       → Divides bytes (frames ++ others) end
 
--- the frames in front, how many bytes they take, and the fault behind them
-pub record HasFound (bytes : List ℕ) (found : Found) : Type 0 where
-  pub room : found.size ≤ length bytes
-  pub divides : Divides bytes found.frames.items (drop found.size bytes)
-  pub fault : IsFaultOf (drop found.size bytes) found.fault
+-- the frames that were found so far stand behind the others
+pub record PushesSoFar (at : ℕ) (bytes rest : List ℕ) (others after : List Frame) : Type 0 where
+  pub found : List Frame
+  pub frames : after ≡ others ++ found
+  pub so_far : StreamSoFar at bytes rest found
+
+-- the frames in front of the bytes stand behind the others; how many bytes they take, and the fault behind them
+pub record HasFound (bytes : List ℕ) (others after : List Frame) (front : Found) : Type 0 where
+  pub found : List Frame
+  pub frames : after ≡ others ++ found
+  pub room : front.size ≤ length bytes
+  pub divides : Divides bytes found (drop front.size bytes)
+  pub fault : IsFaultOf (drop front.size bytes) front.fault
+
+-- the others stand in front
+abbrev pub StandInFront : List Frame → List Frame → Type 0
+StandInFront others after = take (length others) after ≡ others
 
 -- the frames in front of the bytes went to the end of the others, and the rest has this fault
 pub record Moves (others after : List Frame) (bytes rest : List ℕ) (fault : Option FrameError) : Type 0 where

@@ -1,7 +1,7 @@
 ghost use Rattle.std.specs.Prelude.{◌≡◌, ◌≢◌, ◌≤◌, [], IfOk, IfErr, OnErr, IfSome, IfNone, Err, MatchOption, List, ℕ, drop, length};
 ghost use Rattle.ubus_frames.specs.declared.frame_error.FrameError.{FrameError};
 ghost use Rattle.ubus_frames.specs.Fault.{IsFrameFault};
-ghost use Rattle.ubus_frames.specs.Feeding.{HasFound, HasFront, Moves};
+ghost use Rattle.ubus_frames.specs.Feeding.{HasFound, HasFront, Moves, StandInFront};
 ghost use Rattle.ubus_frames.specs.Layout.{BeginsWithFrame, IsUnfinished};
 ghost use Rattle.ubus_frames.specs.Stream.{Feeds, Holds, IsRest, Refuses, Takes, behind_frame, empty};
 
@@ -64,6 +64,7 @@ impl Feeder {
         ensures refused { (error : FrameError) → result ≡ Err error → error ≢ FrameError.Memory →
             Refuses piece.now self.old self.new error }
         ensures memory { result ≡ Err FrameError.Memory → self.new ≡ self.old }
+        ensures sound { result ≡ Err FrameError.Memory → IsUnfinished self.old.rest }
     {
         if let Some(fault) = self.fault {
             return Err(fault);
@@ -102,10 +103,17 @@ fn move_frames(
     ensures kept { OnErr result
         ((ready.new.items ≡ ready.old.items) × (bytes.new.items ≡ bytes.old.items)) }
 {
-    let mut found = find_frames(*bytes.allocator(), bytes.as_slice())?;
-    ready.append(&mut found.frames)?;
-    remove_front(bytes, found.size);
-    Ok(found.fault)
+    let count = ready.len();
+    match push_frames(ready, bytes.as_slice()) {
+        Ok(front) => {
+            remove_front(bytes, front.size);
+            Ok(front.fault)
+        }
+        Err(memory) => {
+            ready.truncate(count);
+            Err(memory)
+        }
+    }
 }
 
 /// Removes so many bytes in front.
@@ -121,43 +129,49 @@ fn remove_front(bytes: &mut Vec<u8>, size: usize)
     bytes.truncate(end - size);
 }
 
-/// The whole frames in front of bytes, how many bytes they take, and the fault behind them.
+/// How many bytes the whole frames in front take, and the fault behind them.
 #[derive(Drop)]
 struct Found {
-    frames: VecDeque<Frame>,
     size: usize,
     fault: Option<FrameError>,
 }
 
-fn find_frames(alloc: Global, bytes: &[u8]) -> Result<Found, Memory>
-    ensures { IfOk result (λ found. HasFound bytes.now found) }
+/// Pushes the whole frames in front of the bytes behind the others. Where memory is wanting, some of them stay there.
+fn push_frames(ready: &mut VecDeque<Frame>, bytes: &[u8]) -> Result<Found, Memory>
+    ensures found { IfOk result (λ front.
+        HasFound bytes.now ready.old.items ready.new.items front) }
+    ensures others { OnErr result (StandInFront ready.old.items ready.new.items) }
 {
-    let mut frames = VecDeque::new(alloc);
+    ready.reserve(count_whole(bytes))?;
+    let alloc = *ready.allocator();
     let (mut rest, mut size) = (bytes, 0);
     loop {
         match read_front(alloc, rest) {
             Ok(Some(front)) => {
-                frames.push_back(front.frame)?;
+                ready.push_back(front.frame)?;
                 size += front.size;
                 rest = front.behind;
             }
-            Ok(None) => {
-                return Ok(Found {
-                    frames,
-                    size,
-                    fault: None,
-                });
-            }
+            Ok(None) => return Ok(Found { size, fault: None }),
             Err(error) => {
-                let fault = error.fault()?;
-                return Ok(Found {
-                    frames,
-                    size,
-                    fault: Some(fault),
-                });
+                let fault = Some(error.fault()?);
+                return Ok(Found { size, fault });
             }
         }
     }
+}
+
+/// How many frames are whole by their heads, from the first byte on.
+fn count_whole(bytes: &[u8]) -> usize
+    ensures { result ≤ length bytes.now }
+{
+    let (mut rest, mut count) = (bytes, 0);
+    while let Ok(Some(size)) = frame_size(rest) {
+        let (_, behind) = rest.split_at(size);
+        rest = behind;
+        count += 1;
+    }
+    count
 }
 
 /// A frame, how many bytes it takes, and what is behind it.

@@ -1,6 +1,6 @@
 ghost use Rattle.std.specs.Prelude.{◌≡◌, List, ℕ, true, false};
 ghost use Rattle.plane_words.specs.Pattern as words;
-ghost use Rattle.rpc_session.specs.Pattern as spec;
+ghost use Rattle.grant_patterns.specs.Pattern as spec;
 
 /// How a pattern and a text agree in front of the pattern's first `*`.
 enum Front<'a> {
@@ -12,7 +12,7 @@ enum Front<'a> {
 
 /// Whether the pattern fits the text: `*` stands for any bytes, perhaps none, and `?` for one. It takes no memory, and at most
 /// as many steps as the pattern times the text has bytes.
-pub(crate) fn fits(pattern: &[u8], text: &[u8]) -> bool
+pub fn fits(pattern: &[u8], text: &[u8]) -> bool
     ensures { result ≡ words.fits pattern.now text.now }
 {
     match read_front(pattern, text) {

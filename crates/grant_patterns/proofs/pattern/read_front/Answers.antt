@@ -1,7 +1,7 @@
 use Rattle.std.proofs.Common.{arith, sym}
 use Rattle.std.proofs.lemmas.Bool.{ne_eqb}
-use Rattle.rpc_session.proofs.PatternLemmas.{star_split, byte_split}
-use Rattle.rpc_session.proofs.pattern.read_front.Goals as goal
+use Rattle.grant_patterns.proofs.PatternLemmas.{star_split, byte_split}
+use Rattle.grant_patterns.proofs.pattern.read_front.Goals as goal
 
 pub returns-then-byte-eq42-clause-star : goal.returns-then-byte-eq42-clause-star
 returns-then-byte-eq42-clause-star c rest left same =

@@ -1,6 +1,6 @@
 use Rattle.std.proofs.Common.{arith, refl}
-use Rattle.rpc_session.proofs.PatternLemmas.{fits_there, skip_star}
-use Rattle.rpc_session.proofs.pattern.skip_to_front.Goals as goal
+use Rattle.grant_patterns.proofs.PatternLemmas.{fits_there, skip_star}
+use Rattle.grant_patterns.proofs.pattern.skip_to_front.Goals as goal
 
 pub returns-in-Fits-clause-fits : goal.returns-in-Fits-clause-fits
 returns-in-Fits-clause-fits c same = fits_there c.args.pattern.now c.args.text.now c.loop-rest.ending.now c.loop-rest.invariant (c.in-Fits.ensures.fits refl)

@@ -2,7 +2,7 @@
 use Rattle.std.proofs.Common.{ℕ, ◌≡◌, ◌≤◌, ◌⊎◌, inl, inr, List, [], ◌∷◌, length, Bool, true, false, refl, ap, sym, subst, ◌∙◌, arith}
 use Rattle.std.specs.Prelude.{nat_eq, ◌&&◌, ◌||◌, if◌then◌else◌}
 use Rattle.plane_words.specs.Pattern.{star, fits_later, fits_next, fits}
-use Rattle.rpc_session.specs.Pattern.{passes, GoesOn, SkipsOn}
+use Rattle.grant_patterns.specs.Pattern.{passes, GoesOn, SkipsOn}
 
 one_true : (a b : Bool) → (a || b) ≡ true → (a ≡ true) ⊎ (b ≡ true)
 one_true true b h = inl refl

@@ -1,0 +1,4 @@
+-- Patterns of grants.
+
+-- how a pattern goes on behind its first star
+pub mod Pattern

@@ -1,0 +1,9 @@
+use Rattle.std.proofs.Common.{List, ℕ, map, ap, ◌∙◌}
+use Rattle.rpc_session.specs.declared.grant.Grant.{Grant}
+use Rattle.rpc_session.proofs.OrderLemmas.{puts, puts_all}
+use Rattle.rpc_session.proofs.description.scopes.Goals as goal
+
+pub loop-grant-init : goal.loop-grant-init
+loop-grant-init c =
+    let texts : List (List ℕ) = map (λ (grant : Grant). grant.scope) c.args.grants.now in
+    ap (λ (z : List (List ℕ)). puts z texts) c.new-scopes.ensures.empty ∙ puts_all texts
