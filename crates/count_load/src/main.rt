@@ -80,10 +80,10 @@ fn tell<L: Ledger>(graph: &mut Graph, id: usize, bridges: u16, turns: u32, blank
 fn run(alloc: Global, load: &Load) -> Result<u32, Memory> {
     let rows = rows_of(alloc, load.bridges)?;
     let edges = edges_of(alloc, load.bridges)?;
-    if !can_load(rows.as_slice(), edges.as_slice()) {
+    if !can_load(rows.as_slice(), edges.as_slice(), &[]) {
         return Ok(0);
     }
-    let mut graph = Graph::load(alloc, rows.as_slice(), edges.as_slice())?;
+    let mut graph = Graph::load(alloc, rows.as_slice(), edges.as_slice(), &[])?;
     let name = 2 * usize::from(load.bridges);
     let id = if load.is_port && name > 0 {
         name - 1

@@ -1,11 +1,10 @@
 ghost use Rattle.std.specs.Prelude.{◌≡◌, ◌<◌, length};
 
-use crate::table::loaded;
 use std::alloc::Global;
 use std::marker::Brand;
 use std::process::Abort;
 use std::sync::ledger::{Blank, Ledger};
-use use_counts::{Edge, Graph, Kind, Row, Steps};
+use use_counts::{Edge, Graph, Kind, Row, Steps, can_load};
 
 const BRIDGE: Row = Row {
     kind: Kind::Bridge(false),
@@ -23,7 +22,10 @@ fn small(rt: &impl Abort, alloc: Global) -> Graph
 {
     let first = Edge { lower: 1, upper: 0 };
     let second = Edge { lower: 2, upper: 0 };
-    let graph = loaded(rt, alloc, &[BRIDGE, PORT, PORT, PORT], &[first, second]);
+    let rows = [BRIDGE, PORT, PORT, PORT];
+    let edges = [first, second];
+    assert!(rt; can_load(&rows, &edges, &[]));
+    let graph = Graph::load(alloc, &rows, &edges, &[]).expect(rt, "memory");
     assert!(rt; graph.len() == 4);
     graph
 }

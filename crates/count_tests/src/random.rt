@@ -1,12 +1,14 @@
 ghost use Rattle.std.specs.Prelude.{◌≡◌, ◌<◌};
 
-use crate::table::{Entry, compute, loaded};
+use crate::shape::{Shape, Words, joins};
+use crate::table::{Entry, compute};
+use std::alloc::{AllocError, Global};
 use std::marker::Brand;
 use std::process::Abort;
 use std::sync::ledger::{Blank, Ledger};
-use use_counts::{Edge, Graph, Kind, Row, Steps};
+use use_counts::{Edge, Graph, Steps, can_load};
 
-/// What happens to a node.
+/// What a node is told.
 #[derive(Clone, Copy)]
 enum Event {
     Present(bool),
@@ -15,15 +17,9 @@ enum Event {
     Claim(u32),
 }
 
-fn next(state: u64) -> u64 {
-    state
-        .wrapping_mul(6364136223846793005)
-        .wrapping_add(1442695040888963407)
-}
-
-fn event_of(word: u64) -> Event {
-    let bit = word & 8 == 0;
-    match word % 5 {
+fn event_of(words: &mut Words) -> Event {
+    let bit = words.below(2) == 0;
+    match words.below(5) {
         0 | 1 => Event::Present(bit),
         2 => Event::Absent,
         3 => Event::Carrier(bit),
@@ -82,84 +78,70 @@ fn assert_same(rt: &impl Abort, graph: &Graph, table: &[Entry]) {
     }
 }
 
+/// All edges, with other ports of radios.
+fn rejoined(
+    rt: &impl Abort,
+    alloc: Global,
+    graph: &mut Graph,
+    shape: &Shape,
+    words: &mut Words,
+) -> Result<Vec<Edge>, AllocError> {
+    let ports = joins(alloc, &shape.rows, words)?;
+    assert!(rt; graph.can_join(&ports));
+    graph.set_ports(alloc, &ports).expect(rt, "memory");
+    let mut edges = Vec::from_slice(alloc, &shape.fixed)?;
+    edges.extend_from_slice(&ports)?;
+    Ok(edges)
+}
+
 fn run<L: Ledger>(
     rt: &impl Abort,
+    alloc: Global,
     graph: &mut Graph,
-    table: &mut [Entry],
-    edges: &[Edge],
+    shape: &Shape,
+    words: &mut Words,
     blank: Blank,
-)
+) -> Result<(), AllocError>
     requires name { blank.name ≡ L.name }
     requires parts { blank.parts ≡ L.parts }
     requires some { 0 < L.parts }
 {
     let mut steps = Steps::<L>::new(blank);
-    let mut state = 2026;
-    for _ in 0..20_000 {
-        state = next(state);
-        let id = (state >> 33) as usize % 8;
-        let event = event_of(state >> 40);
+    let mut table = Entry::all(alloc, &shape.rows)?;
+    let mut edges = Vec::from_slice(alloc, &shape.fixed)?;
+    for turn in 0..60 {
+        if turn % 12 == 11 {
+            edges = rejoined(rt, alloc, graph, shape, words)?;
+        }
+        let id = words.below(table.len());
+        let event = event_of(words);
         tell(graph, id, event, &mut steps);
         if id < table.len() {
             table[id] = after(table[id], event);
         }
-        compute(table, edges);
-        assert_same(rt, graph, table);
+        compute(&mut table, &edges);
+        assert_same(rt, graph, &table);
     }
+    Ok(())
 }
-
-/// Two names, a VLAN on the first, a bridge over it and the second, a VLAN on that bridge, a bridge that needs no
-/// port over that VLAN and a name of a wrong type, and a broken name.
-const ROWS: [Row; 8] = [
-    Row {
-        kind: Kind::Plain(true),
-        level: 1,
-    },
-    Row {
-        kind: Kind::Plain(true),
-        level: 1,
-    },
-    Row {
-        kind: Kind::Vlan,
-        level: 2,
-    },
-    Row {
-        kind: Kind::Bridge(false),
-        level: 3,
-    },
-    Row {
-        kind: Kind::Vlan,
-        level: 4,
-    },
-    Row {
-        kind: Kind::Bridge(true),
-        level: 5,
-    },
-    Row {
-        kind: Kind::Broken,
-        level: 1,
-    },
-    Row {
-        kind: Kind::Plain(false),
-        level: 1,
-    },
-];
-
-const EDGES: [Edge; 6] = [
-    Edge { lower: 0, upper: 2 },
-    Edge { lower: 2, upper: 3 },
-    Edge { lower: 1, upper: 3 },
-    Edge { lower: 3, upper: 4 },
-    Edge { lower: 4, upper: 5 },
-    Edge { lower: 7, upper: 5 },
-];
 
 #[test]
 fn events_leave_what_a_plain_table_gives(rt: HostRuntime) {
-    let mut graph = loaded(&rt, rt.alloc(), &ROWS, &EDGES);
-    let mut table = [Entry::new(ROWS[0]); 8];
-    for place in 0..8 {
-        table[place] = Entry::new(ROWS[place]);
+    let mut words = Words::new(2026);
+    for count in 0..240 {
+        let shape = Shape::random(rt.alloc(), 2 + count % 24, &mut words).expect(&rt, "memory");
+        assert!(&rt; can_load(&shape.rows, &shape.fixed, &[]));
+        let mut graph = Graph::load(rt.alloc(), &shape.rows, &shape.fixed, &[]).expect(
+            &rt, "memory",
+        );
+        run::<Brand>(
+            &rt,
+            rt.alloc(),
+            &mut graph,
+            &shape,
+            &mut words,
+            Blank::new(1),
+        )
+        .expect(&rt, "memory");
     }
-    run::<Brand>(&rt, &mut graph, &mut table, &EDGES, Blank::new(1));
 }

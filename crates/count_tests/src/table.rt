@@ -1,12 +1,5 @@
-use std::alloc::Global;
-use std::process::Abort;
-use use_counts::{Edge, Graph, Kind, Row, can_load};
-
-/// The graph of rows and edges that can be loaded.
-pub fn loaded(rt: &impl Abort, alloc: Global, rows: &[Row], edges: &[Edge]) -> Graph {
-    assert!(rt; can_load(rows, edges));
-    Graph::load(alloc, rows, edges).expect(rt, "memory")
-}
+use std::alloc::{AllocError, Global};
+use use_counts::{Edge, Kind, Row};
 
 /// A node of a table that is computed anew after each event.
 #[derive(Clone, Copy)]
@@ -33,6 +26,15 @@ impl Entry {
             used: false,
             users: 0,
         }
+    }
+
+    /// An entry for each row.
+    pub fn all(alloc: Global, rows: &[Row]) -> Result<Vec<Entry>, AllocError> {
+        let mut table = Vec::new(alloc);
+        for row in rows {
+            table.push(Entry::new(*row))?;
+        }
+        Ok(table)
     }
 }
 

@@ -14,3 +14,6 @@ pub mod EndsLemmas
 pub mod NewLemmas
 pub mod NodesLemmas
 pub mod RowLemmas
+pub mod JoinLemmas
+pub mod AloneLemmas
+pub mod PortsLemmas

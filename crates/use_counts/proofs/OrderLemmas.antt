@@ -1,16 +1,16 @@
 -- the order of made nodes and their ranks
-use Rattle.std.proofs.Common.{arith, ⊎_elim, ℕ, ◌+◌, ◌-◌, ◌<◌, ◌≤◌, ◌^◌, ◌≡◌, ◌≢◌, ◌==◌, ◌&&◌, subst, zero, suc, take, replicate, Bool, true, false, List, [], ◌∷◌, ◌++◌, length, map, get_or, slice_index, slice_set, get_or-set_same, get_or-set_other, length-set, refl, sym, ap, ◌∙◌}
+use Rattle.std.proofs.Common.{arith, ⊎_elim, ℕ, ◌+◌, ◌-◌, ◌<◌, ◌≤◌, ◌≡◌, ◌≢◌, ◌==◌, ◌&&◌, subst, zero, suc, take, replicate, Bool, true, false, List, [], ◌∷◌, ◌++◌, length, map, get_or, slice_index, slice_set, get_or-set_same, get_or-set_other, length-set, refl, sym, ap, ◌∙◌}
 use Rattle.std.proofs.lemmas.Bool.{cases_eq, cases_lt, eq-eqb, true≢false}
-use Rattle.std.proofs.lemmas.List.{get_or-map, get_or_past, length-map, length-append, length-replicate, get_or-replicate, get_or_append_left, get_or_push}
+use Rattle.std.proofs.lemmas.List.{get_or_past, length-map, length-append, length-replicate, get_or-replicate, get_or_append_left, get_or_push}
 use Rattle.use_counts.specs.declared.node.Edge.{Edge}
 use Rattle.use_counts.specs.declared.node.Kind.TheVariants.{Broken}
 use Rattle.use_counts.specs.declared.node.Row.{Row}
 use Rattle.use_counts.specs.NodeRule.{HasRank, is_made, row_at, rank_of}
 use Rattle.use_counts.specs.Held.{IsOrder, Member}
-use Rattle.use_counts.specs.Network.{IsLoadable, loaded, member_at, no_member}
-use Rattle.use_counts.specs.Order.{ArePlaced, CanLoad, FitsRows, HasLevel, level_at}
-use Rattle.std.specs.List.{All}
-use Rattle.std.proofs.lemmas.List.Elements.{All-map}
+use Rattle.use_counts.specs.Network.{HasLevels, IsLoadable, Rises, loaded, member_at, network_from}
+use Rattle.use_counts.specs.Order.{ArePlaced, CanLoad, level_at}
+use Rattle.std.proofs.lemmas.List.Elements.{All-map, All-append}
+use Rattle.std.proofs.Math.ListN.{get_or-map}
 
 pub ranks_apart : (order ranks : List ℕ) (size j k : ℕ) → IsOrder order (rank_of ranks) size → 0 < rank_of ranks j → rank_of ranks j ≡ rank_of ranks k → j ≡ k
 ranks_apart order ranks size j k t some e = sym ((t.turn_of j some).1) ∙ ap (λ r. slice_index order (r - 1)) e ∙ (t.turn_of k (omega (arith, some, e))).1
@@ -137,35 +137,45 @@ placed_start rows ranks long none =
       rises = λ j k some. absurd (omega (arith, some, none j));
     }
 
-level_member : (rows : List Row) (k : ℕ) → k < length rows → (member_at (map loaded rows) k).level ≡ level_at rows k
-level_member rows k h = ap (λ (m : Member). m.level) (get_or-map loaded rows k (record { kind = Broken; level = 0 }) no_member h)
+-- what is read of a row among loaded ones
+pub member_row : (rows : List Row) (k : ℕ) → member_at (map loaded rows) k ≡ loaded (row_at rows k)
+member_row rows k = get_or-map loaded rows k (record { kind = Broken; level = 0 })
 
 not_made : (b : Bool) → (b ≡ true → ⊥) → b ≡ false
 not_made true h = absurd (h refl)
 not_made false h = refl
 
+levels_of_rows : (rows : List Row) (fixed ports : List Edge) → CanLoad rows fixed ports → HasLevels (network_from rows fixed ports)
+levels_of_rows rows fixed ports c =
+    record {
+      levels = All-map (λ (m : Member). (1 ≤ m.level) × (m.level ≤ 8)) loaded rows c.levels;
+      edges = All-append (Rises (map loaded rows)) fixed ports c.fixed_rise c.ports_rise;
+      claims = All-map (λ (m : Member). m.claims ≤ 1024) loaded rows (λ k d h. omega arith);
+    }
+
 -- rows that can be loaded, with their order
-pub loadable : (rows : List Row) (edges : List Edge) (places ranks : List ℕ) → CanLoad rows edges → ArePlaced rows 9 0 places ranks → IsLoadable places ranks rows edges
-loadable rows edges places ranks c p =
-    let low : (k : ℕ) → k < length rows → level_at rows k < 9 = λ k h. omega (arith, (c.levels.levels k no_member (omega (arith, h, length-map rows loaded))).1, level_member rows k h) in
+pub loadable : (rows : List Row) (fixed ports : List Edge) (places ranks : List ℕ) → CanLoad rows fixed ports → ArePlaced rows 9 0 places ranks → IsLoadable places ranks rows fixed ports
+loadable rows fixed ports places ranks c p =
+    let low : (k : ℕ) → k < length rows → level_at rows k < 9 = λ k h. omega (arith, (c.levels k (record { kind = Broken; level = 0 }) h).1) in
     let ranked : (k : ℕ) → k < length rows → is_made (row_at rows k).kind ≡ true → 0 < rank_of ranks k = λ k h made. p.all k h made (λ up. absurd (omega (arith, up, low k h))) in
+    let levels = levels_of_rows rows fixed ports c in
     record {
       ranked = p.long;
       ordered = p.order;
       plain = λ k none. ⊎_elim (λ within. not_made (is_made (row_at rows k).kind) (λ made. omega (arith, ranked k within made, none))) (λ past. row_past rows k past) (cases_lt k (length rows));
       stand = λ k d h.
-          let e = get_or edges k d in
-          let o = c.levels.order k d h in
-          let lower : e.lower < length rows = omega (arith, o.0, length-map rows loaded) in
-          let upper : e.upper < length rows = omega (arith, o.1, length-map rows loaded) in
-          let made = ranked e.upper upper (c.made k d h) in
+          let e = get_or (fixed ++ ports) k d in
+          let o = levels.edges k d h in
+          let lower : e.lower < length rows = omega (arith, o.lower, length-map rows loaded) in
+          let upper : e.upper < length rows = omega (arith, o.upper, length-map rows loaded) in
+          let made = ranked e.upper upper (sym (ap (λ (m : Member). is_made m.kind) (member_row rows e.upper)) ∙ o.made) in
           record {
             made_upper = made;
             node_upper = omega (arith, upper, p.long);
             node_lower = omega (arith, lower, p.long);
-            order = λ some. p.rises e.lower e.upper some made (omega (arith, o.2, level_member rows e.lower lower, level_member rows e.upper upper));
+            order = λ some. p.rises e.lower e.upper some made (omega (arith, o.order, ap (λ (m : Member). m.level) (member_row rows e.lower), ap (λ (m : Member). m.level) (member_row rows e.upper)));
           };
-      levels = c.levels;
+      levels = levels;
       few = c.few;
     }
 
@@ -194,18 +204,3 @@ zeros ranks old n len is empty none =
     let count : n - len ≡ n = omega (arith, none) in
     let all : ranks ≡ replicate n 0 = is ∙ ap (λ xs. take n xs ++ replicate (n - len) 0) empty ∙ ap (λ xs. xs ++ replicate (n - len) 0) (take_none n) ∙ ap (λ m. replicate m 0) count in
     (ap length all ∙ length-replicate {A = ℕ} n 0, λ k. ap (λ rs. rank_of rs k) all ∙ ⊎_elim (λ h. get_or-replicate n k 0 0 h) (λ past. get_or_past (replicate n 0) k 0 (omega (arith, past, length-replicate {A = ℕ} n 0))) (cases_lt k n))
-
-pub can_load_from : (rows : List Row) (edges : List Edge) → length edges < 2 ^ 20 → All HasLevel rows → All (FitsRows rows) edges → CanLoad rows edges
-can_load_from rows edges few levels fit =
-    record {
-      levels = record {
-        levels = All-map (λ (m : Member). (1 ≤ m.level) × (m.level ≤ 8)) loaded rows levels;
-        order = λ k d h.
-            let f = fit k d h in
-            let e = get_or edges k d in
-            (omega (arith, f.lower, length-map rows loaded), omega (arith, f.upper, length-map rows loaded), omega (arith, f.rises, level_member rows e.lower f.lower, level_member rows e.upper f.upper));
-        claims = All-map (λ (m : Member). m.claims ≤ 1024) loaded rows (λ k d h. omega arith);
-      };
-      made = λ k d h. (fit k d h).made;
-      few = few;
-    }

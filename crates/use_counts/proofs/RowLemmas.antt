@@ -5,9 +5,9 @@ use Rattle.std.specs.List.{AllByRecursion, list_any}
 use Rattle.use_counts.specs.declared.node.Edge.{Edge}
 use Rattle.use_counts.specs.NodeRule.{opens, links, is_used, occurs}
 use Rattle.use_counts.specs.Edges.{lower_end, upper_end, counted}
-use Rattle.use_counts.specs.Network.{Network, member_at, available_within, link_within, available, link, used_within, used, users}
+use Rattle.use_counts.specs.Network.{Network, edges_of, member_at, available_within, link_within, available, link, used_within, used, users}
 use Rattle.use_counts.proofs.EdgeLemmas.{everywhere, counted_same}
-use Rattle.use_counts.specs.Rows.{Standing, Faulty, Alone, Over, Ports, lowers_of, kind_of, standing_at, edge, edges_from, AreRows, by_levels, row_opens, present_at, carries_at, row_available, row_links, row_link, names, standing_on, row_used, row_users}
+use Rattle.use_counts.specs.Rows.{Standing, Faulty, Alone, Over, Ports, lowers_of, kind_of, standing_at, edge, edges_from, by_levels, row_opens, present_at, carries_at, row_available, row_links, row_link, names, standing_on, row_used, row_users}
 
 some_more : (b t : Bool) (n c : ℕ) → c ≡ cond b 1 0 + n → nat_lt 0 n ≡ t → nat_lt 0 c ≡ (b || t)
 some_more true t n c e h = lt-ltb 0 c (omega arith)
@@ -21,7 +21,7 @@ or_false : (b : Bool) → (b || false) ≡ b
 or_false true = refl
 or_false false = refl
 
-counted-append : (far near : Edge → ℕ) (f : ℕ → Bool) (k : ℕ) (es fs : List Edge) → counted far near f (es ++ fs) k ≡ counted far near f es k + counted far near f fs k
+pub counted-append : (far near : Edge → ℕ) (f : ℕ → Bool) (k : ℕ) (es fs : List Edge) → counted far near f (es ++ fs) k ≡ counted far near f es k + counted far near f fs k
 unfolding counted
 counted-append far near f k es fs = sum_by-append (λ e. cond ((far e == k) && f (near e)) 1 0) es fs
 
@@ -101,59 +101,65 @@ links_as ready carries f (Alone sound) = refl
 links_as ready carries f (Over lower) = ap (λ b. ready && b) (some_pass f (lower ∷ []) ∙ or_false (f lower))
 links_as ready carries f (Ports empty ports) = ap (λ b. ready && b) (some_pass f ports)
 
+-- a network whose edges count as those of some rows
+pub record AreEdges (rows : List Standing) (net : Network) : Type 0 where
+  pub kinds : (k : ℕ) → (member_at net.members k).kind ≡ kind_of (standing_at rows k)
+  pub counts : (far near : Edge → ℕ) (f : ℕ → Bool) (k : ℕ) → counted far near f (edges_of net) k ≡ counted far near f (edges_from 0 rows) k
+  pub once : AllByRecursion (λ s. (k : ℕ) → occurs k (lowers_of s) ≤ 1) rows
+
 -- what is counted below k, where f and g answer alike
-below_net : (rows : List Standing) (net : Network) (f g : ℕ → Bool) (k : ℕ) → AreRows rows net → ((n : ℕ) → f n ≡ g n) → counted upper_end lower_end f net.edges k ≡ count_by g (lowers_of (standing_at rows k))
-below_net rows net f g k r same = counted_same upper_end lower_end g f k net.edges (everywhere (λ e. same e.lower) net.edges) ∙ ap (λ es. counted upper_end lower_end g es k) r.edges ∙ below_row g 0 k k rows (omega arith)
+below_net : (rows : List Standing) (net : Network) (f g : ℕ → Bool) (k : ℕ) → AreEdges rows net → ((n : ℕ) → f n ≡ g n) → counted upper_end lower_end f (edges_of net) k ≡ count_by g (lowers_of (standing_at rows k))
+below_net rows net f g k r same = counted_same upper_end lower_end g f k (edges_of net) (everywhere (λ e. same e.lower) (edges_of net)) ∙ r.counts upper_end lower_end g k ∙ below_row g 0 k k rows (omega arith)
 
-above_net : (rows : List Standing) (net : Network) (f g : ℕ → Bool) (k : ℕ) → AreRows rows net → ((n : ℕ) → f n ≡ g n) → counted lower_end upper_end f net.edges k ≡ standing_on g k 0 rows
-above_net rows net f g k r same = counted_same lower_end upper_end g f k net.edges (everywhere (λ e. same e.upper) net.edges) ∙ ap (λ es. counted lower_end upper_end g es k) r.edges ∙ above_row g k 0 rows r.once
+above_net : (rows : List Standing) (net : Network) (f g : ℕ → Bool) (k : ℕ) → AreEdges rows net → ((n : ℕ) → f n ≡ g n) → counted lower_end upper_end f (edges_of net) k ≡ standing_on g k 0 rows
+above_net rows net f g k r same = counted_same lower_end upper_end g f k (edges_of net) (everywhere (λ e. same e.upper) (edges_of net)) ∙ r.counts lower_end upper_end g k ∙ above_row g k 0 rows r.once
 
-available_rows : (rows : List Standing) (net : Network) → AreRows rows net → (levels k : ℕ) → available_within levels net k ≡ by_levels levels (λ below n. row_opens (present_at net n) below (standing_at rows n)) k
+available_rows : (rows : List Standing) (net : Network) → AreEdges rows net → (levels k : ℕ) → available_within levels net k ≡ by_levels levels (λ below n. row_opens (present_at net n) below (standing_at rows n)) k
 unfolding available_within by_levels
 available_rows rows net r zero k = refl
 available_rows rows net r (suc levels) k =
     let p = member_at net.members k in
     let below = by_levels levels (λ f n. row_opens (present_at net n) f (standing_at rows n)) in
-    ap (λ kind. opens kind p.present (counted upper_end lower_end (available_within levels net) net.edges k)) (r.kinds k)
+    ap (λ kind. opens kind p.present (counted upper_end lower_end (available_within levels net) (edges_of net) k)) (r.kinds k)
     ∙ ap (opens (kind_of (standing_at rows k)) p.present) (below_net rows net (available_within levels net) below k r (available_rows rows net r levels))
     ∙ opens_as p.present below (standing_at rows k)
 
-pub available_row : (rows : List Standing) (net : Network) → AreRows rows net → (k : ℕ) → available net k ≡ row_available rows net k
+pub available_row : (rows : List Standing) (net : Network) → AreEdges rows net → (k : ℕ) → available net k ≡ row_available rows net k
 unfolding available
 available_row rows net r k = available_rows rows net r 8 k
 
-link_rows : (rows : List Standing) (net : Network) → AreRows rows net → (levels k : ℕ) → link_within levels net k ≡ by_levels levels (λ below n. row_links (carries_at net n) (row_available rows net n) below (standing_at rows n)) k
+link_rows : (rows : List Standing) (net : Network) → AreEdges rows net → (levels k : ℕ) → link_within levels net k ≡ by_levels levels (λ below n. row_links (carries_at net n) (row_available rows net n) below (standing_at rows n)) k
 unfolding link_within by_levels
 link_rows rows net r zero k = refl
 link_rows rows net r (suc levels) k =
     let carries = carries_at net k in
     let below = by_levels levels (λ f n. row_links (carries_at net n) (row_available rows net n) f (standing_at rows n)) in
-    let count = counted upper_end lower_end (link_within levels net) net.edges k in
+    let count = counted upper_end lower_end (link_within levels net) (edges_of net) k in
     ap (λ b. links (member_at net.members k).kind b carries count) (available_row rows net r k)
     ∙ ap (λ kind. links kind (row_available rows net k) carries count) (r.kinds k)
     ∙ ap (links (kind_of (standing_at rows k)) (row_available rows net k) carries) (below_net rows net (link_within levels net) below k r (link_rows rows net r levels))
     ∙ links_as (row_available rows net k) carries below (standing_at rows k)
 
-pub link_row : (rows : List Standing) (net : Network) → AreRows rows net → (k : ℕ) → link net k ≡ row_link rows net k
+pub link_row : (rows : List Standing) (net : Network) → AreEdges rows net → (k : ℕ) → link net k ≡ row_link rows net k
 unfolding link
 link_row rows net r k = link_rows rows net r 8 k
 
-used_rows : (rows : List Standing) (net : Network) → AreRows rows net → (levels k : ℕ) → used_within levels net k ≡ by_levels levels (λ above n. is_used (row_available rows net n) ((member_at net.members n).claims + standing_on above n 0 rows)) k
+used_rows : (rows : List Standing) (net : Network) → AreEdges rows net → (levels k : ℕ) → used_within levels net k ≡ by_levels levels (λ above n. is_used (row_available rows net n) ((member_at net.members n).claims + standing_on above n 0 rows)) k
 unfolding used_within by_levels
 used_rows rows net r zero k = refl
 used_rows rows net r (suc levels) k =
     let claims = (member_at net.members k).claims in
     let above = by_levels levels (λ f n. is_used (row_available rows net n) ((member_at net.members n).claims + standing_on f n 0 rows)) in
-    ap (λ b. is_used b (claims + counted lower_end upper_end (used_within levels net) net.edges k)) (available_row rows net r k)
+    ap (λ b. is_used b (claims + counted lower_end upper_end (used_within levels net) (edges_of net) k)) (available_row rows net r k)
     ∙ ap (λ n. is_used (row_available rows net k) (claims + n)) (above_net rows net (used_within levels net) above k r (used_rows rows net r levels))
 
-pub used_row : (rows : List Standing) (net : Network) → AreRows rows net → (k : ℕ) → used net k ≡ row_used rows net k
+pub used_row : (rows : List Standing) (net : Network) → AreEdges rows net → (k : ℕ) → used net k ≡ row_used rows net k
 unfolding used
 used_row rows net r k = used_rows rows net r 8 k
 
-pub users_row : (rows : List Standing) (net : Network) → AreRows rows net → (k : ℕ) → users net k ≡ row_users rows net k
+pub users_row : (rows : List Standing) (net : Network) → AreEdges rows net → (k : ℕ) → users net k ≡ row_users rows net k
 unfolding users
 users_row rows net r k =
     let claims = (member_at net.members k).claims in
-    ap (λ b. cond b (claims + counted lower_end upper_end (used net) net.edges k) 0) (available_row rows net r k)
+    ap (λ b. cond b (claims + counted lower_end upper_end (used net) (edges_of net) k) 0) (available_row rows net r k)
     ∙ ap (λ n. cond (row_available rows net k) (claims + n) 0) (above_net rows net (used net) (row_used rows net) k r (used_row rows net r))

@@ -1,5 +1,5 @@
 -- The answers of a network by plain recursion over its edges.
-use Rattle.std.specs.Prelude.{ℕ, ◌+◌, ◌^◌, ◌<◌, ◌≤◌, ◌≡◌, map, ◌&&◌, ◌||◌, Bool, false, if◌then◌else◌, zero, suc, List, length, count_by, slice_set, slice_index_or, All}
+use Rattle.std.specs.Prelude.{ℕ, ◌+◌, ◌^◌, ◌<◌, ◌≤◌, ◌≡◌, map, ◌&&◌, ◌||◌, ◌++◌, ◌≢◌, Bool, true, false, if◌then◌else◌, zero, suc, List, length, count_by, slice_set, slice_index_or, All}
 use Rattle.use_counts.specs.declared.node.Edge.{Edge}
 use Rattle.use_counts.specs.declared.node.Kind.TheVariants.{Broken}
 use Rattle.use_counts.specs.declared.node.Row.{Row}
@@ -7,10 +7,16 @@ use Rattle.use_counts.specs.NodeRule.{opens, links, is_made, is_used, row_at, ra
 use Rattle.use_counts.specs.Edges.{lower_end, upper_end, counted}
 use Rattle.use_counts.specs.Held.{Member, IsOrder, RunsUp, differs}
 
--- nodes by number, with what rows and events say of them, and the edges
+-- nodes by number, with what rows and events say of them, the edges of the rows, and those to the ports
+-- of radios
 pub record Network : Type 0 where
   pub members : List Member
-  pub edges : List Edge
+  pub fixed : List Edge
+  pub ports : List Edge
+
+-- all edges
+abbrev pub edges_of : Network → List Edge
+edges_of net = net.fixed ++ net.ports
 
 -- what is read past the last node
 abbrev pub no_member : Member
@@ -25,7 +31,7 @@ unfoldable pub available_within : ℕ → Network → ℕ → Bool
 available_within zero net k = false
 available_within (suc levels) net k =
     let p = member_at net.members k in
-    opens p.kind p.present (counted upper_end lower_end (available_within levels net) net.edges k)
+    opens p.kind p.present (counted upper_end lower_end (available_within levels net) (edges_of net) k)
 
 -- a node is available
 unfoldable pub available : Network → ℕ → Bool
@@ -37,7 +43,7 @@ link_within zero net k = false
 link_within (suc levels) net k =
     let p = member_at net.members k in
     links p.kind (available net k) (p.present && p.carrier)
-    (counted upper_end lower_end (link_within levels net) net.edges k)
+    (counted upper_end lower_end (link_within levels net) (edges_of net) k)
 
 -- a node has link
 unfoldable pub link : Network → ℕ → Bool
@@ -49,7 +55,7 @@ unfoldable pub used_within : ℕ → Network → ℕ → Bool
 used_within zero net k = false
 used_within (suc levels) net k =
     is_used (available net k) ((member_at net.members k).claims
-    + counted lower_end upper_end (used_within levels net) net.edges k)
+    + counted lower_end upper_end (used_within levels net) (edges_of net) k)
 
 -- a node is used
 unfoldable pub used : Network → ℕ → Bool
@@ -59,7 +65,7 @@ used net k = used_within 8 net k
 unfoldable pub users : Network → ℕ → ℕ
 users net k =
     if available net k
-    then (member_at net.members k).claims + counted lower_end upper_end (used net) net.edges k else 0
+    then (member_at net.members k).claims + counted lower_end upper_end (used net) (edges_of net) k else 0
 
 -- an answer of a node differs between two networks
 abbrev pub changed : Network → Network → ℕ → Bool
@@ -70,13 +76,19 @@ changed before after k =
 -- the edges with an end at a node of which an answer differs
 unfoldable pub changed_edges : Network → Network → ℕ
 changed_edges before after =
-    count_by (λ e. changed before after e.lower || changed before after e.upper) before.edges
+    count_by (λ e. changed before after e.lower || changed before after e.upper) (edges_of before)
+
+-- an edge from a VLAN or bridge among some nodes to a node of a lower level
+pub record Rises (members : List Member) (e : Edge) : Type 0 where
+  pub lower : e.lower < length members
+  pub upper : e.upper < length members
+  pub made : is_made (member_at members e.upper).kind ≡ true
+  pub order : (member_at members e.lower).level < (member_at members e.upper).level
 
 -- levels go from 1 to 8 and rise along each edge, and a node has at most 1,024 claims
 pub record HasLevels (net : Network) : Type 0 where
   pub levels : All (λ p. (1 ≤ p.level) × (p.level ≤ 8)) net.members
-  pub order : All (λ e. (e.lower < length net.members) × (e.upper < length net.members)
-      × ((member_at net.members e.lower).level < (member_at net.members e.upper).level)) net.edges
+  pub edges : All (Rises net.members) (edges_of net)
   pub claims : All (λ p. p.claims ≤ 1024) net.members
 
 -- a row without a device and without claims
@@ -84,9 +96,9 @@ abbrev pub loaded : Row → Member
 loaded row =
     record { kind = row.kind; level = row.level; present = false; carrier = false; claims = 0 }
 
--- rows and their edges, without devices and claims
-abbrev pub network_from : List Row → List Edge → Network
-network_from rows edges = record { members = map loaded rows; edges = edges }
+-- rows with the edges of the rows and those to the ports of radios, without devices and claims
+abbrev pub network_from : List Row → List Edge → List Edge → Network
+network_from rows fixed ports = record { members = map loaded rows; fixed = fixed; ports = ports }
 
 -- a network in which one node is as given
 abbrev pub with_member : Network → ℕ → Member → Network
@@ -105,11 +117,30 @@ with_carrier net k carrier = with_member net k (record (member_at net.members k)
 abbrev pub with_claim : Network → ℕ → ℕ → Network
 with_claim net k claims = with_member net k (record (member_at net.members k) { claims = claims })
 
+-- other ports of radios in place of the old ones
+abbrev pub with_ports : Network → List Edge → Network
+with_ports net ports = record net { ports = ports }
+
+-- what the row of a node says
+abbrev pub row_of : Member → Row
+row_of p = record { kind = p.kind; level = p.level }
+
+-- Ports of radios that a network may have: each edge goes from a VLAN or bridge to a node of a lower
+-- level, and with the edges of the rows there are fewer than 2 ^ 20.
+pub record CanJoin (net : Network) (ports : List Edge) : Type 0 where
+  pub rise : All (Rises net.members) ports
+  pub few : length net.fixed + length ports < 2 ^ 20
+
+-- no edge has an end at the node
+abbrev pub IsAlone : Network → ℕ → Type 0
+IsAlone net k = All (λ e. (e.lower ≢ k) × (e.upper ≢ k)) (edges_of net)
+
 -- rows and edges with an order of the made rows in which each edge runs up
-pub record IsLoadable (order ranks : List ℕ) (rows : List Row) (edges : List Edge) : Type 0 where
+pub record IsLoadable (order ranks : List ℕ) (rows : List Row) (fixed ports : List Edge)
+    : Type 0 where
   pub ranked : length ranks ≡ length rows
   pub ordered : IsOrder order (rank_of ranks) (length ranks)
   pub plain : (k : ℕ) → rank_of ranks k ≡ 0 → is_made (row_at rows k).kind ≡ false
-  pub stand : All (λ e. RunsUp (rank_of ranks) (length ranks) e.lower e.upper) edges
-  pub levels : HasLevels (record { members = map loaded rows; edges = edges })
-  pub few : length edges < 2 ^ 20
+  pub stand : All (λ e. RunsUp (rank_of ranks) (length ranks) e.lower e.upper) (fixed ++ ports)
+  pub levels : HasLevels (network_from rows fixed ports)
+  pub few : length fixed + length ports < 2 ^ 20

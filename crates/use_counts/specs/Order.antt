@@ -1,10 +1,10 @@
 -- The order of VLANs and bridges by their levels.
-use Rattle.std.specs.Prelude.{◌≡◌, ◌≤◌, ◌<◌, ◌^◌, ℕ, true, List, length, map, All}
+use Rattle.std.specs.Prelude.{◌≡◌, ◌+◌, ◌≤◌, ◌<◌, ◌^◌, ℕ, true, List, length, map, All}
 use Rattle.use_counts.specs.declared.node.Edge.{Edge}
 use Rattle.use_counts.specs.declared.node.Row.{Row}
 use Rattle.use_counts.specs.NodeRule.{is_made, row_at, rank_of}
 use Rattle.use_counts.specs.Held.{IsOrder}
-use Rattle.use_counts.specs.Network.{HasLevels, loaded}
+use Rattle.use_counts.specs.Network.{Rises, loaded}
 
 abbrev pub level_at : List Row → ℕ → ℕ
 level_at rows k = (row_at rows k).level
@@ -28,16 +28,10 @@ pub record ArePlaced (rows : List Row) (level place : ℕ) (places ranks : List 
 abbrev pub HasLevel : Row → Type 0
 HasLevel row = (1 ≤ row.level) × (row.level ≤ 8)
 
--- an edge from a VLAN or bridge among some rows to a row of a lower level
-pub record FitsRows (rows : List Row) (e : Edge) : Type 0 where
-  pub lower : e.lower < length rows
-  pub upper : e.upper < length rows
-  pub made : is_made (row_at rows e.upper).kind ≡ true
-  pub rises : level_at rows e.lower < level_at rows e.upper
-
 -- Rows of levels from 1 to 8, and fewer edges than 2 ^ 20, each from a VLAN or bridge to a node of a
--- lower level.
-pub record CanLoad (rows : List Row) (edges : List Edge) : Type 0 where
-  pub levels : HasLevels (record { members = map loaded rows; edges = edges })
-  pub made : All (λ e. is_made (row_at rows e.upper).kind ≡ true) edges
-  pub few : length edges < 2 ^ 20
+-- lower level. Some are of the rows, the others go to the ports of radios.
+pub record CanLoad (rows : List Row) (fixed ports : List Edge) : Type 0 where
+  pub levels : All HasLevel rows
+  pub fixed_rise : All (Rises (map loaded rows)) fixed
+  pub ports_rise : All (Rises (map loaded rows)) ports
+  pub few : length fixed + length ports < 2 ^ 20

@@ -1,10 +1,11 @@
 -- The same answers from rows that name what they stand on, each by its number.
-use Rattle.std.specs.Prelude.{ℕ, ◌+◌, ◌≡◌, ◌≤◌, ◌==◌, ◌&&◌, ◌||◌, Bool, false, not, zero, suc, if◌then◌else◌, List, [], ◌∷◌, ◌++◌, map}
+use Rattle.std.specs.Prelude.{ℕ, ◌+◌, ◌≡◌, ◌≤◌, ◌==◌, ◌&&◌, ◌||◌, Bool, true, false, not, zero, suc, if◌then◌else◌, List, [], ◌∷◌, ◌++◌, map}
 use Rattle.std.specs.List.{AllByRecursion, list_any}
 use Rattle.use_counts.specs.declared.node.Edge.{Edge}
 use Rattle.use_counts.specs.declared.node.Kind.{Kind}
 use Rattle.use_counts.specs.declared.node.Kind.TheVariants.{Broken, Plain, Vlan, Bridge}
 use Rattle.use_counts.specs.NodeRule.{is_used, occurs}
+use Rattle.use_counts.specs.Edges.{lower_end, upper_end, far_ends}
 use Rattle.use_counts.specs.Network.{Network, member_at}
 
 -- what a row is: a name that a fault keeps from being available; one that is never made; a VLAN over
@@ -41,11 +42,36 @@ abbrev pub edges_from : ℕ → List Standing → List Edge
 edges_from number [] = []
 edges_from number (s ∷ ss) = map (edge number) (lowers_of s) ++ edges_from (number + 1) ss
 
--- a network has the kinds and the edges of some rows, and no row names a lower twice
+abbrev pub is_bridge : Standing → Bool
+is_bridge Faulty = false
+is_bridge (Alone sound) = false
+is_bridge (Over lower) = false
+is_bridge (Ports empty ports) = true
+
+-- a bridge with further ports behind its own; any other row as it is
+abbrev pub with_more : Standing → List ℕ → Standing
+with_more Faulty more = Faulty
+with_more (Alone sound) more = Alone sound
+with_more (Over lower) more = Over lower
+with_more (Ports empty ports) more = Ports empty (ports ++ more)
+
+-- each bridge with the ports that radios give it behind its own; the first row has the number
+abbrev pub joined_from : ℕ → List Edge → List Standing → List Standing
+joined_from number ports [] = []
+joined_from number ports (s ∷ ss) =
+    with_more s (far_ends lower_end upper_end ports number) ∷ joined_from (number + 1) ports ss
+
+-- the rows with the ports of radios
+abbrev pub joined : List Edge → List Standing → List Standing
+joined ports rows = joined_from 0 ports rows
+
+-- A network has the kinds and the edges of some rows. Radios give ports to bridges alone, and with
+-- these no row names a lower twice.
 pub record AreRows (rows : List Standing) (net : Network) : Type 0 where
   pub kinds : (k : ℕ) → (member_at net.members k).kind ≡ kind_of (standing_at rows k)
-  pub edges : net.edges ≡ edges_from 0 rows
-  pub once : AllByRecursion (λ s. (k : ℕ) → occurs k (lowers_of s) ≤ 1) rows
+  pub fixed : net.fixed ≡ edges_from 0 rows
+  pub bridges : AllByRecursion (λ e. is_bridge (standing_at rows e.upper) ≡ true) net.ports
+  pub once : AllByRecursion (λ s. (k : ℕ) → occurs k (lowers_of s) ≤ 1) (joined net.ports rows)
 
 -- a test of rows that asks itself about other rows, by plain recursion as many levels far as a
 -- number says

@@ -1,8 +1,8 @@
-ghost use Rattle.std.specs.Prelude.{◌≡◌, ◌≤◌, ◌<◌, ◌+◌, ◌*◌, ℕ, IfOk, length, map, true, false, vec_len};
+ghost use Rattle.std.specs.Prelude.{◌≡◌, ◌↔◌, ◌≤◌, ◌<◌, ◌+◌, ◌*◌, ◌++◌, ℕ, IfOk, IsTrue, OnErr, OnOk, length, map, true, false, vec_len};
 ghost use Rattle.use_counts.specs.Held.{IsCalm, HoldsCounts, member_of};
 ghost use Rattle.use_counts.specs.NodeRule.{node_at, rank_at, rank_of};
 ghost use Rattle.use_counts.specs.Order.{CanLoad};
-ghost use Rattle.use_counts.specs.Network.{IsLoadable, available, changed_edges, link, member_at, network_from, used, users, with_carrier, with_claim, with_device};
+ghost use Rattle.use_counts.specs.Network.{CanJoin, IsLoadable, available, changed_edges, link, member_at, network_from, row_of, used, users, with_carrier, with_claim, with_device, with_ports};
 
 use crate::node::{Edge, Row};
 use crate::nodes::Nodes;
@@ -11,7 +11,7 @@ use crate::settle::{put_claims, put_device, settle};
 use crate::steps::Steps;
 use crate::topology::Topology;
 use plane_io::Memory;
-use std::alloc::Global;
+use std::alloc::{AllocError, Global};
 use std::marker::{Brand, Model};
 use std::sync::ledger::{Blank, Ledger};
 
@@ -19,6 +19,8 @@ use std::sync::ledger::{Blank, Ledger};
 #[derive(Drop)]
 pub struct Graph {
     topology: Topology,
+    /// The first edges are those of the rows, this many.
+    fixed: usize,
     nodes: Nodes,
 }
 
@@ -32,6 +34,15 @@ impl Model for Graph {
     ghost view = { network_of };
 
     ghost invariant = { IsSound };
+}
+
+/// The edges of both lists.
+fn chained(alloc: Global, fixed: &[Edge], ports: &[Edge]) -> Result<Vec<Edge>, AllocError>
+    ensures { IfOk result (λ edges. edges.items ≡ fixed.now ++ ports.now) }
+{
+    let mut edges = Vec::from_slice(alloc, fixed)?;
+    edges.extend_from_slice(ports)?;
+    Ok(edges)
 }
 
 /// Computes all nodes, with a counter of its own.
@@ -59,29 +70,78 @@ fn settle_all<L: Ledger>(topology: &Topology, nodes: &mut Nodes, blank: Blank)
 }
 
 impl Graph {
-    /// The graph of some rows and of the edges between them. No device is there, and nothing is claimed.
-    pub fn load(alloc: Global, rows: &[Row], edges: &[Edge]) -> Result<Graph, Memory>
-        requires { CanLoad rows.now edges.now }
-        ensures { IfOk result (λ g. g ≡ network_from rows.now edges.now) }
+    /// The graph of some rows, of their edges, and of the edges to the ports of radios. No device is there, and nothing is
+    /// claimed.
+    pub fn load(
+        alloc: Global,
+        rows: &[Row],
+        fixed: &[Edge],
+        ports: &[Edge],
+    ) -> Result<Graph, Memory>
+        requires { CanLoad rows.now fixed.now ports.now }
+        ensures { IfOk result (λ g. g ≡ network_from rows.now fixed.now ports.now) }
     {
         let order = Order::of(alloc, rows)?;
-        Graph::with_order(alloc, order, rows, edges)
+        Graph::with_order(alloc, order, rows, fixed, ports)
     }
 
     fn with_order(
         alloc: Global,
         order: Order,
         rows: &[Row],
-        edges: &[Edge],
+        fixed: &[Edge],
+        ports: &[Edge],
     ) -> Result<Graph, Memory>
-        requires { IsLoadable order.places.items order.ranks.items rows.now edges.now }
-        ensures { IfOk result (λ g. g ≡ network_from rows.now edges.now) }
+        requires { IsLoadable order.places.items order.ranks.items rows.now fixed.now ports.now }
+        ensures { IfOk result (λ g. g ≡ network_from rows.now fixed.now ports.now) }
     {
         let Order { places, ranks } = order;
         let mut nodes = Nodes::new(alloc, rows, &ranks, places.len())?;
+        let edges = chained(alloc, fixed, ports)?;
         let topology = Topology::new(alloc, places, ranks, edges)?;
         settle_all::<Brand>(&topology, &mut nodes, Blank::new(1));
-        Ok(Graph { topology, nodes })
+        Ok(Graph {
+            topology,
+            fixed: fixed.len(),
+            nodes,
+        })
+    }
+
+    /// Whether radios can have these ports.
+    pub fn can_join(&self, ports: &[Edge]) -> bool
+        ensures { IsTrue result ↔ CanJoin self.now ports.now }
+    {
+        ports.len() < (1 << 20) - self.fixed && self.nodes.all_rise(ports)
+    }
+
+    /// Writes for each node the device and the claims that it has in another graph of the same rows.
+    fn repeat<L: Ledger>(&mut self, told: &Graph, blank: Blank)
+        requires name { blank.name ≡ L.name }
+        requires parts { blank.parts ≡ L.parts }
+        requires some { 0 < L.parts }
+        requires rows { map row_of self.old.members ≡ map row_of told.now.members }
+        ensures { self.new ≡ record self.old { members = told.now.members } }
+    {
+        let mut steps = Steps::<L>::new(blank);
+        for id in 0..told.len() {
+            let node = told.nodes.node(id);
+            self.set_device(id, node.present, node.carrier, &mut steps);
+            self.set_claim(id, node.claims, &mut steps);
+        }
+    }
+
+    /// Radios have these ports in place of their old ones. Where memory lacks all stays as it was.
+    pub fn set_ports(&mut self, alloc: Global, ports: &[Edge]) -> Result<(), Memory>
+        requires { CanJoin self.old ports.now }
+        ensures ok { OnOk result (self.new ≡ with_ports self.old ports.now) }
+        ensures err { OnErr result (self.new ≡ self.old) }
+    {
+        let rows = self.nodes.rows(alloc)?;
+        let (fixed, _) = self.topology.edges.split_at(self.fixed);
+        let mut graph = Graph::load(alloc, &rows, fixed, ports)?;
+        graph.repeat::<Brand>(self, Blank::new(1));
+        *self = graph;
+        Ok(())
     }
 
     /// How many nodes there are. Their numbers are those of their rows.

@@ -20,7 +20,7 @@ mod topology;
 mod upward;
 
 pub use graph::Graph;
-pub use laws::edges_are_of_the_rows;
+pub use laws::{edges_are_of_the_rows, lone_nodes_change_no_edge};
 pub use loads::can_load;
 pub use node::{Edge, Kind, Row};
 pub use steps::Steps;

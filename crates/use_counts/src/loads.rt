@@ -1,10 +1,11 @@
-ghost use Rattle.std.specs.Prelude.{◌≡◌, ◌≤◌, ◌<◌, true, All};
-ghost use Rattle.use_counts.specs.Order.{CanLoad, FitsRows, HasLevel};
+ghost use Rattle.std.specs.Prelude.{◌↔◌, All, IsTrue, map};
+ghost use Rattle.use_counts.specs.Network.{Rises, loaded};
+ghost use Rattle.use_counts.specs.Order.{CanLoad, HasLevel};
 
 use crate::node::{Edge, Row};
 
 fn levels_fit(rows: &[Row]) -> bool
-    ensures { result ≡ true → All HasLevel rows.now }
+    ensures { IsTrue result ↔ All HasLevel rows.now }
 {
     for row in rows {
         if row.level == 0 || row.level > 8 {
@@ -15,7 +16,7 @@ fn levels_fit(rows: &[Row]) -> bool
 }
 
 fn edge_fits(rows: &[Row], edge: Edge) -> bool
-    ensures { result ≡ true → FitsRows rows.now edge }
+    ensures { IsTrue result ↔ Rises (map loaded rows.now) edge }
 {
     if edge.lower >= rows.len() || edge.upper >= rows.len() {
         return false;
@@ -24,7 +25,7 @@ fn edge_fits(rows: &[Row], edge: Edge) -> bool
 }
 
 fn edges_fit(rows: &[Row], edges: &[Edge]) -> bool
-    ensures { result ≡ true → All (FitsRows rows.now) edges.now }
+    ensures { IsTrue result ↔ All (Rises (map loaded rows.now)) edges.now }
 {
     for edge in edges {
         if !edge_fits(rows, *edge) {
@@ -34,15 +35,12 @@ fn edges_fit(rows: &[Row], edges: &[Edge]) -> bool
     true
 }
 
-/// Whether a graph of these rows and edges can be loaded.
-pub fn can_load(rows: &[Row], edges: &[Edge]) -> bool
-    ensures { result ≡ true → CanLoad rows.now edges.now }
+/// Whether a graph of these rows, their edges and the edges to ports of radios can be loaded.
+pub fn can_load(rows: &[Row], fixed: &[Edge], ports: &[Edge]) -> bool
+    ensures { IsTrue result ↔ CanLoad rows.now fixed.now ports.now }
 {
-    if edges.len() >= 1 << 20 {
+    if fixed.len() + ports.len() >= 1 << 20 {
         return false;
     }
-    if !levels_fit(rows) {
-        return false;
-    }
-    edges_fit(rows, edges)
+    levels_fit(rows) && edges_fit(rows, fixed) && edges_fit(rows, ports)
 }

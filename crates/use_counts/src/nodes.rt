@@ -1,10 +1,12 @@
-ghost use Rattle.std.specs.Prelude.{◌≡◌, ◌<◌, ◌≤◌, ◌+◌, ◌-◌, ◌*◌, ◌^◌, ℕ, [], map, length, vec_len, slice_set, nat_lt, IfOk, IfSome, IfNone, true, false};
+ghost use Rattle.std.specs.Prelude.{◌≡◌, ◌↔◌, All, IsTrue, ◌<◌, ◌≤◌, ◌+◌, ◌-◌, ◌*◌, ◌^◌, ℕ, [], map, length, vec_len, slice_set, nat_lt, IfOk, IfSome, IfNone, true, false};
 ghost use Rattle.use_counts.specs.Marked.{mark, IsFirstStale, IsLastUseStale};
 ghost use Rattle.use_counts.specs.NodeRule.{HasRank, node_at, rank_at, rank_of, row_at, new_node};
 ghost use Rattle.use_counts.specs.NodesInside.{AreKeys, list_of};
+ghost use Rattle.use_counts.specs.Held.{member_of};
+ghost use Rattle.use_counts.specs.Network.{Rises, row_of};
 
 use crate::marks::Marks;
-use crate::node::{Node, Row};
+use crate::node::{Edge, Node, Row};
 use slab::Slab;
 use std::alloc::{AllocError, Global};
 use std::marker::Model;
@@ -110,6 +112,43 @@ impl Nodes {
         ensures { result ≡ node_at self.now place }
     {
         self.slab[self.keys[place]]
+    }
+
+    /// The rows of the nodes.
+    pub fn rows(&self, alloc: Global) -> Result<Vec<Row>, AllocError>
+        ensures { IfOk result (λ rows. rows.items ≡ map row_of (map member_of self.now)) }
+    {
+        let mut rows = Vec::new(alloc);
+        for place in 0..self.len() {
+            let node = self.node(place);
+            rows.push(Row {
+                kind: node.kind,
+                level: node.level,
+            })?;
+        }
+        Ok(rows)
+    }
+
+    fn rises(&self, edge: Edge) -> bool
+        ensures { IsTrue result ↔ Rises (map member_of self.now) edge }
+    {
+        if edge.lower >= self.len() || edge.upper >= self.len() {
+            return false;
+        }
+        let upper = self.node(edge.upper);
+        upper.kind.is_made() && self.node(edge.lower).level < upper.level
+    }
+
+    /// Whether each edge goes from a VLAN or bridge to a node of a lower level.
+    pub fn all_rise(&self, edges: &[Edge]) -> bool
+        ensures { IsTrue result ↔ All (Rises (map member_of self.now)) edges.now }
+    {
+        for edge in edges {
+            if !self.rises(*edge) {
+                return false;
+            }
+        }
+        true
     }
 
     /// Writes the node of a number. Its rank stays.

@@ -64,18 +64,17 @@ impl Topology {
         alloc: Global,
         order: Vec<usize>,
         ranks: Vec<usize>,
-        edges: &[Edge],
+        edges: Vec<Edge>,
     ) -> Result<Topology, AllocError>
         requires stand { All (λ e. RunsUp (rank_of ranks.items)
-            (vec_len ranks) e.lower e.upper) edges.now }
-        requires few { length edges.now < 2 ^ 20 }
+            (vec_len ranks) e.lower e.upper) edges.items }
+        requires few { length edges.items < 2 ^ 20 }
         requires ordered { IsOrder order.items (rank_of ranks.items) (vec_len ranks) }
-        ensures { IfOk result (λ s. (s.ranks.items ≡ ranks.items) × (s.edges.items ≡ edges.now)
+        ensures { IfOk result (λ s. (s.ranks.items ≡ ranks.items) × (s.edges.items ≡ edges.items)
             × (vec_len s.uppers ≡ vec_len ranks)) }
     {
-        let uppers = list_uppers(alloc, ranks.len(), edges)?;
-        let lowers = list_lowers(alloc, ranks.len(), edges)?;
-        let edges = Vec::from_slice(alloc, edges)?;
+        let uppers = list_uppers(alloc, ranks.len(), &edges)?;
+        let lowers = list_lowers(alloc, ranks.len(), &edges)?;
         Ok(Topology {
             order,
             ranks,

@@ -1,4 +1,4 @@
-use Rattle.std.proofs.Common.{arith, subst, All, List}
+use Rattle.std.proofs.Common.{arith, subst, All, List, refl}
 use Rattle.std.proofs.lemmas.List.{take_all}
 use Rattle.std.proofs.lemmas.List.Elements.{All-more}
 use Rattle.use_counts.specs.declared.node.Kind.TheVariants.{Broken}
@@ -10,4 +10,4 @@ pub loop-row-preserved : goal.loop-row-preserved
 loop-row-preserved c = record { fit = All-more HasLevel c.args.rows.now c.loop-row.row-index (record { kind = Broken; level = 0 }) c.loop-row-test.true c.loop-row.invariant.fit (omega (arith, c.if-row-eq0.false), omega (arith, c.if-row-gt8.false)) }
 
 pub returns : goal.returns
-returns c _ = subst (λ (rs : List Row). All HasLevel rs) (take_all c.loop-row.row-index c.args.rows.now (omega (arith, c.loop-row-test.false))) c.loop-row.invariant.fit
+returns c = (λ _. subst (λ (rs : List Row). All HasLevel rs) (take_all c.loop-row.row-index c.args.rows.now (omega (arith, c.loop-row-test.false))) c.loop-row.invariant.fit, λ _. refl)

@@ -1,13 +1,12 @@
-use Rattle.std.proofs.Common.{arith, ap, subst, sym, map, length, List, ℕ, ◌≡◌, ◌∙◌}
+use Rattle.std.proofs.Common.{arith, ap, subst, sym, refl, map, length, length-append, List, ℕ, ◌++◌, ◌≡◌, ◌∙◌}
 use Rattle.std.proofs.lemmas.Bool.{false≢true}
-use Rattle.use_counts.specs.declared.node.Edge.{Edge}
 use Rattle.use_counts.specs.NodeRule.{HasRank, rank_of, new_node, row_at}
-use Rattle.use_counts.specs.Held.{Member}
-use Rattle.use_counts.specs.Network.{Network, HasLevels, loaded}
+use Rattle.use_counts.specs.Held.{member_of}
+use Rattle.use_counts.specs.Network.{HasLevels, loaded}
 use Rattle.use_counts.proofs.NewLemmas.{AreFresh, kept_fresh, fresh_up, fresh_down, fresh_claims, fresh_points, fresh_ranks}
 use Rattle.use_counts.proofs.UpLemmas.{rank_within}
 use Rattle.use_counts.proofs.OrderLemmas.{ranks_apart, ranks_full}
-use Rattle.use_counts.proofs.NetworkLemmas.{net}
+use Rattle.use_counts.proofs.PortsLemmas.{both_parts}
 use Rattle.use_counts.proofs.graph.Graph.with_order.Goals as goal
 
 pub new-requires-clause-few : goal.new-requires-clause-few
@@ -53,17 +52,17 @@ invariant_of-result c =
     let are : AreFresh (rank_of c.args.order.ranks.items) c.args.rows.now c.in_ok-nodes.nodes = (record { size = c.in_ok-nodes.ensures.size; each = λ k h. c.in_ok-nodes.ensures.nodes k h ∙ ap (λ rs. new_node (rank_of rs k) (row_at c.args.rows.now k)) c.deref.ensures.value }) in
     let members = c.settle_all.ensures.members ∙ fresh_points (rank_of c.args.order.ranks.items) c.args.rows.now c.in_ok-nodes.nodes are in
     let size : length c.settle_all.new.nodes ≡ topology.uppers.len = omega (arith, c.settle_all.ensures.size, c.in_ok-nodes.ensures.size, c.in_ok-topology.ensures.2, c.requires.ranked, c.args.order.ranks.ok.0) in
-    let levels : HasLevels (net topology.edges.items c.settle_all.new.nodes) =
-    subst (λ (ps : List Member). HasLevels (let n : Network = record { members = ps; edges = topology.edges.items } in n)) (sym members) (subst (λ (es : List Edge). HasLevels (let n : Network = record { members = map loaded c.args.rows.now; edges = es } in n)) (sym c.in_ok-topology.ensures.1) c.requires.levels) in
+    let edges : topology.edges.items ≡ c.args.fixed.now ++ c.args.ports.now = c.in_ok-topology.ensures.1 ∙ c.in_ok-edges.ensures in
     record {
       rest = c.settle_all.ensures.rest;
       size = size;
       ranks = λ k. c.settle_all.ensures.ranks k ∙ fresh_ranks c.args.order.ranks.items c.args.rows.now c.in_ok-nodes.nodes c.requires.ranked are k ∙ ap (λ rs. rank_of rs k) (sym c.in_ok-topology.ensures.0);
-      levels = levels;
+      parts = omega (arith, ap length edges, length-append c.args.fixed.now c.args.ports.now);
+      levels = subst HasLevels (sym (both_parts (length c.args.fixed.now) c.args.fixed.now c.args.ports.now topology.edges.items (map member_of c.settle_all.new.nodes) (map loaded c.args.rows.now) refl edges members)) c.requires.levels;
     }
 
 pub returns : goal.returns
 returns c =
     let are : AreFresh (rank_of c.args.order.ranks.items) c.args.rows.now c.in_ok-nodes.nodes = (record { size = c.in_ok-nodes.ensures.size; each = λ k h. c.in_ok-nodes.ensures.nodes k h ∙ ap (λ rs. new_node (rank_of rs k) (row_at c.args.rows.now k)) c.deref.ensures.value }) in
     let members = c.settle_all.ensures.members ∙ fresh_points (rank_of c.args.order.ranks.items) c.args.rows.now c.in_ok-nodes.nodes are in
-    ap (λ ps. let n : Network = record { members = ps; edges = c.in_ok-topology.topology.edges.items } in n) members ∙ ap (λ es. let n : Network = record { members = map loaded c.args.rows.now; edges = es } in n) c.in_ok-topology.ensures.1
+    both_parts (length c.args.fixed.now) c.args.fixed.now c.args.ports.now c.in_ok-topology.topology.edges.items (map member_of c.settle_all.new.nodes) (map loaded c.args.rows.now) refl (c.in_ok-topology.ensures.1 ∙ c.in_ok-edges.ensures) members
