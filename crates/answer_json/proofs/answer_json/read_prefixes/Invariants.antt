@@ -1,0 +1,8 @@
+use Rattle.std.proofs.Common.{map, take}
+use Rattle.serde_json.specs.View.{view, items_of}
+use Rattle.answer_json.specs.Members.{AreItems}
+use Rattle.answer_json.specs.AnswerJson.{IsPrefix}
+use Rattle.answer_json.proofs.answer_json.read_prefixes.Given as goal
+
+abbrev pub invariant-loop-item : goal.invariant-loop-item
+invariant-loop-item l = AreItems IsPrefix (items_of (map view (take l.item-index l.item-items))) l.prefixes

@@ -1,0 +1,2 @@
+-- decimals as std reads them
+pub mod NumberLemmas
