@@ -1,3 +1,5 @@
 pub mod OrderLemmas
 pub mod NeededLemmas
 pub mod AskedLemmas
+pub mod NumberSetLemmas
+pub mod NoticeLemmas

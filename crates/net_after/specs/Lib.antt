@@ -2,3 +2,5 @@
 
 -- options by their names
 pub mod ByName
+-- numbers in a set
+pub mod NumberSet
