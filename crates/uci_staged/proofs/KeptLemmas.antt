@@ -22,7 +22,7 @@ use Rattle.uci_staged.proofs.ChangeLemmas.{Leaves, holder_of, file_of, each_filt
 pub told : {A : Type 0} (P : A → Type 0) (o : Option A) (x : A) → IfSome o P → o ≡ Some x → P x
 told P o x h e = subst (λ (q : Option _). IfSome q P) e h
 
-some_same : {A : Type 0} (x y : A) → ◌≡◌ {A = Option A} (Some x) (Some y) → x ≡ y
+pub some_same : {A : Type 0} (x y : A) → ◌≡◌ {A = Option A} (Some x) (Some y) → x ≡ y
 some_same x y e = cc
 
 -- a disk that tells its files now told them before

@@ -3,7 +3,7 @@ ghost use Rattle.std.specs.Prelude.{ℕ, ◌≡◌, [], length, Some, OnOk, IfOk
 ghost use Rattle.plane_words.specs.Causes.{HasCause};
 ghost use Rattle.plane_disk.specs.Files.{Files, bytes_of, with_bytes};
 ghost use Rattle.plane_disk.specs.View.{IsFile, Tells};
-ghost use Rattle.uci_staged.specs.Kept.{Follows, ReadsOn, HasFilled};
+ghost use Rattle.uci_staged.specs.Kept.{Follows, ReadsOn, ChangesFile, HasFilled};
 ghost use Rattle.uci_staged.specs.StagedError.{DiskRefuses};
 
 use crate::StagedError;
@@ -38,6 +38,7 @@ pub(crate) fn read_file<T: Disk>(
 pub(crate) fn fill<T: Disk>(disk: &mut T, file: u32, bytes: &[u8]) -> Result<(), Failed>
     requires { IsFile (T.view disk.old) file }
     ensures follows { Follows (T.view disk.old) (T.view disk.new) }
+    ensures changes { ChangesFile file (T.view disk.old) (T.view disk.new) }
     ensures filled { OnOk result (HasFilled (T.view disk.old) (T.view disk.new) file bytes.now) }
     ensures cause { HasCause (T.view disk.old).faults (T.view disk.new).faults result }
 {
@@ -50,6 +51,7 @@ pub(crate) fn fill<T: Disk>(disk: &mut T, file: u32, bytes: &[u8]) -> Result<(),
 pub(crate) fn empty<T: Disk>(disk: &mut T, file: u32) -> Result<(), Failed>
     requires { IsFile (T.view disk.old) file }
     ensures follows { Follows (T.view disk.old) (T.view disk.new) }
+    ensures changes { ChangesFile file (T.view disk.old) (T.view disk.new) }
     ensures filled { OnOk result (HasFilled (T.view disk.old) (T.view disk.new) file []) }
     ensures cause { HasCause (T.view disk.old).faults (T.view disk.new).faults result }
 {

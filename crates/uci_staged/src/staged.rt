@@ -1,6 +1,6 @@
-ghost use Rattle.std.specs.Prelude.{◌≡◌, ◌≢◌, ℕ, List, IfOk, OnOk};
+ghost use Rattle.std.specs.Prelude.{◌≡◌, ◌≢◌, ℕ, List, IfOk, OnOk, OnErr};
 ghost use Rattle.uci_tree.specs.Valid.{IsValid};
-ghost use Rattle.uci_delta.specs.Batch.{all_applied};
+ghost use Rattle.uci_delta.specs.Batch.{all_applied, HasFrontApplied};
 ghost use Rattle.uci_staged.specs.Change.{forgotten, has_deltas, has_staged};
 ghost use Rattle.uci_staged.specs.Kept.{changes_of, deltas_of, AreStagedIn};
 
@@ -63,6 +63,8 @@ impl Staged {
     ) -> Result<(), Memory>
         ensures done { OnOk result («package».new
             ≡ all_applied «package».old (deltas_of holder file self.now)) }
+        ensures front { OnErr result (HasFrontApplied «package».old
+            (deltas_of holder file self.now) «package».new) }
         ensures valid { IsValid «package».old → IsValid «package».new }
     {
         let deltas = self.deltas(alloc, holder, file)?;

@@ -6,7 +6,7 @@ ghost use Rattle.plane_words.specs.Causes.{HasCause};
 ghost use Rattle.plane_disk.specs.View.{IsFile};
 ghost use Rattle.uci_delta.specs.Shape.{HasShape};
 ghost use Rattle.uci_staged.specs.Change.{reverted, without, forgotten, kept_text};
-ghost use Rattle.uci_staged.specs.Kept.{changes_of, IsStagedIn, AreStagedIn, IsStagedOn, Follows, HasFilled, HasEmptied};
+ghost use Rattle.uci_staged.specs.Kept.{changes_of, IsStagedIn, AreStagedIn, IsStagedOn, Follows, ChangesFile, ChangesPackages, HasFilled, HasEmptied, IsKeptAt};
 ghost use Rattle.uci_staged.specs.StagedError.{KeepRefuses};
 
 use crate::file::{empty, fill};
@@ -34,6 +34,9 @@ impl Staged {
         requires on { IsStagedOn self.old (T.view disk.old) }
         requires change { IsStagedIn (T.view disk.old).names change }
         ensures follows { Follows (T.view disk.old) (T.view disk.new) }
+        ensures changes { ChangesFile change.file (T.view disk.old) (T.view disk.new) }
+        ensures text { OnOk result (IsKeptAt change.holder change.file
+            (T.view disk.old) (T.view disk.new) (changes_of self.new)) }
         ensures on { OnOk result (IsStagedOn self.new (T.view disk.new)) }
         ensures done { OnOk result (changes_of self.new ≡ changes_of self.old ++ change ∷ []) }
         ensures kept { OnErr result (changes_of self.new ≡ changes_of self.old) }
@@ -74,6 +77,9 @@ impl Staged {
         requires low { 2 ≤ file }
         requires number { IsFile (T.view disk.old) file }
         ensures follows { Follows (T.view disk.old) (T.view disk.new) }
+        ensures changes { ChangesFile file (T.view disk.old) (T.view disk.new) }
+        ensures text { OnOk result (IsKeptAt holder file
+            (T.view disk.old) (T.view disk.new) (changes_of self.new)) }
         ensures on { OnOk result (IsStagedOn self.new (T.view disk.new)) }
         ensures done { OnOk result
             (changes_of self.new ≡ reverted holder file path.now (changes_of self.old)) }
@@ -113,11 +119,15 @@ impl Staged {
         requires low { 2 ≤ file }
         requires number { IsFile (T.view disk.old) file }
         ensures follows { Follows (T.view disk.old) (T.view disk.new) }
+        ensures changes { ChangesFile file (T.view disk.old) (T.view disk.new) }
+        ensures text { OnOk result (IsKeptAt holder file
+            (T.view disk.old) (T.view disk.new) (changes_of self.new)) }
         ensures on { OnOk result (IsStagedOn self.new (T.view disk.new)) }
         ensures done { OnOk result
             (changes_of self.new ≡ without holder file (changes_of self.old)) }
         ensures kept { OnErr result (changes_of self.new ≡ changes_of self.old) }
         ensures cause { HasCause (T.view disk.old).faults (T.view disk.new).faults result }
+        ensures own { OnErr result (holder ≡ 0) }
         ensures aside { holder ≢ 0 → disk.new ≡ disk.old }
     {
         match empty_own(disk, holder, file) {
@@ -137,10 +147,14 @@ impl Staged {
     pub fn drop_holder<T: Disk>(&mut self, disk: &mut T, holder: u128) -> Result<(), Failed>
         requires on { IsStagedOn self.old (T.view disk.old) }
         ensures follows { Follows (T.view disk.old) (T.view disk.new) }
+        ensures changes { ChangesPackages (T.view disk.old) (T.view disk.new) }
+        ensures emptied { OnOk result (holder ≡ 0 →
+            HasEmptied (T.view disk.old) (T.view disk.new)) }
         ensures on { OnOk result (IsStagedOn self.new (T.view disk.new)) }
         ensures done { OnOk result (changes_of self.new ≡ forgotten holder (changes_of self.old)) }
         ensures kept { OnErr result (changes_of self.new ≡ changes_of self.old) }
         ensures cause { HasCause (T.view disk.old).faults (T.view disk.new).faults result }
+        ensures own { OnErr result (holder ≡ 0) }
         ensures aside { holder ≢ 0 → disk.new ≡ disk.old }
     {
         match empty_all_own(disk, holder) {
@@ -165,6 +179,7 @@ fn keep<T: Disk>(
     requires number { IsFile (T.view disk.old) file }
     requires shapes { AllByRecursion (λ change. HasShape change.delta) changes.now }
     ensures follows { Follows (T.view disk.old) (T.view disk.new) }
+    ensures changes { ChangesFile file (T.view disk.old) (T.view disk.new) }
     ensures filled { OnOk result (holder ≡ 0 → HasFilled (T.view disk.old) (T.view disk.new) file
         (kept_text file (option_copied dropped.entry) changes.now)) }
     ensures refused { IfErr result (KeepRefuses holder (T.view disk.old) (T.view disk.new)) }
@@ -208,8 +223,10 @@ fn text_of(
 fn empty_own<T: Disk>(disk: &mut T, holder: u128, file: u32) -> Result<(), Failed>
     requires { IsFile (T.view disk.old) file }
     ensures follows { Follows (T.view disk.old) (T.view disk.new) }
+    ensures changes { ChangesFile file (T.view disk.old) (T.view disk.new) }
     ensures filled { OnOk result (holder ≡ 0 → HasFilled (T.view disk.old) (T.view disk.new) file []) }
     ensures cause { HasCause (T.view disk.old).faults (T.view disk.new).faults result }
+    ensures own { OnErr result (holder ≡ 0) }
     ensures aside { holder ≢ 0 → disk.new ≡ disk.old }
 {
     if holder != 0 {
@@ -221,8 +238,10 @@ fn empty_own<T: Disk>(disk: &mut T, holder: u128, file: u32) -> Result<(), Faile
 /// Leaves all packages empty, where the holder's changes are kept.
 fn empty_all_own<T: Disk>(disk: &mut T, holder: u128) -> Result<(), Failed>
     ensures follows { Follows (T.view disk.old) (T.view disk.new) }
+    ensures changes { ChangesPackages (T.view disk.old) (T.view disk.new) }
     ensures emptied { OnOk result (holder ≡ 0 → HasEmptied (T.view disk.old) (T.view disk.new)) }
     ensures cause { HasCause (T.view disk.old).faults (T.view disk.new).faults result }
+    ensures own { OnErr result (holder ≡ 0) }
     ensures aside { holder ≢ 0 → disk.new ≡ disk.old }
 {
     if holder != 0 {
@@ -234,6 +253,7 @@ fn empty_all_own<T: Disk>(disk: &mut T, holder: u128) -> Result<(), Failed>
 /// Leaves all packages empty.
 fn empty_all<T: Disk>(disk: &mut T) -> Result<(), Failed>
     ensures follows { Follows (T.view disk.old) (T.view disk.new) }
+    ensures changes { ChangesPackages (T.view disk.old) (T.view disk.new) }
     ensures emptied { OnOk result (HasEmptied (T.view disk.old) (T.view disk.new)) }
     ensures cause { HasCause (T.view disk.old).faults (T.view disk.new).faults result }
 {
