@@ -1,0 +1,3 @@
+mod PatternLemmas
+mod ReadLemmas
+mod BadLemmas
