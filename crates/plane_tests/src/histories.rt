@@ -10,17 +10,28 @@ use std::alloc::Global;
 use std::process::Abort;
 use std::test::Fail;
 
-// A new plane, over a kernel whose calls with these numbers fail, gives the lines of each step.
+/// A new plane behind these steps, over a kernel whose calls with these numbers fail. Each step gives its lines.
+pub(crate) fn net_behind(
+    rt: &impl Abort,
+    alloc: Global,
+    failing: &[u64],
+    steps: &[(Step, &str)],
+) -> Result<Net, Fail> {
+    let mut net = Net::new(alloc);
+    let failing = Vec::from_slice(alloc, failing)?;
+    let mut kernel = MemKernel::new(alloc, failing, Vec::new(alloc));
+    assert_history(rt, alloc, &mut net, &mut kernel, steps)?;
+    Ok(net)
+}
+
 fn assert_from_new(
     rt: &impl Abort,
     alloc: Global,
     failing: &[u64],
     steps: &[(Step, &str)],
 ) -> Result<(), Fail> {
-    let mut net = Net::new(alloc);
-    let failing = Vec::from_slice(alloc, failing)?;
-    let mut kernel = MemKernel::new(alloc, failing, Vec::new(alloc));
-    assert_history(rt, alloc, &mut net, &mut kernel, steps)
+    let _net = net_behind(rt, alloc, failing, steps)?;
+    Ok(())
 }
 
 #[test]

@@ -8,4 +8,6 @@ mod files;
 #[cfg(test)]
 mod histories;
 #[cfg(test)]
+mod shown;
+#[cfg(test)]
 mod steps;

@@ -2,7 +2,7 @@ use Rattle.std.proofs.Common.{ap, sym, ◌∙◌}
 use Rattle.kern_model.specs.ObjectOrder.{set_of}
 use Rattle.kern_model.specs.Kernel.{map_of}
 use Rattle.net_rules.specs.Moment.{devices_of}
-use Rattle.plane_tests.proofs.histories.assert_from_new.Goals as goal
+use Rattle.plane_tests.proofs.histories.net_behind.Goals as goal
 
 pub assert_history-requires-clause-of : goal.assert_history-requires-clause-of
 assert_history-requires-clause-of g c =
