@@ -57,6 +57,7 @@ module _ (inputs now : Inputs) (before : Course) (what : DevEvent) (kept : IsKep
   pub is_after : (next : Course) (notices told : List Notice) → course.held_of next ≡ objects_after_event (set_of before.held) what → told ≡ notices_between inputs now → IsAfter (record { inputs = inputs; held = before.held; notices = notices }) (event.Device what) (record { inputs = now; held = next.held; notices = told })
   is_after next notices told held tells = record {
     free = free;
+    rows = tt;
     moment = moment_then next held;
     notices = tells ∙ ap (notices_between inputs) is;
   }

@@ -36,15 +36,15 @@ told_moment before now told = same_moment told.inputs (ap set_of told.held)
 
 pub history_of : (events : List Event) (now : Network) → HasBecome events now → IsHistory (moment_of now)
 history_of events now (HasBecome.new n new) = subst IsHistory (sym (new_moment now new)) IsHistory.nothing
-history_of events now (HasBecome.took es before n event became rows is) =
-    subst IsHistory (sym is.moment) (IsHistory.came (moment_of before) event (history_of es before became) (comes (moment_of before) event rows is.free))
+history_of events now (HasBecome.took es before n event became is) =
+    subst IsHistory (sym is.moment) (IsHistory.came (moment_of before) event (history_of es before became) (comes (moment_of before) event is.rows is.free))
 history_of events now (HasBecome.settled es before n made became has) =
     subst IsHistory (sym (made_moment made before now has)) (IsHistory.settled (moment_of before) made (calls_of now) (history_of events before became) (made_in_parts made before now has))
 history_of events now (HasBecome.told es before n became told) = subst IsHistory (sym (told_moment before now told)) (history_of events before became)
 
 pub inputs_follow : (events : List Event) (now : Network) → HasBecome events now → now.inputs ≡ inputs_after events
 inputs_follow events now (HasBecome.new n new) = new.inputs
-inputs_follow events now (HasBecome.took es before n event became rows is) =
+inputs_follow events now (HasBecome.took es before n event became is) =
     ap (λ (m : Moment). m.inputs) is.moment ∙ ap (λ i. after i event) (inputs_follow es before became) ∙ sym (fold_last after no_inputs es event)
 inputs_follow events now (HasBecome.settled es before n made became has) = has.inputs ∙ inputs_follow events before became
 inputs_follow events now (HasBecome.told es before n became told) = told.inputs ∙ inputs_follow events before became
@@ -62,8 +62,8 @@ as_fresh events now became = fresh_same (moment_of now) (history_of events now b
 module _ (name : List ℕ) (some : Objects) where
   pub stretch_of : (before : Network) (calls : List Call) → Stays name some before calls → IsStretch name some (moment_of before) calls
   stretch_of before calls (Stays.ended b) = IsStretch.ended (moment_of before)
-  stretch_of before calls (Stays.took b now event cs rows is same leaves stays) =
-      IsStretch.came (moment_of before) event calls (comes (moment_of before) event rows is.free)
+  stretch_of before calls (Stays.took b now event cs is same leaves stays) =
+      IsStretch.came (moment_of before) event calls (comes (moment_of before) event is.rows is.free)
       (subst (λ (m : Moment). footprint_named m.inputs name ≡ some) is.moment same) leaves
       (subst (λ m. IsStretch name some m calls) is.moment (stretch_of now calls stays))
   stretch_of before calls (Stays.settled b now made cs has stays) =

@@ -5,3 +5,4 @@ pub mod SettledLemmas
 pub mod HistoryLemmas
 pub mod AnswerLemmas
 pub mod LoadLemmas
+pub mod StatusLemmas

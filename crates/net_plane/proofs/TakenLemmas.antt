@@ -64,6 +64,7 @@ module _ (inputs now : Inputs) (before : Course) (event : Event) (kept : IsKept 
   pub is_after : (next : Course) (notices told : List Notice) → next.held ≡ before.held → told ≡ notices_between inputs now → IsAfter (record { inputs = inputs; held = before.held; notices = notices }) event (record { inputs = now; held = next.held; notices = told })
   is_after next notices told held tells = record {
     free = free;
+    rows = rows;
     moment = moment_then next held;
     notices = tells ∙ ap (notices_between inputs) is;
   }

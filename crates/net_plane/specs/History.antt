@@ -9,7 +9,7 @@ use Rattle.net_rules.specs.Inputs.{no_inputs}
 use Rattle.net_rules.specs.After.{after}
 use Rattle.net_rules.specs.Moment.{LeavesHeld, footprint_named}
 use Rattle.net_plane.specs.Network.{Network, IsNew}
-use Rattle.net_plane.specs.Taken.{IsAfter, HasSoundRows}
+use Rattle.net_plane.specs.Taken.{IsAfter}
 use Rattle.net_plane.specs.Settled.{HasMade}
 
 -- only notices were handed out
@@ -23,7 +23,7 @@ pub record HasTold (before now : Network) : Type 0 where
 pub data HasBecome : List Event → Network → Type 0 where
   new : (now : Network) → IsNew now → HasBecome [] now
   took : (events : List Event) (before now : Network) (event : Event) → HasBecome events before
-      → HasSoundRows event → IsAfter before event now → HasBecome (events ++ event ∷ []) now
+      → IsAfter before event now → HasBecome (events ++ event ∷ []) now
   settled : (events : List Event) (before now : Network) (made : List Call)
       → HasBecome events before → HasMade made before now → HasBecome events now
   told : (events : List Event) (before now : Network) → HasBecome events before
@@ -38,8 +38,8 @@ inputs_after events = fold after no_inputs events
 -- their calls.
 pub data Stays (name : List ℕ) (some : Objects) : Network → List Call → Type 0 where
   ended : (now : Network) → Stays name some now []
-  took : (before now : Network) (event : Event) (calls : List Call) → HasSoundRows event
-      → IsAfter before event now → footprint_named now.inputs name ≡ some
+  took : (before now : Network) (event : Event) (calls : List Call) → IsAfter before event now
+      → footprint_named now.inputs name ≡ some
       → LeavesHeld some (set_of before.held) event → Stays name some now calls
       → Stays name some before calls
   settled : (before now : Network) (made calls : List Call) → HasMade made before now

@@ -10,5 +10,7 @@ pub mod Taken
 pub mod Settled
 -- what planes come to by events and settlings
 pub mod History
+-- what is shown, or why nothing is
+pub mod Status
 -- why a call is refused
 pub mod NetError

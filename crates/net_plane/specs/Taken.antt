@@ -17,17 +17,18 @@ use Rattle.net_plane.specs.declared.net_error.NetError.TheVariants as error
 use Rattle.net_plane.specs.NetError.{error_of}
 use Rattle.net_plane.specs.Network.{Network, moment_of}
 
--- An event was taken: nothing refuses it, it led to the next moment of the history, and its notices
--- are to be told.
-pub record IsAfter (before : Network) (event : Event) (now : Network) : Type 0 where
-  pub free : refusal (moment_of before) event ≡ None
-  pub moment : moment_of now ≡ moment_after (moment_of before) event
-  pub notices : now.notices ≡ notices before.inputs event
-
 -- the rows that an event loads, if it loads any, are sound
 abbrev pub HasSoundRows : Event → Type 0
 HasSoundRows (event.Load conf) = IsSound conf
 HasSoundRows _ = ⊤
+
+-- An event was taken: nothing refuses it, its rows are sound, it led to the next moment of the
+-- history, and its notices are to be told.
+pub record IsAfter (before : Network) (event : Event) (now : Network) : Type 0 where
+  pub free : refusal (moment_of before) event ≡ None
+  pub rows : HasSoundRows event
+  pub moment : moment_of now ≡ moment_after (moment_of before) event
+  pub notices : now.notices ≡ notices before.inputs event
 
 -- it is no event of a device
 abbrev pub IsOfNoDevice : Event → Type 0

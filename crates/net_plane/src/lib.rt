@@ -9,6 +9,7 @@ mod load;
 mod net;
 mod net_error;
 mod next;
+mod status;
 mod take;
 
 pub use laws::{no_call_names_what_stayed, settled_planes_are_as_fresh_ones};
