@@ -1,4 +1,4 @@
-ghost use Rattle.std.specs.Prelude.{◌≡◌, ◌≢◌, ◌<◌, ◌^◌, Ok, Err, IfOk, IfErr, codes, length, slice_index_or};
+ghost use Rattle.std.specs.Prelude.{◌≡◌, ◌≢◌, ◌<◌, ◌≤◌, ◌+◌, ◌^◌, Ok, Err, IfOk, IfErr, codes, length, slice_index_or};
 ghost use Rattle.rpc_session.specs.Arguments.{id_in};
 ghost use Rattle.rpc_session.specs.SessionList.{nobody};
 ghost use Rattle.rpc_session.specs.Serve as spec;
@@ -35,6 +35,7 @@ impl Sessions {
             spec.IsDone (spec.session_done method.now args.now now word self.old) result self.new }
         ensures memory { result ≡ Err SessionError.Memory →
             self.new ≡ spec.renewed args.now now self.old }
+        ensures number { self.new.next ≤ self.old.next + 1 }
     {
         self.renew(args, now);
         match Method::of(method) {
@@ -65,6 +66,7 @@ impl Sessions {
         ensures done { result ≢ Err SessionError.Memory →
             spec.IsDone (spec.create_by args.now now word self.old) result self.new }
         ensures memory { result ≡ Err SessionError.Memory → self.new ≡ self.old }
+        ensures number { self.new.next ≤ self.old.next + 1 }
     {
         let Some(timeout) = timeout_in(args) else {
             return Err(SessionError::Argument);
@@ -79,7 +81,8 @@ impl Sessions {
     }
 
     fn serve_destroy(&mut self, args: &[Attr]) -> Result<Items<Attr>, SessionError>
-        ensures { spec.IsDone (spec.destroy_by args.now self.old) result self.new }
+        ensures done { spec.IsDone (spec.destroy_by args.now self.old) result self.new }
+        ensures number { self.new.next ≡ self.old.next }
     {
         let Some(sid) = session_named(args) else {
             return Err(SessionError::Argument);
@@ -115,6 +118,7 @@ impl Sessions {
         ensures done { result ≢ Err SessionError.Memory →
             spec.IsDone (spec.alter_by change args.now now self.old) result self.new }
         ensures memory { result ≡ Err SessionError.Memory → self.new ≡ self.old }
+        ensures number { self.new.next ≡ self.old.next }
     {
         let alloc = *self.rows.allocator();
         match self.place_for(change, session_named(args), now) {

@@ -1,4 +1,4 @@
-ghost use Rattle.std.specs.Prelude.{◌≡◌, ◌≢◌, ◌<◌, ◌^◌, Err, IfOk, IfErr, None};
+ghost use Rattle.std.specs.Prelude.{◌≡◌, ◌≢◌, ◌<◌, ◌≤◌, ◌+◌, ◌^◌, Err, IfOk, IfErr, None};
 ghost use Rattle.rpc_session.specs.SessionList.{IsAt, RiseById};
 ghost use Rattle.rpc_session.specs.Sessions as spec;
 
@@ -64,6 +64,7 @@ impl Sessions {
         ensures made { result ≢ Err SessionError.Memory →
             spec.Does (spec.created timeout now word self.old) result self.old self.new }
         ensures memory { result ≡ Err SessionError.Memory → self.new ≡ self.old }
+        ensures number { self.new.next ≤ self.old.next + 1 }
     {
         if self.rows.len() >= MOST_SESSIONS {
             return Err(SessionError::Full);
@@ -95,7 +96,8 @@ impl Sessions {
     ///
     /// `DefaultSession` for the id 0, and `NoSession` where there is no such session. The sessions stay as they were.
     pub fn destroy(&mut self, sid: u128) -> Result<(), SessionError>
-        ensures { spec.Does (spec.destroyed sid self.old) result self.old self.new }
+        ensures done { spec.Does (spec.destroyed sid self.old) result self.old self.new }
+        ensures number { self.new.next ≡ self.old.next }
     {
         if sid == 0 {
             return Err(SessionError::DefaultSession);
@@ -116,6 +118,7 @@ impl Sessions {
         ensures made { result ≢ Err SessionError.Memory →
             spec.Does (spec.granted sid grant.now self.old) result self.old self.new }
         ensures memory { result ≡ Err SessionError.Memory → self.new ≡ self.old }
+        ensures number { self.new.next ≡ self.old.next }
     {
         let Ok(place) = search(&self.rows, sid) else {
             return Err(SessionError::NoSession);
@@ -130,7 +133,8 @@ impl Sessions {
     ///
     /// `NoSession` where there is no such session. The sessions stay as they were.
     pub fn revoke(&mut self, sid: u128, grant: &Grant) -> Result<(), SessionError>
-        ensures { spec.Does (spec.revoked sid grant.now self.old) result self.old self.new }
+        ensures done { spec.Does (spec.revoked sid grant.now self.old) result self.old self.new }
+        ensures number { self.new.next ≡ self.old.next }
     {
         let alloc = *self.rows.allocator();
         let Ok(place) = search(&self.rows, sid) else {
@@ -168,7 +172,8 @@ impl Sessions {
     ///
     /// `NoSession` where no live session has the id. The sessions stay as they were.
     pub fn used(&mut self, sid: u128, now: u64) -> Result<(), SessionError>
-        ensures { spec.Does (spec.used sid now self.old) result self.old self.new }
+        ensures done { spec.Does (spec.used sid now self.old) result self.old self.new }
+        ensures number { self.new.next ≡ self.old.next }
     {
         let Ok(place) = search(&self.rows, sid) else {
             return Err(SessionError::NoSession);
