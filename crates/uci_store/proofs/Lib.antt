@@ -1,0 +1,4 @@
+pub mod StoreLemmas
+pub mod StopLemmas
+pub mod CommitLemmas
+pub mod ApplyLemmas
