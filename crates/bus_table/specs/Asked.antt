@@ -10,9 +10,13 @@ use Rattle.bus_table.specs.Table.{Table, Object, typed, path_of}
 use Rattle.bus_table.specs.Frames.{Sent, DATA, reply, answer, with_data}
 use Rattle.bus_table.specs.Refusal.{Refusal, numbered, Step, says, refuses}
 
+-- the attributes that were read
+abbrev pub pong : Frame → Frame
+pong request = record request { kind = DATA }
+
 -- PING: the attributes that were read come back
 abbrev pub pinged : (Frame → Bool) → Table → ℕ → Frame → Step
-pinged fits table client request = says table (with_data fits client request (record request { kind = DATA } ∷ []))
+pinged fits table client request = says table (with_data fits client request (pong request ∷ []))
 
 -- the pattern fits the path, where there is one
 abbrev pub fits_path : List ℕ → Option (List ℕ) → Bool

@@ -48,11 +48,16 @@ opened fits table client request objects =
     if is_set request.no_reply then []
     else map (call_on table client request) (reached fits client request objects)
 
+-- who is subscribed to the object of a NOTIFY
+abbrev pub subscribers_told : Frame → ℕ → List ℕ → Frame
+subscribers_told request object subscribers =
+    record (status_reply request 0) { id = Some object; subscribers = Some subscribers }
+
 -- the caller of a NOTIFY is told who is subscribed, where it asks for a reply
 abbrev pub told_subscribers : (Frame → Bool) → Client → Frame → ℕ → List ℕ → List Sent
 told_subscribers fits client request object subscribers =
     if is_set request.no_reply then []
-    else where_fits fits client.number (record (status_reply request 0) { id = Some object; subscribers = Some subscribers })
+    else where_fits fits client.number (subscribers_told request object subscribers)
 
 abbrev pub notified : (Frame → Bool) → Table → Client → Frame → ℕ → Step
 notified fits table client request object =

@@ -5,6 +5,7 @@ use Rattle.blob_codec.specs.declared.blob.Blob.TheVariants.{Table as table_value
 use Rattle.blob_codec.specs.declared.blob.Attr.{Attr}
 use Rattle.ubus_frames.specs.declared.frame.Frame.{Frame}
 use Rattle.bus_table.specs.Table.{Table}
+pub use Rattle.bus_table.specs.declared.rows.LocalCall.{LocalCall}
 use Rattle.bus_table.specs.Frames.{Sent, DATA, plain, where_fits, reply, status_reply, is_set}
 
 pub data Refusal : Type 0 where
@@ -48,14 +49,6 @@ refused_if_asked fits place client request refusal =
     if is_set request.no_reply then [] else refused fits place client request refusal
 
 -- What a step gives: the table, the frames to send, and the call that is handed out.
-pub record LocalCall : Type 0 where
-  pub caller : ℕ
-  pub seq : ℕ
-  pub object : ℕ
-  pub method : List ℕ
-  pub args : List Attr
-  pub no_reply : Bool
-
 pub record Step : Type 0 where
   pub table : Table
   pub sent : List Sent

@@ -4,29 +4,10 @@ use Rattle.std.specs.List.{find, list_any}
 use Rattle.std.specs.Cmp.Lexicographic.{pointwise}
 use Rattle.blob_codec.specs.declared.blob.Attr.{Attr}
 use Rattle.bus_access.specs.declared.acl.Acl.{Acl}
-
-pub record Client : Type 0 where
-  pub number : ℕ
-  pub user : List ℕ
-  pub group : List ℕ
-
--- an object, with its owner's number; its type has the signature
-pub record Object : Type 0 where
-  pub number : ℕ
-  pub owner : ℕ
-  pub path : Option (List ℕ)
-  pub objtype : ℕ
-  pub signature : List Attr
-
--- an object that is told of another one
-pub record Subscription : Type 0 where
-  pub subscriber : ℕ
-  pub target : ℕ
-
--- an object that is sent the events whose ids the pattern fits
-pub record Registration : Type 0 where
-  pub object : ℕ
-  pub pattern : List ℕ
+pub use Rattle.bus_table.specs.declared.rows.Client.{Client}
+pub use Rattle.bus_table.specs.declared.rows.Object.{Object}
+pub use Rattle.bus_table.specs.declared.rows.Subscription.{Subscription}
+pub use Rattle.bus_table.specs.declared.rows.Registration.{Registration}
 
 -- A call that was passed on and is not answered yet. The place is that of its message: how many events were before it.
 pub record Call : Type 0 where
