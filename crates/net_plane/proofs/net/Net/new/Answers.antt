@@ -1,0 +1,5 @@
+use Rattle.net_plane.proofs.MomentLemmas.{bare_kept}
+use Rattle.net_plane.proofs.net.Net.new.Goals as goal
+
+pub invariant_of-result : goal.invariant_of-result
+invariant_of-result c = bare_kept c.no_inputs.result c.new.result c.no_inputs.ensures c.new.ensures
