@@ -1,11 +1,5 @@
 pub mod WordLemmas
 pub mod DistinctLemmas
-pub mod InterfaceLemmas
-pub mod ItemLemmas
-pub mod DeviceLemmas
-pub mod SettleLemmas
-pub mod BringLemmas
-pub mod CountLemmas
-pub mod EndLemmas
+pub mod DueLemmas
 pub mod StartLemmas
 pub mod RunLemmas

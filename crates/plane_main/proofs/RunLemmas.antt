@@ -8,7 +8,8 @@ use Rattle.plane_main.specs.declared.command.Command.{Command}
 use Rattle.plane_main.specs.declared.command.Command.TheVariants.{Start, Show}
 use Rattle.plane_main.specs.declared.ending.Ending.{Ending}
 use Rattle.plane_main.specs.declared.ending.Ending.TheVariants as ending
-use Rattle.plane_main.specs.Outside.{Input, Outside, ErrorOutput}
+use Rattle.net_settle.specs.Outside.{Outside}
+use Rattle.plane_main.specs.Outside.{Input, ErrorOutput}
 use Rattle.plane_main.specs.Command.{AskFor, IsPageCommand}
 use Rattle.plane_main.specs.Ending.{status_of, IsTold}
 use Rattle.plane_main.specs.Page.{PageEnds, PageComes}
@@ -26,26 +27,25 @@ page_comes page before after (ending.KernelFailed left) cause calm = absurd caus
 page_comes page before after ending.OutOfMemory cause calm = absurd cause
 page_comes page before after (ending.TooLong limit) cause calm = absurd cause
 page_comes page before after (ending.Unreadable fault) cause calm = absurd cause
-page_comes page before after ending.NotBuilt cause calm = absurd cause
 
 command_comes : (command : Command) (input : Input) (before after : Outside) (end : Ending) → CommandEnds command input before after end → CommandComes command input before after end
 command_comes (Start devices) input before after end cause = start_comes devices input before after end cause
 command_comes (Show page) input before after end cause = page_comes page before after end cause
 
 -- want of memory may come in place of each ending of a `start`
-memory_comes : (input : Input) (before after : Outside) → StartComes input before after ending.OutOfMemory
-memory_comes input before after = record {
+memory_comes : (devices : List (List ℕ)) (input : Input) (before after : Outside) → StartComes devices input before after ending.OutOfMemory
+memory_comes devices input before after = record {
   calm = λ calm failure. failure;
   long = λ text told over calm. inr refl;
   no_package = λ text error is calm bad. inr refl;
-  no_form = λ text is calm out. inr refl;
-  built = λ text calm is form. inr refl;
-  due = λ text interfaces is network whole. absurd (whole tt);
-  nothing_due = λ text interfaces is network whole. absurd (whole tt);
+  too_many = λ text limit is calm many. inr refl;
+  up = λ text network calm is up. inr refl;
+  due = λ text network is up whole. absurd (whole tt);
+  nothing_due = λ text network is up whole. absurd (whole tt);
 }
 
 unread_comes : (words : List (List ℕ)) (input : Input) (before after : Outside) → (IsPageCommand words → ⊥) → (command : Command) → AskFor words command → CommandComes command input before after ending.OutOfMemory
-unread_comes words input before after no_page (Start devices) asked = memory_comes input before after
+unread_comes words input before after no_page (Start devices) asked = memory_comes devices input before after
 unread_comes words input before after no_page (Show page) asked = absurd (no_page (page, asked))
 
 pub run_comes : (words : List (List ℕ)) (input : Input) (before after : Outside) (end : Ending) → Ends words input before after end → Comes words input before after end
@@ -72,7 +72,6 @@ done_of_status (ending.KernelFailed left) h = absurd (omega arith)
 done_of_status ending.OutOfMemory h = absurd (omega arith)
 done_of_status (ending.TooLong limit) h = absurd (omega arith)
 done_of_status (ending.Unreadable fault) h = absurd (omega arith)
-done_of_status ending.NotBuilt h = absurd (omega arith)
 
 -- a text that was written wholly was written in front too, and it was where no fault was counted
 pub told_by : {T E : Type 0} (result : Result T E) (text : List ℕ) (errors : ErrorOutput) → OnOk result (Grows errors.held errors.held_now text) → OnErr result (GrowsByFront errors.held errors.held_now text) → OnErr result (Rose errors.faults errors.faults_now) → IsTold text errors

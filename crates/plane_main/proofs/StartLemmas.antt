@@ -1,49 +1,49 @@
 -- How a `start` ends, and when.
 use Rattle.std.proofs.Common.{arith, ℕ, ◌≡◌, ◌<◌, inl, inr, length, List, [], ◌∷◌, Option, Some, None, refl, ap, sym, subst, ◌∙◌}
-use Rattle.std.specs.Prelude.{◌↔◌, IsSomeAnd}
+use Rattle.std.specs.Prelude.{◌↔◌, IsSomeAnd, Result, Ok, Err}
 use Rattle.std.specs.FinMap as map
 use Rattle.plane_words.specs.Causes.{DidNotRise}
 use Rattle.plane_io.specs.Source.{IsAllThatWasLeft, HadMoreThan}
 use Rattle.plane_io.specs.declared.input.TheConstants.{INPUT_LIMIT}
 use Rattle.uci_tree.specs.declared.fault.Fault.{Fault}
+use Rattle.uci_tree.specs.declared.package.Package.{Package}
 use Rattle.uci_tree.specs.declared.tree_error.TreeError.{TreeError}
 use Rattle.uci_tree.specs.Fault.{fault_of}
-use Rattle.uci_tree.specs.Reading.{HasTreeFault}
+use Rattle.uci_tree.specs.Reading.{Reads, HasTreeFault}
 use Rattle.uci_tree.proofs.LawLemmas.{no_package, tree_fault_is_one}
-use Rattle.plane_main.specs.declared.interface.Interface.{Interface}
+use Rattle.uci_tree.proofs.ReadingLemmas.{one_tree}
+use Rattle.net_conf.specs.Limits.{passed_limit}
+use Rattle.net_settle.specs.Outside.{Outside}
+use Rattle.net_start.specs.declared.start_error.StartError.{StartError}
+use Rattle.net_start.specs.declared.start_error.StartError.TheVariants as error
+use Rattle.net_start.specs.Inputs.{rows_of, present_of, start_wants}
+use Rattle.net_start.specs.Settling.{Finished, StoppedAtCall}
+use Rattle.net_start.specs.BringUp.{Started, LackedMemory, BringUpEnds}
+use Rattle.net_start.proofs.DeviceLemmas.{came_none}
+use Rattle.net_start.proofs.RecordLemmas.{records_none}
 use Rattle.plane_main.specs.declared.ending.Ending.{Ending}
 use Rattle.plane_main.specs.declared.ending.Ending.TheVariants as ending
-use Rattle.plane_main.specs.Outside.{Input, Outside}
-use Rattle.plane_main.specs.Network.{IsNetwork, IsOfForm, IsOutOfForm}
-use Rattle.plane_main.specs.Wanted.{wanted}
-use Rattle.plane_main.specs.Ending.{IsFailure, IsCutShort, IsKernelFailed, Tells, OrLacksMemory}
-use Rattle.plane_main.specs.BringUp.{LackedMemory, BringUpEnds}
-use Rattle.plane_main.specs.Start.{IsRead, AreRead, IsUnreadable, IsNotBuilt, ReadEnds, StartEnds, IsInput, IsCalm, StartComes}
-use Rattle.plane_main.proofs.InterfaceLemmas.{network_one}
-use Rattle.plane_main.proofs.CountLemmas.{some_due}
-use Rattle.plane_main.proofs.DeviceLemmas.{came_none}
-use Rattle.plane_main.proofs.SettleLemmas.{records_none}
+use Rattle.plane_main.specs.Outside.{Input}
+use Rattle.plane_main.specs.Ending.{IsFailure, IsCutShort, IsKernelFailed, Tells, OrLacksMemory, ending_of}
+use Rattle.plane_main.specs.Start.{IsRead, package_name, IsNetwork, PassesLimit, HasNetwork, IsUnreadable, HasTooMany, ReadEnds, StartEnds, IsInput, IsCalm, HoldsWanted, StartComes}
+use Rattle.plane_main.proofs.DueLemmas.{some_due}
 
 -- nothing was done: no device came
 pub nothing_lacked : (names : List (List ℕ)) (before : Outside) → before.devices ≡ map.empty → LackedMemory names before before
 nothing_lacked names before bare = record {
   out = refl;
+  out_faults = refl;
   objects = refl;
   calls = refl;
   came = record { front = []; back = names; parts = refl; came = came_none before.devices before.kernel_faults bare; asked = records_none before.asked };
 }
 
 module _ (devices : List (List ℕ)) (input : Input) (before after : Outside) where
-  pub brought_up_ends : (interfaces : List Interface) (end : Ending) → AreRead input interfaces → BringUpEnds devices interfaces before after end → StartEnds devices input before after end
-  brought_up_ends interfaces ending.Done read did = record { interfaces = interfaces; read = read; did = did }
-  brought_up_ends interfaces (ending.KernelFailed left) read did = record { interfaces = interfaces; read = read; did = did }
-  brought_up_ends interfaces ending.WriteFailed read did = record { interfaces = interfaces; read = read; did = did }
-  brought_up_ends interfaces ending.OutOfMemory read did = did
-  brought_up_ends interfaces ending.Usage read did = absurd did
-  brought_up_ends interfaces ending.ReadFailed read did = absurd did
-  brought_up_ends interfaces (ending.TooLong limit) read did = absurd did
-  brought_up_ends interfaces (ending.Unreadable fault) read did = absurd did
-  brought_up_ends interfaces ending.NotBuilt read did = absurd did
+  pub brought_up_ends : {X : Type 0} (network : Package) (ended : Result X StartError) → HasNetwork input network → BringUpEnds devices network before after ended → StartEnds devices input before after (ending_of ended)
+  brought_up_ends network (Ok x) read did = record { network = network; read = read; did = did }
+  brought_up_ends network (Err (error.KernelFailed due)) read did = record { network = network; read = read; did = did }
+  brought_up_ends network (Err error.WriteFailed) read did = record { network = network; read = read; did = did }
+  brought_up_ends network (Err error.Memory) read did = did
 
   pub unread_ends : (end : Ending) → LackedMemory devices before after → ReadEnds input end → StartEnds devices input before after end
   unread_ends ending.Done nothing cause = absurd cause
@@ -54,7 +54,6 @@ module _ (devices : List (List ℕ)) (input : Input) (before after : Outside) wh
   unread_ends ending.ReadFailed nothing cause = cause
   unread_ends (ending.TooLong limit) nothing cause = cause
   unread_ends (ending.Unreadable fault) nothing cause = cause
-  unread_ends ending.NotBuilt nothing cause = cause
 
 -- what was read is what was told
 all_told : (left after : Option (List ℕ)) (bytes text : List ℕ) → left ≡ Some text → IsAllThatWasLeft left after bytes → bytes ≡ text
@@ -65,17 +64,14 @@ module _ (input : Input) (text : List ℕ) (told : input.left ≡ Some text) whe
   same_text : (bytes : List ℕ) → IsRead input bytes → bytes ≡ text
   same_text bytes read = all_told input.left input.left_now bytes text told read.all
 
-  read_network : (interfaces : List Interface) → AreRead input interfaces → IsNetwork text interfaces
-  read_network interfaces read = subst (λ t. IsNetwork t interfaces) (same_text read.text read.read) read.network
-
-  read_form : (interfaces : List Interface) → AreRead input interfaces → IsOfForm text
-  read_form interfaces read = (interfaces, read_network interfaces read)
+  read_network : (network : Package) → HasNetwork input network → IsNetwork text network
+  read_network network read = subst (λ t. IsNetwork t network) (same_text read.text read.read) read.is
 
   read_fault : (fault : Fault) (u : IsUnreadable input fault) → HasTreeFault text u.error
   read_fault fault u = subst (λ t. HasTreeFault t u.error) (same_text u.text u.read) u.refused
 
-  read_unbuilt : IsNotBuilt input → IsOutOfForm text
-  read_unbuilt n = subst IsOutOfForm (same_text n.text n.read) n.refused
+  read_passed : (limit : ℕ) → HasTooMany input limit → PassesLimit text limit
+  read_passed limit h = subst (λ t. PassesLimit t limit) (same_text h.text h.read) h.passes
 
   not_over : (bytes : List ℕ) → IsRead input bytes → INPUT_LIMIT < length text → ⊥
   not_over bytes read over =
@@ -83,12 +79,29 @@ module _ (input : Input) (text : List ℕ) (told : input.left ≡ Some text) whe
       let within = read.within in
       omega arith
 
--- a text of the form has no fault, and neither has one that is out of form
-form_without_fault : (text : List ℕ) (error : TreeError) → IsOfForm text → HasTreeFault text error → ⊥
-form_without_fault text error form bad = no_package _ text error form.1.tree bad form.1.read
+-- a text is at most one network, and then it has no fault and passes no limit
+pub network_one : (text : List ℕ) (network other : Package) → IsNetwork text network → IsNetwork text other → other ≡ network
+network_one text network other is others = one_tree package_name text network other is.read others.read
 
-other_without_fault : (text : List ℕ) (error : TreeError) → IsOutOfForm text → HasTreeFault text error → ⊥
-other_without_fault text error out bad = no_package _ text error out.tree bad out.read
+network_without_fault : (text : List ℕ) (error : TreeError) (network : Package) → IsNetwork text network → HasTreeFault text error → ⊥
+network_without_fault text error network is bad = no_package package_name text error network bad is.read
+
+network_within : (text : List ℕ) (limit : ℕ) (network : Package) → IsNetwork text network → PassesLimit text limit → ⊥
+network_within text limit network is passes =
+    let same : passed_limit (rows_of passes.network) ≡ passed_limit (rows_of network) = ap (λ n. passed_limit (rows_of n)) (one_tree package_name text network passes.network is.read passes.read) in
+    let none = is.within in
+    let some = passes.passed in
+    cc
+
+passed_without_fault : (text : List ℕ) (error : TreeError) (limit : ℕ) → PassesLimit text limit → HasTreeFault text error → ⊥
+passed_without_fault text error limit passes bad = no_package package_name text error passes.network bad passes.read
+
+one_limit : (text : List ℕ) (limit other : ℕ) → PassesLimit text limit → PassesLimit text other → other ≡ limit
+one_limit text limit other passes others =
+    let same : passed_limit (rows_of others.network) ≡ passed_limit (rows_of passes.network) = ap (λ n. passed_limit (rows_of n)) (one_tree package_name text passes.network others.network passes.read others.read) in
+    let one = passes.passed in
+    let two = others.passed in
+    cc
 
 within_limit : (left : Option (List ℕ)) (text : List ℕ) → IsInput left text → HadMoreThan INPUT_LIMIT left → ⊥
 within_limit None text input more = cc input.told
@@ -105,14 +118,21 @@ tells error told fault same is = subst (λ found. IsSomeAnd found (λ f. ending.
 module _ (devices : List (List ℕ)) (input : Input) (before after : Outside) where
   calm_start : (end : Ending) → StartEnds devices input before after end → IsCalm input before after → IsFailure end → ⊥
   calm_start ending.ReadFailed cause calm failure = let still = calm.at_input in omega arith
-  calm_start ending.WriteFailed cause calm failure = let rose = cause.did.cause in let still = calm.at_output in omega arith
-  calm_start (ending.KernelFailed left) cause calm failure = let rose = cause.did.absent in let still = calm.at_kernel in omega arith
+  calm_start ending.WriteFailed cause calm failure =
+      let rose = cause.did.settled.cause in
+      let same = cause.did.added.out_faults in
+      let still = calm.at_output in
+      omega arith
+  calm_start (ending.KernelFailed left) cause calm failure =
+      let came = cause.did.added.came.absent in
+      let rose = cause.did.settled.reached.faults in
+      let still = calm.at_kernel in
+      omega arith
   calm_start ending.Done cause calm failure = failure
-  calm_start ending.OutOfMemory cause calm failure = failure
   calm_start ending.Usage cause calm failure = failure
+  calm_start ending.OutOfMemory cause calm failure = failure
   calm_start (ending.TooLong limit) cause calm failure = failure
   calm_start (ending.Unreadable fault) cause calm failure = failure
-  calm_start ending.NotBuilt cause calm failure = failure
 
   long_start : (end : Ending) → StartEnds devices input before after end → (text : List ℕ) → input.left ≡ Some text → INPUT_LIMIT < length text → DidNotRise input.faults input.faults_now → OrLacksMemory (end ≡ ending.TooLong INPUT_LIMIT) end
   long_start ending.Done cause text told over calm = absurd (not_over input text told cause.read.text cause.read.read over)
@@ -121,79 +141,81 @@ module _ (devices : List (List ℕ)) (input : Input) (before after : Outside) wh
   long_start ending.ReadFailed cause text told over calm = absurd (omega arith)
   long_start ending.OutOfMemory cause text told over calm = inr refl
   long_start ending.Usage cause text told over calm = absurd cause
-  long_start (ending.TooLong limit) cause text told over calm = inl (ap (λ l. ending.TooLong l) cause.0)
+  long_start (ending.TooLong limit) (inl more) text told over calm = inl (ap ending.TooLong more.0)
+  long_start (ending.TooLong limit) (inr many) text told over calm = absurd (not_over input text told many.text many.read over)
   long_start (ending.Unreadable fault) cause text told over calm = absurd (not_over input text told cause.text cause.read over)
-  long_start ending.NotBuilt cause text told over calm = absurd (not_over input text told cause.text cause.read over)
 
   faulty_start : (end : Ending) → StartEnds devices input before after end → (text : List ℕ) (error : TreeError) → IsInput input.left text → DidNotRise input.faults input.faults_now → HasTreeFault text error → OrLacksMemory (Tells error end) end
-  faulty_start ending.Done cause text error is calm bad = absurd (form_without_fault text error (read_form input text is.told cause.interfaces cause.read) bad)
-  faulty_start (ending.KernelFailed left) cause text error is calm bad = absurd (form_without_fault text error (read_form input text is.told cause.interfaces cause.read) bad)
-  faulty_start ending.WriteFailed cause text error is calm bad = absurd (form_without_fault text error (read_form input text is.told cause.interfaces cause.read) bad)
+  faulty_start ending.Done cause text error is calm bad = absurd (network_without_fault text error cause.network (read_network input text is.told cause.network cause.read) bad)
+  faulty_start (ending.KernelFailed left) cause text error is calm bad = absurd (network_without_fault text error cause.network (read_network input text is.told cause.network cause.read) bad)
+  faulty_start ending.WriteFailed cause text error is calm bad = absurd (network_without_fault text error cause.network (read_network input text is.told cause.network cause.read) bad)
   faulty_start ending.ReadFailed cause text error is calm bad = absurd (omega arith)
   faulty_start ending.OutOfMemory cause text error is calm bad = inr refl
   faulty_start ending.Usage cause text error is calm bad = absurd cause
-  faulty_start (ending.TooLong limit) cause text error is calm bad = absurd (within_limit input.left text is cause.1)
+  faulty_start (ending.TooLong limit) (inl more) text error is calm bad = absurd (within_limit input.left text is more.1)
+  faulty_start (ending.TooLong limit) (inr many) text error is calm bad = absurd (passed_without_fault text error limit (read_passed input text is.told limit many) bad)
   faulty_start (ending.Unreadable fault) cause text error is calm bad = inl (tells error cause.error fault (tree_fault_is_one text cause.error error (read_fault input text is.told fault cause) bad) cause.is)
-  faulty_start ending.NotBuilt cause text error is calm bad = absurd (other_without_fault text error (read_unbuilt input text is.told cause) bad)
 
-  other_start : (end : Ending) → StartEnds devices input before after end → (text : List ℕ) → IsInput input.left text → DidNotRise input.faults input.faults_now → IsOutOfForm text → OrLacksMemory (end ≡ ending.NotBuilt) end
-  other_start ending.Done cause text is calm out = absurd (out.refused (read_form input text is.told cause.interfaces cause.read))
-  other_start (ending.KernelFailed left) cause text is calm out = absurd (out.refused (read_form input text is.told cause.interfaces cause.read))
-  other_start ending.WriteFailed cause text is calm out = absurd (out.refused (read_form input text is.told cause.interfaces cause.read))
-  other_start ending.ReadFailed cause text is calm out = absurd (omega arith)
-  other_start ending.OutOfMemory cause text is calm out = inr refl
-  other_start ending.Usage cause text is calm out = absurd cause
-  other_start (ending.TooLong limit) cause text is calm out = absurd (within_limit input.left text is cause.1)
-  other_start (ending.Unreadable fault) cause text is calm out = absurd (other_without_fault text cause.error out (read_fault input text is.told fault cause))
-  other_start ending.NotBuilt cause text is calm out = inl refl
+  many_start : (end : Ending) → StartEnds devices input before after end → (text : List ℕ) (limit : ℕ) → IsInput input.left text → DidNotRise input.faults input.faults_now → PassesLimit text limit → OrLacksMemory (end ≡ ending.TooLong limit) end
+  many_start ending.Done cause text limit is calm many = absurd (network_within text limit cause.network (read_network input text is.told cause.network cause.read) many)
+  many_start (ending.KernelFailed left) cause text limit is calm many = absurd (network_within text limit cause.network (read_network input text is.told cause.network cause.read) many)
+  many_start ending.WriteFailed cause text limit is calm many = absurd (network_within text limit cause.network (read_network input text is.told cause.network cause.read) many)
+  many_start ending.ReadFailed cause text limit is calm many = absurd (omega arith)
+  many_start ending.OutOfMemory cause text limit is calm many = inr refl
+  many_start ending.Usage cause text limit is calm many = absurd cause
+  many_start (ending.TooLong told) (inl more) text limit is calm many = absurd (within_limit input.left text is more.1)
+  many_start (ending.TooLong told) (inr other) text limit is calm many = inl (ap ending.TooLong (one_limit text limit told many (read_passed input text is.told told other)))
+  many_start (ending.Unreadable fault) cause text limit is calm many = absurd (passed_without_fault text cause.error limit many (read_fault input text is.told fault cause))
 
-  calm_form_start : (end : Ending) → StartEnds devices input before after end → (text : List ℕ) → IsCalm input before after → IsInput input.left text → IsOfForm text → OrLacksMemory (end ≡ ending.Done) end
-  calm_form_start ending.Done cause text calm is form = inl refl
-  calm_form_start (ending.KernelFailed left) cause text calm is form = absurd (calm_start (ending.KernelFailed left) cause calm tt)
-  calm_form_start ending.WriteFailed cause text calm is form = absurd (calm_start ending.WriteFailed cause calm tt)
-  calm_form_start ending.ReadFailed cause text calm is form = absurd (calm_start ending.ReadFailed cause calm tt)
-  calm_form_start ending.OutOfMemory cause text calm is form = inr refl
-  calm_form_start ending.Usage cause text calm is form = absurd cause
-  calm_form_start (ending.TooLong limit) cause text calm is form = absurd (within_limit input.left text is cause.1)
-  calm_form_start (ending.Unreadable fault) cause text calm is form = absurd (form_without_fault text cause.error form (read_fault input text is.told fault cause))
-  calm_form_start ending.NotBuilt cause text calm is form = absurd ((read_unbuilt input text is.told cause).refused form)
+  up_start : (end : Ending) → StartEnds devices input before after end → (text : List ℕ) (network : Package) → IsCalm input before after → IsInput input.left text → IsNetwork text network → OrLacksMemory (end ≡ ending.Done) end
+  up_start ending.Done cause text network calm is up = inl refl
+  up_start (ending.KernelFailed left) cause text network calm is up = absurd (calm_start (ending.KernelFailed left) cause calm tt)
+  up_start ending.WriteFailed cause text network calm is up = absurd (calm_start ending.WriteFailed cause calm tt)
+  up_start ending.ReadFailed cause text network calm is up = absurd (calm_start ending.ReadFailed cause calm tt)
+  up_start ending.OutOfMemory cause text network calm is up = inr refl
+  up_start ending.Usage cause text network calm is up = absurd cause
+  up_start (ending.TooLong limit) (inl more) text network calm is up = absurd (within_limit input.left text is more.1)
+  up_start (ending.TooLong limit) (inr many) text network calm is up = absurd (network_within text limit network up (read_passed input text is.told limit many))
+  up_start (ending.Unreadable fault) cause text network calm is up = absurd (network_without_fault text cause.error network up (read_fault input text is.told fault cause))
 
-  -- a run over a text of the form that was not cut short: done, and nothing is due, or stopped at the kernel, and something is
-  module _ (text : List ℕ) (interfaces : List Interface) (is : IsInput input.left text) (network : IsNetwork text interfaces) where
-    same_wanted : (others : List Interface) → AreRead input others → wanted others after.devices ≡ wanted interfaces after.devices
-    same_wanted others read = ap (λ xs. wanted xs after.devices) (network_one text interfaces others network (read_network input text is.told others read))
+  -- a run over a network that was not cut short: done, and nothing is due, or stopped at the kernel, and something is
+  module _ (text : List ℕ) (network : Package) (is : IsInput input.left text) (up : IsNetwork text network) where
+    same_wants : (other : Package) (between : Outside) → HasNetwork input other → after.devices ≡ between.devices → start_wants other (present_of between.devices devices) ≡ start_wants network (present_of after.devices devices)
+    same_wants other between read same =
+        ap (λ n. start_wants n (present_of between.devices devices)) (network_one text network other up (read_network input text is.told other read))
+        ∙ ap (λ d. start_wants network (present_of d devices)) (sym same)
 
-    due_start : (end : Ending) → StartEnds devices input before after end → (IsCutShort end → ⊥) → IsKernelFailed end ↔ (after.objects ≡ wanted interfaces after.devices → ⊥)
-    due_start ending.Done cause whole = (λ failed. absurd failed, λ due. absurd (due (cause.did.held ∙ same_wanted cause.interfaces cause.read)))
+    due_start : (end : Ending) → StartEnds devices input before after end → (IsCutShort end → ⊥) → IsKernelFailed end ↔ (HoldsWanted devices network after → ⊥)
+    due_start ending.Done cause whole = (λ failed. absurd failed, λ due. absurd (due (cause.did.settled.held ∙ same_wants cause.network cause.did.between cause.read cause.did.settled.reached.devices)))
     due_start (ending.KernelFailed left) cause whole =
-        let count = cause.did.count in
-        (λ failed none. some_due after.devices after.objects (wanted cause.interfaces after.devices) (cause.did.failed ∷ cause.did.others) cause.did.due (omega arith) (none ∙ sym (same_wanted cause.interfaces cause.read)), λ due. tt)
+        let stopped = cause.did.settled in
+        (λ failed holds. some_due after.devices after.objects (start_wants cause.network (present_of cause.did.between.devices devices)) stopped.failed stopped.others stopped.left (holds ∙ sym (same_wants cause.network cause.did.between cause.read stopped.reached.devices)), λ due. tt)
     due_start ending.WriteFailed cause whole = absurd (whole tt)
     due_start ending.ReadFailed cause whole = absurd (whole tt)
     due_start ending.OutOfMemory cause whole = absurd (whole tt)
     due_start ending.Usage cause whole = absurd cause
-    due_start (ending.TooLong limit) cause whole = absurd (within_limit input.left text is cause.1)
-    due_start (ending.Unreadable fault) cause whole = absurd (form_without_fault text cause.error (interfaces, network) (read_fault input text is.told fault cause))
-    due_start ending.NotBuilt cause whole = absurd ((read_unbuilt input text is.told cause).refused (interfaces, network))
+    due_start (ending.TooLong limit) (inl more) whole = absurd (within_limit input.left text is more.1)
+    due_start (ending.TooLong limit) (inr many) whole = absurd (network_within text limit network up (read_passed input text is.told limit many))
+    due_start (ending.Unreadable fault) cause whole = absurd (network_without_fault text cause.error network up (read_fault input text is.told fault cause))
 
-    done_start : (end : Ending) → StartEnds devices input before after end → (IsCutShort end → ⊥) → (end ≡ ending.Done) ↔ (after.objects ≡ wanted interfaces after.devices)
-    done_start ending.Done cause whole = (λ done. cause.did.held ∙ same_wanted cause.interfaces cause.read, λ none. refl)
+    done_start : (end : Ending) → StartEnds devices input before after end → (IsCutShort end → ⊥) → (end ≡ ending.Done) ↔ HoldsWanted devices network after
+    done_start ending.Done cause whole = (λ done. cause.did.settled.held ∙ same_wants cause.network cause.did.between cause.read cause.did.settled.reached.devices, λ none. refl)
     done_start (ending.KernelFailed left) cause whole = (λ done. absurd (cc done), λ none. absurd ((due_start (ending.KernelFailed left) cause whole).0 tt none))
     done_start ending.WriteFailed cause whole = absurd (whole tt)
     done_start ending.ReadFailed cause whole = absurd (whole tt)
     done_start ending.OutOfMemory cause whole = absurd (whole tt)
     done_start ending.Usage cause whole = absurd cause
-    done_start (ending.TooLong limit) cause whole = absurd (within_limit input.left text is cause.1)
-    done_start (ending.Unreadable fault) cause whole = absurd (form_without_fault text cause.error (interfaces, network) (read_fault input text is.told fault cause))
-    done_start ending.NotBuilt cause whole = absurd ((read_unbuilt input text is.told cause).refused (interfaces, network))
+    done_start (ending.TooLong limit) (inl more) whole = absurd (within_limit input.left text is more.1)
+    done_start (ending.TooLong limit) (inr many) whole = absurd (network_within text limit network up (read_passed input text is.told limit many))
+    done_start (ending.Unreadable fault) cause whole = absurd (network_without_fault text cause.error network up (read_fault input text is.told fault cause))
 
-  pub start_comes : (end : Ending) → StartEnds devices input before after end → StartComes input before after end
+  pub start_comes : (end : Ending) → StartEnds devices input before after end → StartComes devices input before after end
   start_comes end cause = record {
     calm = calm_start end cause;
     long = long_start end cause;
     no_package = faulty_start end cause;
-    no_form = other_start end cause;
-    built = calm_form_start end cause;
-    due = λ text interfaces is network. due_start text interfaces is network end cause;
-    nothing_due = λ text interfaces is network. done_start text interfaces is network end cause;
+    too_many = many_start end cause;
+    up = up_start end cause;
+    due = λ text network is up. due_start text network is up end cause;
+    nothing_due = λ text network is up. done_start text network is up end cause;
   }

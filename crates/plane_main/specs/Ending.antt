@@ -1,9 +1,11 @@
 -- How a run ends: its exit status, and its text on the error output. The texts are those of the program (`texts.rt`).
-use Rattle.std.specs.Prelude.{ℕ, ◌≡◌, ◌⊎◌, List, [], ◌++◌, decimal, ⊤, IsSomeAnd}
+use Rattle.std.specs.Prelude.{ℕ, ◌≡◌, ◌⊎◌, List, [], ◌++◌, decimal, ⊤, IsSomeAnd, Result, Ok, Err}
 use Rattle.plane_words.specs.Causes.{DidNotRise}
 use Rattle.plane_words.specs.Growth.{Grows, GrowsByFront}
 use Rattle.uci_tree.specs.declared.tree_error.TreeError.{TreeError}
 use Rattle.uci_tree.specs.Fault.{reason_text, fault_of}
+use Rattle.net_start.specs.declared.start_error.StartError.{StartError}
+use Rattle.net_start.specs.declared.start_error.StartError.TheVariants as error
 use Rattle.plane_main.specs.declared.ending.Ending.{Ending}
 use Rattle.plane_main.specs.declared.ending.Ending.TheVariants as ending
 use Rattle.plane_main.specs.declared.texts.TheConstants as texts
@@ -19,7 +21,6 @@ status_of (ending.KernelFailed left) = 6
 status_of ending.OutOfMemory = 8
 status_of (ending.Unreadable fault) = 9
 status_of (ending.TooLong limit) = 10
-status_of ending.NotBuilt = 11
 
 -- the text, nothing for a good end
 abbrev pub text_of : Ending → List ℕ
@@ -31,12 +32,18 @@ text_of (ending.KernelFailed left) = texts.KERNEL.now ++ decimal left ++ texts.D
 text_of ending.OutOfMemory = texts.OUT_OF_MEMORY.now
 text_of (ending.Unreadable fault) = texts.NETWORK_LINE.now ++ decimal fault.line ++ texts.COLON.now ++ reason_text fault.reason ++ texts.NEWLINE.now
 text_of (ending.TooLong limit) = texts.LIMIT.now ++ decimal limit ++ texts.NEWLINE.now
-text_of ending.NotBuilt = texts.NOT_BUILT.now
 
 -- the text is on the error output, all of it where no fault was counted there, and else a front of it
 pub record IsTold (text : List ℕ) (errors : ErrorOutput) : Type 0 where
   pub front : GrowsByFront errors.held errors.held_now text
   pub whole : DidNotRise errors.faults errors.faults_now → Grows errors.held errors.held_now text
+
+-- how a run ends in which bringing up ended so
+abbrev pub ending_of : {X : Type 0} → Result X StartError → Ending
+ending_of (Ok _) = ending.Done
+ending_of (Err (error.KernelFailed due)) = ending.KernelFailed due
+ending_of (Err error.WriteFailed) = ending.WriteFailed
+ending_of (Err error.Memory) = ending.OutOfMemory
 
 -- a device failed
 abbrev pub IsFailure : Ending → Type 0
@@ -63,7 +70,6 @@ IsEarly ending.Usage = ⊤
 IsEarly ending.ReadFailed = ⊤
 IsEarly (ending.TooLong limit) = ⊤
 IsEarly (ending.Unreadable fault) = ⊤
-IsEarly ending.NotBuilt = ⊤
 IsEarly _ = ⊥
 
 -- the fault of this error is told

@@ -7,7 +7,7 @@ use Rattle.plane_main.specs.declared.page.Page.TheVariants.{Help, Version}
 use Rattle.plane_main.specs.declared.ending.Ending.{Ending}
 use Rattle.plane_main.specs.declared.ending.Ending.TheVariants as ending
 use Rattle.plane_main.specs.declared.texts.TheConstants.{HELP, VERSION}
-use Rattle.plane_main.specs.Outside.{Outside}
+use Rattle.net_settle.specs.Outside.{Outside}
 
 -- the text of a page
 abbrev pub page_text : Page → List ℕ

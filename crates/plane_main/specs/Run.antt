@@ -5,7 +5,8 @@ use Rattle.plane_main.specs.declared.command.Command.{Command}
 use Rattle.plane_main.specs.declared.command.Command.TheVariants.{Start, Show}
 use Rattle.plane_main.specs.declared.ending.Ending.{Ending}
 use Rattle.plane_main.specs.declared.ending.Ending.TheVariants as ending
-use Rattle.plane_main.specs.Outside.{Input, Outside, ErrorOutput}
+use Rattle.net_settle.specs.Outside.{Outside}
+use Rattle.plane_main.specs.Outside.{Input, ErrorOutput}
 use Rattle.plane_main.specs.Command.{AskFor, IsCommand, IsPageCommand, AskForNone, ReadsInput, CallsKernel}
 use Rattle.plane_main.specs.Ending.{status_of, text_of, IsTold, IsEarly, OrLacksMemory}
 use Rattle.plane_main.specs.Start.{StartEnds, StartComes}
@@ -18,7 +19,8 @@ CommandEnds (Show page) input before after end = PageEnds page before after end
 
 -- when a run of a command ends so
 abbrev pub CommandComes : Command → Input → Outside → Outside → Ending → Type 0
-CommandComes (Start devices) input before after end = StartComes input before after end
+CommandComes (Start devices) input before after end =
+    StartComes devices input before after end
 CommandComes (Show page) input before after end = PageComes before after end
 
 -- why a run ends so, and what it leaves

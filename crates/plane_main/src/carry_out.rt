@@ -1,5 +1,7 @@
 ghost use Rattle.std.specs.Prelude.{◌≡◌, map, string_bytes};
-ghost use Rattle.plane_main.specs.Outside.{IsBare, input_of, outside_of};
+ghost use Rattle.net_settle.specs.Outside.{outside_of};
+ghost use Rattle.net_start.specs.BringUp.{IsBare};
+ghost use Rattle.plane_main.specs.Outside.{input_of};
 ghost use Rattle.plane_main.specs.Run.{Ends, LeavesAlone};
 
 use crate::command::{Command, read_command};

@@ -14,8 +14,8 @@ pub enum Ending {
     OutOfMemory,
     /// The input is no package.
     Unreadable { fault: Fault },
+    /// The input is longer than it may be, or a list of its rows is.
     TooLong { limit: u64 },
-    NotBuilt,
 }
 
 impl Ending {
@@ -32,7 +32,6 @@ impl Ending {
             Ending::OutOfMemory => 8,
             Ending::Unreadable { .. } => 9,
             Ending::TooLong { .. } => 10,
-            Ending::NotBuilt => 11,
         }
     }
 }

@@ -1,18 +1,18 @@
 // Laws of the definitions that the contracts cite. Each body is empty, and the contract is the law.
 ghost use Rattle.std.specs.Prelude.{◌≡◌, ℕ, List};
-ghost use Rattle.plane_main.specs.declared.interface.Interface.{Interface};
+ghost use Rattle.uci_tree.specs.declared.package.Package.{Package};
 ghost use Rattle.plane_main.specs.declared.command.Command.{Command};
 ghost use Rattle.plane_io.specs.declared.input.TheConstants.{INPUT_LIMIT};
 ghost use Rattle.kern_model.specs.declared.vlan_name.TheConstants.{LEAST_VLAN_ID, MOST_VLAN_ID};
 ghost use Rattle.plane_main.specs.declared.command.TheConstants.{MOST_DEVICES};
-ghost use Rattle.plane_main.specs.declared.bring_up.TheConstants.{ETHERNET_MTU};
-ghost use Rattle.plane_main.specs.Network.{IsNetwork};
+ghost use Rattle.net_start.specs.declared.devices.TheConstants.{ETHERNET_MTU};
+ghost use Rattle.plane_main.specs.Start.{IsNetwork};
 ghost use Rattle.plane_main.specs.Command.{AskFor};
 
-/// A `network` text has at most one list of interfaces.
-pub fn one_list_of_interfaces()
-    ensures { (text : List ℕ) (xs ys : List Interface) →
-        IsNetwork text xs → IsNetwork text ys → ys ≡ xs }
+/// A text is at most one network.
+pub fn one_network()
+    ensures { (text : List ℕ) (network other : Package) →
+        IsNetwork text network → IsNetwork text other → other ≡ network }
 {}
 
 /// Words ask for at most one command.

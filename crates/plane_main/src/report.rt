@@ -7,7 +7,7 @@ ghost use Rattle.plane_main.specs.Ending.{text_of, IsTold};
 
 use crate::ending::Ending;
 use crate::texts::{
-    COLON, DUE, KERNEL, LIMIT, NETWORK_LINE, NEWLINE, NOT_BUILT, OUT_OF_MEMORY, READ_FAILED, USAGE,
+    COLON, DUE, KERNEL, LIMIT, NETWORK_LINE, NEWLINE, OUT_OF_MEMORY, READ_FAILED, USAGE,
     WRITE_FAILED,
 };
 use itoa::Buffer;
@@ -40,7 +40,6 @@ fn write_text<E: Sink>(ending: &Ending, err: &mut E) -> Result<(), Failed>
         Ending::OutOfMemory => err.write(OUT_OF_MEMORY),
         Ending::Unreadable { fault } => write_fault(fault, err),
         Ending::TooLong { limit } => write_number(LIMIT, *limit, NEWLINE, err),
-        Ending::NotBuilt => err.write(NOT_BUILT),
     }
 }
 

@@ -1,22 +1,24 @@
 ghost use Rattle.std.specs.Prelude.{◌≡◌, IfOk, IfErr, IfSome, IfNone};
 ghost use Rattle.plane_words.specs.Distinct.{AreDistinct};
 ghost use Rattle.uci_tree.specs.Fault.{fault_of};
-ghost use Rattle.plane_main.specs.Outside.{IsBare, input_of, outside_of};
+ghost use Rattle.net_settle.specs.Outside.{outside_of};
+ghost use Rattle.net_start.specs.BringUp.{IsBare};
+ghost use Rattle.plane_main.specs.Outside.{input_of};
 ghost use Rattle.plane_main.specs.Ending.{IsEarly};
-ghost use Rattle.plane_main.specs.BringUp.{BringUpEnds};
-ghost use Rattle.plane_main.specs.Start.{AreRead, ReadEnds, StartEnds};
+ghost use Rattle.plane_main.specs.Ending as spec;
+ghost use Rattle.plane_main.specs.Start.{HasNetwork, ReadEnds, StartEnds};
 
-use crate::bring_up::{add_devices, wanted_calls};
 use crate::ending::Ending;
-use crate::interface::Interface;
-use crate::network::read_network;
-use crate::settle::settle;
 use kern_model::{DevName, Kernel};
+use net_start::{StartError, bring_network_up, passed_limit};
 use plane_io::{INPUT_LIMIT, InputError, Sink, Source, read_to_end};
 use std::alloc::Global;
-use uci_tree::TreeError;
+use uci_tree::{Package, TreeError, read_package};
 
-/// Adds the named devices to a kernel that has none, and brings the interfaces of the input up on them.
+/// The name of the package that is read.
+pub const PACKAGE: &[u8] = b"network";
+
+/// Adds the named devices to a kernel that has none, and brings the network of the input up on them.
 pub fn start<S: Source, O: Sink, K: Kernel>(
     alloc: Global,
     devices: &[DevName],
@@ -33,15 +35,25 @@ pub fn start<S: Source, O: Sink, K: Kernel>(
     ensures early { IsEarly result → (out.new ≡ out.old) × (kernel.new ≡ kernel.old) }
     ensures memory { result ≡ Ending.OutOfMemory → out.new ≡ out.old }
 {
-    match read_interfaces(alloc, input) {
-        Ok(interfaces) => bring_up(alloc, devices, &interfaces, kernel, out),
+    match read_network(alloc, input) {
+        Ok(network) => ending_of(bring_network_up(alloc, devices, &network, kernel, out)),
         Err(ending) => ending,
     }
 }
 
-fn read_interfaces<S: Source>(alloc: Global, input: &mut S) -> Result<Vec<Interface>, Ending>
-    ensures found { IfOk result (λ interfaces.
-        AreRead (input_of S.Source input.old input.new) interfaces.items) }
+fn ending_of(ended: Result<(), StartError>) -> Ending
+    ensures { result ≡ spec.ending_of ended }
+{
+    match ended {
+        Ok(()) => Ending::Done,
+        Err(StartError::KernelFailed { due }) => Ending::KernelFailed { left: due },
+        Err(StartError::WriteFailed) => Ending::WriteFailed,
+        Err(StartError::Memory) => Ending::OutOfMemory,
+    }
+}
+
+fn read_network<S: Source>(alloc: Global, input: &mut S) -> Result<Package, Ending>
+    ensures found { IfOk result (HasNetwork (input_of S.Source input.old input.new)) }
     ensures refused { IfErr result (ReadEnds (input_of S.Source input.old input.new)) }
 {
     let text = match read_to_end(alloc, input, INPUT_LIMIT) {
@@ -50,10 +62,14 @@ fn read_interfaces<S: Source>(alloc: Global, input: &mut S) -> Result<Vec<Interf
         Err(InputError::TooLong { limit }) => return Err(Ending::TooLong { limit }),
         Err(InputError::Memory) => return Err(Ending::OutOfMemory),
     };
-    match read_network(alloc, &text) {
-        Ok(Some(interfaces)) => Ok(interfaces),
-        Ok(None) => Err(Ending::NotBuilt),
-        Err(error) => Err(refusal(error)),
+    let network = match read_package(alloc, PACKAGE, &text) {
+        Ok(network) => network,
+        Err(error) => return Err(refusal(error)),
+    };
+    match passed_limit(alloc, &network) {
+        Ok(None) => Ok(network),
+        Ok(Some(limit)) => Err(Ending::TooLong { limit }),
+        Err(_) => Err(Ending::OutOfMemory),
     }
 }
 
@@ -66,27 +82,4 @@ fn refusal(error: TreeError) -> Ending
         Some(fault) => Ending::Unreadable { fault },
         None => Ending::OutOfMemory,
     }
-}
-
-fn bring_up<K: Kernel, O: Sink>(
-    alloc: Global,
-    names: &[DevName],
-    interfaces: &[Interface],
-    kernel: &mut K,
-    out: &mut O,
-) -> Ending
-    requires bare { IsBare K.Kernel kernel.old }
-    requires distinct { AreDistinct names.now }
-    ensures cause { BringUpEnds names.now interfaces.now
-        (outside_of O.Sink K.Kernel out.old kernel.old)
-        (outside_of O.Sink K.Kernel out.new kernel.new) result }
-    ensures memory { result ≡ Ending.OutOfMemory → out.new ≡ out.old }
-{
-    let Ok(present) = add_devices(alloc, names, kernel) else {
-        return Ending::OutOfMemory;
-    };
-    let Ok(calls) = wanted_calls(alloc, interfaces, &present) else {
-        return Ending::OutOfMemory;
-    };
-    settle(&calls, kernel, out)
 }

@@ -8,23 +8,36 @@ plane start DEV..   reads a network configuration from the standard input, and p
 plane --help        prints this page
 plane --version     prints the version
 
-start takes 1 to 4096 device names, each once, and none that ends in a VLAN as eth0.2 does. The input is a UCI file of
-at most 1048576 bytes. So far it is to make sections `config interface NAME` alone, with the options device, proto
-'static', ipaddr and netmask and no other. An example: from
+start takes 1 to 4096 device names, each once, and none that ends in a VLAN as eth0.2 does. The input is the file
+/etc/config/network of a router, of at most 1048576 bytes. For what a handler has to say, as the address of a line that
+asks for one, a line is printed behind the calls. An example: from
+
+config device
+    option name 'br-lan'
+    option type 'bridge'
+    list ports 'eth0'
 
 config interface 'lan'
-    option device 'eth0'
+    option device 'br-lan'
     option proto 'static'
-    option ipaddr '192.168.1.1'
-    option netmask '255.255.255.0'
+    option ipaddr '192.168.1.1/24'
 
-plane start eth0 prints
+config interface 'wan'
+    option device 'eth1'
+    option proto 'dhcp'
 
+plane start eth0 eth1 prints
+
+link add name br-lan type bridge
+link set dev eth0 master br-lan
+link set dev br-lan up
 link set dev eth0 up
-addr add 192.168.1.1/24 dev eth0
+link set dev eth1 up
+addr add 192.168.1.1/24 dev br-lan
+ask 1 interface wan dhcp eth1 {}
 
 Status: 0 done, 2 usage, 3 the input failed, 4 a line was not written, 6 a call of the kernel failed and objects
-are due, 8 out of memory, 9 the input is no UCI file, 10 the input is too long, 11 the input is not built yet.
+are due, 8 out of memory, 9 the input is no UCI file, 10 the input or a list of its rows is too long.
 The manual is docs/plane.1.
 ";
 
@@ -43,16 +56,13 @@ pub const WRITE_FAILED: &[u8] = b"plane: write failed\n";
 /// Memory was lacking.
 pub const OUT_OF_MEMORY: &[u8] = b"plane: out of memory\n";
 
-/// The input is a package of another form.
-pub const NOT_BUILT: &[u8] = b"plane: not built\n";
-
 /// Before the number of objects that are due.
 pub const KERNEL: &[u8] = b"plane: kernel: ";
 
 /// After it.
 pub const DUE: &[u8] = b" due\n";
 
-/// Before the limit that the input passes.
+/// Before the limit that the input, or a list of its rows, passes.
 pub const LIMIT: &[u8] = b"plane: limit ";
 
 /// Before the number of the line of a fault.

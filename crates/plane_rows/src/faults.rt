@@ -182,7 +182,6 @@ fn a_failing_error_output_leaves_the_status(rt: HostRuntime) -> Result<(), Fail>
         ("start eth0", LAN, Failing { out: one, ..none }, 4),
         ("start eth0", LAN, Failing { apply: one, ..none }, 6),
         ("start eth0", "bogus", none, 9),
-        ("start eth0", "config interface lan", none, 11),
     ] {
         let ran = run(alloc, words, text.as_bytes(), failing)?;
         assert_eq!(rt; ran.status, status, "{words}");

@@ -1,6 +1,7 @@
 use Rattle.std.proofs.Common.{ℕ, List, map, string_bytes, subst}
 use Rattle.plane_main.specs.declared.command.Command.TheVariants.{Start, Show}
-use Rattle.plane_main.specs.Outside.{input_of, outside_of}
+use Rattle.net_settle.specs.Outside.{outside_of}
+use Rattle.plane_main.specs.Outside.{input_of}
 use Rattle.plane_main.specs.Command.{AskFor}
 use Rattle.plane_main.specs.Start.{StartEnds}
 use Rattle.plane_main.specs.Run.{of_command}
