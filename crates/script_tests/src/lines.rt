@@ -94,6 +94,7 @@ const LINES: [(&[u8], Option<(&[u8], u64)>); 48] = [
 #[test]
 fn lines_are_read(rt: HostRuntime) -> Result<(), Fail> {
     for (text, wanted) in LINES {
+        assert!(rt; text.len() < 4096);
         let lines = read_lines(rt.alloc(), text)?;
         for line in lines.as_slice() {
             let found = match read_line(rt.alloc(), line.words.as_slice())? {
