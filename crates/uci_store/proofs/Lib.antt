@@ -2,3 +2,4 @@ pub mod StoreLemmas
 pub mod StopLemmas
 pub mod CommitLemmas
 pub mod ApplyLemmas
+pub mod DiskLemmas

@@ -48,7 +48,8 @@ impl Store {
     {
         let snap = match Snap::open(alloc, files, now) {
             Ok(snap) => snap,
-            Err(error) => return Err(StoreError::from(error)),
+            Err(SnapError::Memory) => return Err(StoreError::Memory),
+            Err(error) => return Err(StoreError::Snap(error)),
         };
         let staged = match Staged::open(alloc, staged) {
             Ok(staged) => staged,
