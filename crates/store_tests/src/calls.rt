@@ -1,6 +1,6 @@
 //! Calls of a store as rows of tables.
 ghost use Rattle.std.specs.Prelude.{◌≡◌};
-ghost use Rattle.uci_store.specs.Store.{IsStore, IsOnFiles, IsOnStaged, StaysOnFiles, StaysOnStaged};
+ghost use Rattle.uci_store.specs.Store.{IsStore, IsOnFiles, IsOnStaged};
 
 use plane_disk::Disk;
 use snap_disk::Pending;
@@ -25,8 +25,6 @@ pub(crate) enum Call {
     Confirm,
     Rollback,
     Tick(u64),
-    /// Forgets a session.
-    Forget,
 }
 
 /// A holder, what it calls, the number of the refusal, or 0, and what the holder has staged of `network` then, a line each.
@@ -41,15 +39,17 @@ pub(crate) struct Seen {
 }
 
 /// Stages the change of a line.
-fn stage<T: Disk>(
+fn stage<D: Disk, T: Disk>(
     alloc: Global,
     store: &mut Store,
+    files: &D,
     staged: &mut T,
     holder: u128,
     line: &str,
 ) -> Result<(), StoreError>
-    requires { IsOnStaged store.old (T.view staged.old) }
-    ensures files { StaysOnFiles store.old store.new }
+    requires files { IsOnFiles store.old (D.view files.now) }
+    requires staged { IsOnStaged store.old (T.view staged.old) }
+    ensures files { IsOnFiles store.new (D.view files.now) }
     ensures staged { IsOnStaged store.new (T.view staged.new) }
 {
     match read_deltas(alloc, b"network", line.as_bytes())?
@@ -62,15 +62,17 @@ fn stage<T: Disk>(
 }
 
 /// Takes back what lies under a path.
-fn revert<T: Disk>(
+fn revert<D: Disk, T: Disk>(
     alloc: Global,
     store: &mut Store,
+    files: &D,
     staged: &mut T,
     holder: u128,
     path: &str,
 ) -> Result<(), StoreError>
-    requires { IsOnStaged store.old (T.view staged.old) }
-    ensures files { StaysOnFiles store.old store.new }
+    requires files { IsOnFiles store.old (D.view files.now) }
+    requires staged { IsOnStaged store.old (T.view staged.old) }
+    ensures files { IsOnFiles store.new (D.view files.now) }
     ensures staged { IsOnStaged store.new (T.view staged.new) }
 {
     match read_path(alloc, path.as_bytes())? {
@@ -97,16 +99,18 @@ fn replace<D: Disk, T: Disk>(
     store.replace(alloc, files, staged, holder, &tree)
 }
 
-/// Makes a call on the disk of files alone, or on none.
-fn wait<D: Disk>(
+/// Makes a call on the disk of files alone.
+fn wait<D: Disk, T: Disk>(
     store: &mut Store,
     files: &mut D,
+    staged: &T,
     holder: u128,
     call: Call,
 ) -> Result<(), StoreError>
-    requires { IsOnFiles store.old (D.view files.old) }
+    requires files { IsOnFiles store.old (D.view files.old) }
+    requires staged { IsOnStaged store.old (T.view staged.now) }
     ensures files { IsOnFiles store.new (D.view files.new) }
-    ensures staged { StaysOnStaged store.old store.new }
+    ensures staged { IsOnStaged store.new (T.view staged.now) }
 {
     match call {
         Call::Confirm => store.confirm(files, holder),
@@ -115,12 +119,7 @@ fn wait<D: Disk>(
             Ok(_) => Ok(()),
             Err(error) => Err(error),
         },
-        _ => {
-            if holder != 0 {
-                store.forget(holder);
-            }
-            Ok(())
-        }
+        _ => Ok(()),
     }
 }
 
@@ -139,12 +138,12 @@ fn make<D: Disk, T: Disk>(
     ensures staged { IsOnStaged store.new (T.view staged.new) }
 {
     match call {
-        Call::Stage(line) => stage(alloc, store, staged, holder, line),
-        Call::Revert(path) => revert(alloc, store, staged, holder, path),
+        Call::Stage(line) => stage(alloc, store, files, staged, holder, line),
+        Call::Revert(path) => revert(alloc, store, files, staged, holder, path),
         Call::Commit => store.commit(alloc, files, staged, holder, b"network"),
         Call::Replace(text) => replace(alloc, store, files, staged, holder, text),
         Call::Apply(deadline) => store.apply(alloc, files, staged, holder, deadline),
-        other => wait(store, files, holder, other),
+        other => wait(store, files, staged, holder, other),
     }
 }
 
@@ -173,7 +172,7 @@ fn see(alloc: Global, store: &Store) -> Result<Seen, Fail>
     })
 }
 
-/// Opens the disks at moment 100 and makes the calls.
+/// Opens the disks at moment 100, makes the calls, and forgets session 7.
 pub(crate) fn run<D: Disk, T: Disk>(
     rt: &impl Abort,
     alloc: Global,
@@ -184,15 +183,17 @@ pub(crate) fn run<D: Disk, T: Disk>(
     requires { (T.view staged.old).names ≡ (D.view files.old).names }
 {
     let mut store = Store::open(alloc, files, staged, 100)?;
-    for (place, row) in rows.iter().enumerate() {
+    for row in rows {
         let (holder, call, answer, lines) = *row;
         let number = match make(alloc, &mut store, files, staged, holder, call) {
             Ok(()) => 0,
             Err(error) => error.number(),
         };
-        assert_eq!(rt; number, answer, "row {place}");
+        assert_eq!(rt; number, answer, "{lines}");
         let left = changes(rt, alloc, &store, holder)?;
-        assert_eq!(rt; left.as_slice(), lines.as_bytes(), "row {place}");
+        assert_eq!(rt; left.as_slice(), lines.as_bytes(), "{lines}");
     }
+    store.forget(7);
+    assert!(rt; changes(rt, alloc, &store, 7)?.is_empty());
     see(alloc, &store)
 }

@@ -37,7 +37,8 @@ fn a_change_is_staged_and_taken_back(rt: HostRuntime) -> Result<(), Fail> {
 #[test]
 fn changes_are_listed_in_their_order(rt: HostRuntime) -> Result<(), Fail> {
     let alloc = rt.alloc();
-    let all = "network.cfg070f15='device'\nnetwork.lan.dns+='1.1.1.1'\nnetwork.wan6='w6'\nnetwork.w6='0'\n";
+    let all =
+        "network.cfg070f15='device'\nnetwork.lan.dns+='1.1.1.1'\nnetwork.wan6='w6'\nnetwork.w6='0'\n";
     let left = play(
         &rt,
         alloc,
@@ -65,8 +66,16 @@ fn changes_are_listed_in_their_order(rt: HostRuntime) -> Result<(), Fail> {
             (0, Call::Stage("@network.lan='wan'"), 22, all),
         ],
     )?;
-    assert!(rt; left.view.as_slice().starts_with(b"\nconfig interface 'w6'\n"));
-    assert!(rt; left.view.as_slice().ends_with(b"\n\nconfig device 'cfg070f15'\n\n"));
+    assert!(rt;
+        left.view
+            .as_slice()
+            .starts_with(b"\nconfig interface 'w6'\n")
+    );
+    assert!(rt;
+        left.view
+            .as_slice()
+            .ends_with(b"\n\nconfig device 'cfg070f15'\n\n")
+    );
     assert_eq!(rt;
         left.staged.as_slice(),
         b"+network.cfg070f15='device'\n|network.lan.dns='1.1.1.1'\n@network.wan6='w6'\n^network.w6='0'\n".as_slice()
@@ -106,8 +115,6 @@ fn a_replacement_drops_what_is_staged(rt: HostRuntime) -> Result<(), Fail> {
             (7, Call::Stage("network.a.o='2'"), 0, "network.a.o='2'\n"),
             (0, Call::Replace("config y 'a'\n"), 0, ""),
             (7, Call::Tick(0), 0, "network.a.o='2'\n"),
-            (7, Call::Forget, 0, ""),
-            (7, Call::Apply(None), 39, ""),
         ],
     )?;
     assert_eq!(rt; left.file.as_slice(), b"\nconfig y 'a'\n\n".as_slice());

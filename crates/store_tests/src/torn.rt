@@ -81,7 +81,6 @@ fn a_staged_write_fails(rt: HostRuntime) -> Result<(), Fail> {
                 (7, Call::Confirm, 34, "network.a.o='3'\n"),
                 (7, Call::Rollback, 34, "network.a.o='3'\n"),
                 (7, Call::Tick(1000), 34, "network.a.o='3'\n"),
-                (7, Call::Forget, 0, ""),
             ],
         )?;
         assert_eq!(rt; left.file.as_slice(), TEXT);

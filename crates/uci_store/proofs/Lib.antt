@@ -2,4 +2,3 @@ pub mod StoreLemmas
 pub mod StopLemmas
 pub mod CommitLemmas
 pub mod ApplyLemmas
-pub mod DiskLemmas

@@ -66,10 +66,3 @@ pub record IsOnStaged (store : Store) (view : View) : Type 0 where
   pub count : length view.names ≡ length (names_of store) + 2
   pub lines : AreStagedIn view.names (staged_in store)
   pub kept : has_failed store ≡ false → AreKept view (staged_in store)
-
--- a store is still on each disk on which it was
-abbrev pub StaysOnFiles : Store → Store → Type 1
-StaysOnFiles old new = (view : View) → IsOnFiles old view → IsOnFiles new view
-
-abbrev pub StaysOnStaged : Store → Store → Type 1
-StaysOnStaged old new = (view : View) → IsOnStaged old view → IsOnStaged new view

@@ -7,7 +7,7 @@ ghost use Rattle.snap_disk.specs.Phase.{ArePackageFiles, Stands};
 ghost use Rattle.uci_staged.specs.Kept.{Follows, ChangesPackages};
 ghost use Rattle.uci_store.specs.Store.{names_of, files_of, has_failed, IsStore, IsOnFiles, IsOnStaged};
 ghost use Rattle.uci_store.specs.Staging.{IsWhole};
-ghost use Rattle.uci_store.specs.Stops.{StopLeaves, IsLeft, UnlessFailed};
+ghost use Rattle.uci_store.specs.Stops.{StopLeaves, IsLeft};
 ghost use Rattle.uci_store.specs.Committing.{IsFree, IsNewFile, WriteRefuses};
 ghost use Rattle.uci_store.specs.Applying as spec;
 ghost use Rattle.uci_store.specs.Applying.{EachBefore, AreNewFiles, AreSoFar, HasWrittenAll, AppliesTo, HasApplied, NewFilesRefuse, ApplyStops, ApplyRefuses};
@@ -55,12 +55,9 @@ impl Store {
         ensures images { StopLeaves self.old (D.view files.old) (D.view files.new)
             (AppliesTo self.old holder deadline) }
         ensures done { OnOk result (HasApplied self.old self.new holder deadline) }
-        ensures left { IfErr result (IsLeft self.old self.new
-            (AppliesTo self.old holder deadline) (staged.new ≡ staged.old)) }
+        ensures left { IfErr result (IsLeft self.old self.new (AppliesTo self.old holder deadline)) }
         ensures refused { IfErr result (ApplyRefuses self.old holder
             (D.view files.old) (D.view files.new) (T.view staged.old) (T.view staged.new)) }
-        ensures rests { IfErr result
-            (UnlessFailed ((files.new ≡ files.old) × (staged.new ≡ staged.old))) }
         ensures closes { IsWhole result (has_failed self.old) (has_failed self.new) }
     {
         let new = self.apply_files(alloc, holder)?;
@@ -92,12 +89,9 @@ impl Store {
             (λ after. after ≡ begun (files_of self.old) new.items wait) }
         ensures done { OnOk result (HasWrittenAll self.old self.new holder new.items wait) }
         ensures left { IfErr result
-            (IsLeft self.old self.new (λ after. after ≡ begun (files_of self.old) new.items wait)
-            (staged.new ≡ staged.old)) }
+            (IsLeft self.old self.new (λ after. after ≡ begun (files_of self.old) new.items wait)) }
         ensures refused { IfErr result (WriteRefuses holder
             (D.view files.old) (D.view files.new) (T.view staged.old) (T.view staged.new)) }
-        ensures rests { IfErr result
-            (UnlessFailed ((files.new ≡ files.old) × (staged.new ≡ staged.old))) }
         ensures closes { IsWhole result (has_failed self.old) (has_failed self.new) }
     {
         self.put(alloc, files, new, wait)?;

@@ -6,7 +6,7 @@ ghost use Rattle.uci_staged.specs.Change.{has_deltas};
 ghost use Rattle.uci_staged.specs.Kept.{Follows};
 ghost use Rattle.uci_store.specs.Store.{names_of, name_of, staged_in, has_failed, IsStore, IsOnFiles, IsOnStaged};
 ghost use Rattle.uci_store.specs.Staging.{ChangesPackage, IsWhole};
-ghost use Rattle.uci_store.specs.Stops.{StopLeaves, IsLeft, UnlessFailed};
+ghost use Rattle.uci_store.specs.Stops.{StopLeaves, IsLeft};
 ghost use Rattle.uci_store.specs.Committing.{file_text, CommitsTo, ReplacesTo, HasCommitted, HasReplaced, IsReplaceFile, IsNewFile, PlansCommit, NewFileRefuses, PrintRefuses, CommitStops, CommitRefuses, ReplaceStops, ReplaceRefuses};
 
 use crate::{Store, StoreError};
@@ -49,11 +49,9 @@ impl Store {
             (CommitsTo self.old holder «package».now) }
         ensures done { OnOk result (HasCommitted self.old self.new holder «package».now) }
         ensures left { IfErr result
-            (IsLeft self.old self.new (CommitsTo self.old holder «package».now) (staged.new ≡ staged.old)) }
+            (IsLeft self.old self.new (CommitsTo self.old holder «package».now)) }
         ensures refused { IfErr result (CommitRefuses self.old holder «package».now
             (D.view files.old) (D.view files.new) (T.view staged.old) (T.view staged.new)) }
-        ensures rests { IfErr result
-            (UnlessFailed ((files.new ≡ files.old) × (staged.new ≡ staged.old))) }
         ensures closes { IsWhole result (has_failed self.old) (has_failed self.new) }
     {
         match self.commit_file(alloc, holder, package)? {
@@ -91,12 +89,9 @@ impl Store {
         ensures images { StopLeaves self.old (D.view files.old) (D.view files.new)
             (ReplacesTo self.old «package».now) }
         ensures done { OnOk result (HasReplaced self.old self.new holder «package».now) }
-        ensures left { IfErr result (IsLeft self.old self.new
-            (ReplacesTo self.old «package».now) (staged.new ≡ staged.old)) }
+        ensures left { IfErr result (IsLeft self.old self.new (ReplacesTo self.old «package».now)) }
         ensures refused { IfErr result (ReplaceRefuses self.old holder «package».now
             (D.view files.old) (D.view files.new) (T.view staged.old) (T.view staged.new)) }
-        ensures rests { IfErr result
-            (UnlessFailed ((files.new ≡ files.old) × (staged.new ≡ staged.old))) }
         ensures closes { IsWhole result (has_failed self.old) (has_failed self.new) }
     {
         let new = self.replace_file(alloc, package)?;

@@ -48,8 +48,7 @@ impl Store {
     {
         let snap = match Snap::open(alloc, files, now) {
             Ok(snap) => snap,
-            Err(SnapError::Memory) => return Err(StoreError::Memory),
-            Err(error) => return Err(StoreError::Snap(error)),
+            Err(error) => return Err(StoreError::from(error)),
         };
         let staged = match Staged::open(alloc, staged) {
             Ok(staged) => staged,

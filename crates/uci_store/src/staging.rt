@@ -1,10 +1,9 @@
 //! How holders stage changes and take them back.
 ghost use Rattle.std.specs.Prelude.{◌≡◌, ◌≢◌, IfErr, OnOk, OnErr};
 ghost use Rattle.uci_staged.specs.Kept.{Follows};
-ghost use Rattle.uci_store.specs.Store.{names_of, snap_of, staged_in, has_failed, IsOnStaged, StaysOnFiles};
+ghost use Rattle.uci_store.specs.Store.{names_of, snap_of, staged_in, has_failed, IsOnStaged};
 ghost use Rattle.uci_store.specs.Staging.{HasStaged, HasReverted, ChangesPackage, IsKeptOf, IsWhole};
 ghost use Rattle.uci_store.specs.Refusals.{StageRefuses, RevertRefuses};
-ghost use Rattle.uci_store.specs.Stops.{UnlessFailed};
 ghost use Rattle.uci_store.specs.StoreError.{IsDiskAnswer};
 
 use crate::{Store, StoreError};
@@ -43,8 +42,6 @@ impl Store {
         ensures kept { OnErr result (staged_in self.new ≡ staged_in self.old) }
         ensures refused { IfErr result
             (StageRefuses self.old holder delta (T.view staged.old) (T.view staged.new)) }
-        ensures rests { IfErr result (UnlessFailed (staged.new ≡ staged.old)) }
-        ensures others { StaysOnFiles self.old self.new }
         ensures closes { IsWhole result (has_failed self.old) (has_failed self.new) }
     {
         self.refuse_failed()?;
@@ -95,8 +92,6 @@ impl Store {
         ensures kept { OnErr result (staged_in self.new ≡ staged_in self.old) }
         ensures refused { IfErr result
             (RevertRefuses self.old holder path.now.«package» (T.view staged.old) (T.view staged.new)) }
-        ensures rests { IfErr result (UnlessFailed (staged.new ≡ staged.old)) }
-        ensures others { StaysOnFiles self.old self.new }
         ensures closes { IsWhole result (has_failed self.old) (has_failed self.new) }
     {
         self.refuse_failed()?;

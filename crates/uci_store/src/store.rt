@@ -2,7 +2,7 @@ ghost use Rattle.std.specs.Prelude.{ℕ, List, ◌≡◌, ◌≢◌, ◌≤◌, 
 ghost use Rattle.snap_disk.specs.Open.{pending_of};
 ghost use Rattle.uci_staged.specs.Change.{deltas_in, forgotten};
 ghost use Rattle.uci_staged.specs.Kept.{AreStagedIn};
-ghost use Rattle.uci_store.specs.Store.{names_of, snap_of, files_of, staged_in, has_failed, file_of, name_of, IsStore, StaysOnFiles, StaysOnStaged};
+ghost use Rattle.uci_store.specs.Store.{names_of, snap_of, files_of, staged_in, has_failed, file_of, name_of, IsStore};
 ghost use Rattle.uci_store.specs.Refusals.{IsReopen};
 ghost use Rattle.uci_store.specs.Committing.{IsFree, FreeRefuses};
 
@@ -44,8 +44,6 @@ impl Store {
         ensures snap { snap_of self.new ≡ snap_of self.old }
         ensures failed { has_failed self.new ≡ has_failed self.old }
         ensures store { IsStore self.old → IsStore self.new }
-        ensures files { StaysOnFiles self.old self.new }
-        ensures disk { StaysOnStaged self.old self.new }
         ensures own { (file : ℕ) → deltas_in 0 file (staged_in self.new)
             ≡ deltas_in 0 file (staged_in self.old) }
         ensures lines { (names : List (List ℕ)) → AreStagedIn names (staged_in self.old) →

@@ -2,10 +2,10 @@
 ghost use Rattle.std.specs.Prelude.{◌≡◌, ◌≢◌, false, true, Ok, Err, IfOk, IfErr, OnOk, OnErr};
 ghost use Rattle.snap_disk.specs.Images.{SameDisk};
 ghost use Rattle.snap_disk.specs.Open.{is_due};
-ghost use Rattle.uci_store.specs.Store.{names_of, snap_of, files_of, staged_in, has_failed, IsOnFiles, StaysOnStaged};
+ghost use Rattle.uci_store.specs.Store.{names_of, snap_of, files_of, staged_in, has_failed, IsOnFiles};
 ghost use Rattle.uci_store.specs.Staging.{IsWhole};
 ghost use Rattle.uci_store.specs.StoreError.{IsAnswer};
-ghost use Rattle.uci_store.specs.Stops.{StopLeaves, UnlessFailed};
+ghost use Rattle.uci_store.specs.Stops.{StopLeaves};
 ghost use Rattle.uci_store.specs.Waiting.{IsHolders, ConfirmsTo, RollsBackTo, TicksTo, EndStops, EndRefuses, TickRefuses};
 
 use crate::{Store, StoreError};
@@ -31,8 +31,6 @@ impl Store {
         ensures kept { OnErr result (files_of self.new ≡ files_of self.old) }
         ensures refused { IfErr result
             (EndRefuses self.old holder (D.view files.old) (D.view files.new)) }
-        ensures rests { IfErr result (UnlessFailed (files.new ≡ files.old)) }
-        ensures others { StaysOnStaged self.old self.new }
         ensures closes { IsWhole result (has_failed self.old) (has_failed self.new) }
     {
         self.refuse_other(holder)?;
@@ -59,8 +57,6 @@ impl Store {
         ensures kept { OnErr result (files_of self.new ≡ files_of self.old) }
         ensures refused { IfErr result
             (EndRefuses self.old holder (D.view files.old) (D.view files.new)) }
-        ensures rests { IfErr result (UnlessFailed (files.new ≡ files.old)) }
-        ensures others { StaysOnStaged self.old self.new }
         ensures closes { IsWhole result (has_failed self.old) (has_failed self.new) }
     {
         self.refuse_other(holder)?;
@@ -89,8 +85,6 @@ impl Store {
         ensures kept { OnErr result (files_of self.new ≡ files_of self.old) }
         ensures refused { IfErr result
             (TickRefuses self.old now (D.view files.old) (D.view files.new)) }
-        ensures rests { IfErr result (UnlessFailed (files.new ≡ files.old)) }
-        ensures others { StaysOnStaged self.old self.new }
         ensures closes { IsWhole result (has_failed self.old) (has_failed self.new) }
     {
         self.refuse_failed()?;

@@ -8,7 +8,7 @@ ghost use Rattle.uci_staged.specs.Change.{without, forgotten};
 ghost use Rattle.uci_staged.specs.Kept.{Follows, ChangesFile, ChangesPackages};
 ghost use Rattle.uci_store.specs.Store.{names_of, snap_of, files_of, staged_in, has_failed, IsOnFiles, IsOnStaged};
 ghost use Rattle.uci_store.specs.Staging.{IsWhole};
-ghost use Rattle.uci_store.specs.Stops.{StopLeaves, IsLeft, UnlessFailed};
+ghost use Rattle.uci_store.specs.Stops.{StopLeaves, IsLeft};
 ghost use Rattle.uci_store.specs.Committing.{with_file, IsFree, HasWritten, WriteRefuses, PutRefuses, DropRefuses};
 
 use crate::{Store, StoreError};
@@ -41,12 +41,9 @@ impl Store {
             (λ after. after ≡ with_file (files_of self.old) new) }
         ensures done { OnOk result (HasWritten self.old self.new holder new) }
         ensures left { IfErr result
-            (IsLeft self.old self.new (λ after. after ≡ with_file (files_of self.old) new)
-            (staged.new ≡ staged.old)) }
+            (IsLeft self.old self.new (λ after. after ≡ with_file (files_of self.old) new)) }
         ensures refused { IfErr result (WriteRefuses holder
             (D.view files.old) (D.view files.new) (T.view staged.old) (T.view staged.new)) }
-        ensures rests { IfErr result
-            (UnlessFailed ((files.new ≡ files.old) × (staged.new ≡ staged.old))) }
         ensures closes { IsWhole result (has_failed self.old) (has_failed self.new) }
     {
         let file = new.file;
@@ -76,7 +73,6 @@ impl Store {
         ensures done { OnOk result (files_of self.new ≡ begun (files_of self.old) new.items wait) }
         ensures kept { OnErr result (files_of self.new ≡ files_of self.old) }
         ensures refused { IfErr result (PutRefuses (D.view files.old) (D.view files.new)) }
-        ensures rests { IfErr result (UnlessFailed (files.new ≡ files.old)) }
         ensures closes { IsWhole result (has_failed self.old) (has_failed self.new) }
     {
         match self.snap.begin(alloc, files, new, wait) {
