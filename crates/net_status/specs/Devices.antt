@@ -1,15 +1,17 @@
 -- What is shown of devices.
 use Rattle.std.specs.Prelude.{ℕ, List, [], ◌∷◌, ◌++◌, map, filter, codes, Bool, true, false, not, ◌&&◌, ◌||◌, Option, Some, None, is_some, if◌then◌else◌, bytes_eq}
-use Rattle.std.specs.List.{find}
+use Rattle.std.specs.List.{find, flat_map}
 use Rattle.serde_json.specs.Data.{Data, boolean, object, member, no_members}
 use Rattle.net_rows.specs.declared.fault_name.FaultName.{FaultName}
 use Rattle.net_rows.specs.declared.fault_name.FaultName.TheVariants as fault
 use Rattle.net_rows.specs.declared.rows.RowFault.{RowFault}
+use Rattle.net_rows.specs.declared.rows.NameRow.{NameRow}
+use Rattle.net_rows.specs.declared.rows.VlanRow.{VlanRow}
 use Rattle.net_rows.specs.declared.rows.NameKind.{NameKind}
 use Rattle.net_rows.specs.declared.rows.NameKind.TheVariants.{Plain, Bridge, Vlan}
 use Rattle.net_rules.specs.declared.inputs.Inputs.{Inputs}
 use Rattle.net_rules.specs.Facts.{Facts}
-use Rattle.net_rules.specs.Rows.{row_at, kind_at, is_plain}
+use Rattle.net_rules.specs.Rows.{row_at, kind_at, is_plain, is_name}
 use Rattle.net_rules.specs.Available.{is_present, available, link}
 use Rattle.net_rules.specs.Used.{used, users}
 use Rattle.net_rules.specs.Inputs.{facts_of}
@@ -42,13 +44,32 @@ device_faults facts name faults =
     ++ (taken_items facts name
     ++ map fault_item (filter (λ found. is_of_value found.name) faults))
 
+-- the name has a row
+abbrev pub has_row : List NameRow → List ℕ → Bool
+has_row rows name = is_some (find (λ row. bytes_eq row.name name) rows)
+
+-- the faults of a row of `bridge-vlan` that names this device
+abbrev pub faults_on : List ℕ → VlanRow → List RowFault
+faults_on name row = if is_name row.bridge name then row.faults else []
+
+-- The faults of the `bridge-vlan` rows that name it, in file order, where the name has a row.
+abbrev pub vlan_faults : Facts → List ℕ → List RowFault
+vlan_faults facts name =
+    if has_row facts.conf.names name then flat_map (faults_on name) facts.conf.vlans else []
+
+-- its own faults, and behind them those of its VLAN rows
+abbrev pub device_errors : Facts → List ℕ → List Data
+device_errors facts name =
+    device_faults facts name (row_at facts.conf.names name).faults
+    ++ map fault_item (vlan_faults facts name)
+
 -- `carrier` is whether it has link, and `up` whether it is used
 abbrev pub device_shown : Facts → List ℕ → Data
 device_shown facts name =
     object (member (codes "available") (boolean (available facts name))
     (member (codes "carrier") (boolean (link facts name))
     (member (codes "errors")
-    (list (device_faults facts name (row_at facts.conf.names name).faults))
+    (list (device_errors facts name))
     (member (codes "name") (text name)
     (member (codes "type") (text (kind_word (kind_at facts.conf name)))
     (member (codes "up") (boolean (used facts name))
@@ -57,7 +78,7 @@ device_shown facts name =
 -- a name that is present or has a row
 abbrev pub is_shown : Facts → List ℕ → Bool
 is_shown facts name =
-    is_present facts name || is_some (find (λ row. bytes_eq row.name name) facts.conf.names)
+    is_present facts name || has_row facts.conf.names name
 
 -- the device of a name
 abbrev pub device_status : Inputs → List ℕ → Option Data

@@ -1,7 +1,8 @@
 ghost use Rattle.std.specs.Prelude.{◌≡◌, ◌+◌, ◌++◌, ◌∷◌, [], length, map, filter, not, if◌then◌else◌, IfOk, OnOk};
+ghost use Rattle.std.specs.List.{flat_map};
 ghost use Rattle.std.specs.Option.{option_map};
 ghost use Rattle.serde_json.specs.View.{view};
-ghost use Rattle.net_rules.specs.Rows.{row_at, kind_at, rowless_kind};
+ghost use Rattle.net_rules.specs.Rows.{row_at, kind_at, rowless_kind, is_name};
 ghost use Rattle.net_rules.specs.Used.{users};
 ghost use Rattle.net_rules.specs.Inputs.{facts_of};
 ghost use Rattle.net_view.specs.Index.{IsIndexOf};
@@ -9,11 +10,11 @@ ghost use Rattle.net_wants.specs.View.{IsViewOf};
 ghost use Rattle.net_status.specs.Faults.{fault_item, taken_item};
 ghost use Rattle.net_status.specs.Devices as spec;
 
-use crate::faults::fault_item;
+use crate::faults::{add_faults, fault_item};
 use crate::values::{list, text, truth};
 use kern_model::DevName;
 use net_options::vlan_parts;
-use net_rows::{FaultName, InterfaceRow, NameKind, NameRow, RowFault};
+use net_rows::{FaultName, InterfaceRow, NameKind, NameRow, RowFault, VlanRow};
 use net_rules::Inputs;
 use net_view::{Index, is_plain};
 use net_wants::View;
@@ -41,7 +42,7 @@ fn is_shown(index: &Index, inputs: &Inputs, name: &DevName) -> bool
     requires { IsIndexOf inputs.now index.now }
     ensures { result ≡ spec.is_shown (facts_of inputs.now) name.now }
 {
-    let has_row = index.row(inputs, name).is_some();
+    let has_row = has_row(index, inputs, name);
     index.device(inputs, name).is_some() | has_row
 }
 
@@ -61,7 +62,7 @@ fn device_shown(
     let carrier = truth(seen.levels.has_link(inputs, name));
     put(&mut members, alloc, "carrier", carrier)?;
     let index = &seen.levels.ports.index;
-    let errors = list(device_faults(alloc, index, inputs, name)?);
+    let errors = list(device_errors(alloc, index, inputs, name)?);
     put(&mut members, alloc, "errors", errors)?;
     let title = text(alloc, name.text())?;
     put(&mut members, alloc, "name", title)?;
@@ -117,6 +118,70 @@ fn word_of(kind: &NameKind) -> &'static [u8]
         NameKind::Plain => b"Network device",
         NameKind::Bridge { .. } => b"bridge",
         NameKind::Vlan { .. } => b"8021q",
+    }
+}
+
+fn device_errors(
+    alloc: Global,
+    index: &Index,
+    inputs: &Inputs,
+    name: &DevName,
+) -> Result<Vec<Value>, Memory>
+    requires { IsIndexOf inputs.now index.now }
+    ensures { IfOk result (λ items. map view items.items
+        ≡ spec.device_errors (facts_of inputs.now) name.now) }
+{
+    let mut items = device_faults(alloc, index, inputs, name)?;
+    if has_row(index, inputs, name) {
+        add_vlan_faults(alloc, &mut items, inputs.conf.vlans.as_slice(), name)?;
+    }
+    Ok(items)
+}
+
+fn has_row(index: &Index, inputs: &Inputs, name: &DevName) -> bool
+    requires { IsIndexOf inputs.now index.now }
+    ensures { result ≡ spec.has_row inputs.now.conf.names name.now }
+{
+    index.row(inputs, name).is_some()
+}
+
+// Adds the faults of the VLAN rows that name the device, in file order.
+fn add_vlan_faults(
+    alloc: Global,
+    items: &mut Vec<Value>,
+    vlans: &[VlanRow],
+    name: &DevName,
+) -> Result<(), Memory>
+    ensures { OnOk result (map view items.new.items ≡ map view items.old.items
+        ++ map fault_item (flat_map (spec.faults_on name.now) vlans.now)) }
+{
+    for row in vlans {
+        add_faults_on(alloc, items, row, name)?;
+    }
+    Ok(())
+}
+
+fn add_faults_on(
+    alloc: Global,
+    items: &mut Vec<Value>,
+    row: &VlanRow,
+    name: &DevName,
+) -> Result<(), Memory>
+    ensures { OnOk result (map view items.new.items ≡ map view items.old.items
+        ++ map fault_item (spec.faults_on name.now row.now)) }
+{
+    if !is_on(&row.bridge, name) {
+        return Ok(());
+    }
+    add_faults(alloc, items, row.faults.as_slice())
+}
+
+fn is_on(bridge: &Option<DevName>, name: &DevName) -> bool
+    ensures { result ≡ is_name bridge.now name.now }
+{
+    match bridge {
+        Some(bridge) => bridge == name,
+        None => false,
     }
 }
 

@@ -13,10 +13,19 @@ pub fn fault_items(alloc: Global, faults: &[RowFault]) -> Result<Vec<Value>, Mem
     ensures { IfOk result (λ items. map view items.items ≡ map spec.fault_item faults.now) }
 {
     let mut items = Vec::new(alloc);
+    add_faults(alloc, &mut items, faults)?;
+    Ok(items)
+}
+
+/// Adds the faults with their arguments.
+pub fn add_faults(alloc: Global, items: &mut Vec<Value>, faults: &[RowFault]) -> Result<(), Memory>
+    ensures { OnOk result (map view items.new.items ≡ map view items.old.items
+        ++ map spec.fault_item faults.now) }
+{
     for fault in faults {
         items.push(fault_item(alloc, fault)?)?;
     }
-    Ok(items)
+    Ok(())
 }
 
 /// A fault with its argument.
