@@ -6,3 +6,5 @@ pub mod HistoryLemmas
 pub mod AnswerLemmas
 pub mod LoadLemmas
 pub mod StatusLemmas
+pub mod ApartLemmas
+pub mod ReachedLemmas

@@ -6,6 +6,8 @@ pub mod Network
 pub mod Kept
 -- which events are taken, and how others are told
 pub mod Taken
+-- which events of devices change the present devices alone
+pub mod Apart
 -- how far a settling came
 pub mod Settled
 -- what planes come to by events and settlings

@@ -40,8 +40,32 @@ impl Net {
         }
     }
 
-    // Tells the kernel what happens to a device, where nothing refuses it. All memory is taken before.
+    // Tells the kernel what happens to a device, where nothing refuses it.
     fn tell<K: Kernel>(
+        &mut self,
+        alloc: Global,
+        kernel: &mut K,
+        event: &DevEvent,
+    ) -> Result<(), NetError>
+        requires told { self.old.notices ≡ [] }
+        requires of { IsOf K.Kernel kernel.old self.old }
+        requires free { spec.refusal (moment_of self.old) (event_of.Device event.now) ≡ None }
+        ensures ok { OnOk result (IsAfter self.old (event_of.Device event.now) self.new) }
+        ensures causes { AnswersOrFails None (K.faults kernel.old) (K.faults kernel.new) result }
+        ensures err { OnErr result (self.new ≡ self.old) }
+        ensures of { IsOf K.Kernel kernel.new self.new }
+        ensures calls { K.calls kernel.new ≡ K.calls kernel.old }
+        ensures asked { TellsOnce event.now (K.asked kernel.old) (K.asked kernel.new) result }
+        ensures later { K.faults kernel.old ≤ K.faults kernel.new }
+    {
+        if self.is_apart(event) {
+            return self.tell_apart(alloc, kernel, event);
+        }
+        self.tell_wholly(alloc, kernel, event)
+    }
+
+    // Tells the kernel what happens to any device, where nothing refuses it. All memory is taken before.
+    fn tell_wholly<K: Kernel>(
         &mut self,
         alloc: Global,
         kernel: &mut K,

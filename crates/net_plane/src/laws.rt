@@ -20,7 +20,8 @@ pub fn settled_planes_are_as_fresh_ones()
         → calls_of now ≡ [] → set_of now.held ≡ want_of (fresh_start (inputs_after events)) }
 {}
 
-/// From a settled plane on, no call names an object of a footprint that stayed, whatever events come and wherever settlings stop.
+/// From a settled plane on, no call that was made names an object of a footprint that stayed, whatever events come and wherever
+/// settlings stop.
 pub fn no_call_names_what_stayed()
     ensures { (events : List Event) (before : Network) (name : List ℕ) (calls : List Call)
         → HasBecome events before → calls_of before ≡ []

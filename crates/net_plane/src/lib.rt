@@ -2,6 +2,7 @@
 //! holds exactly what a fresh start would give.
 #![tactic(auto)]
 
+mod apart;
 mod device;
 mod events;
 mod laws;
@@ -9,6 +10,8 @@ mod load;
 mod net;
 mod net_error;
 mod next;
+mod present;
+mod reached;
 mod status;
 mod take;
 

@@ -11,13 +11,13 @@ ghost use Rattle.net_plane.specs.Network.{IsNew, IsOf, calls_of};
 ghost use Rattle.net_plane.specs.Settled.{Settles, HasMade, told_end};
 
 use crate::net_error::NetError;
-use kern_model::Kernel;
+use kern_model::{DevName, Kernel};
 use net_rows::Conf;
 use net_rules::{Inputs, Notice};
 use net_settle::{SettleError, Settling};
 use plane_io::{Items, Sink};
 use std::alloc::Global;
-use std::collections::VecDeque;
+use std::collections::{BTreeSet, VecDeque};
 use std::marker::Model;
 
 /// The plane of interfaces: the rows of the loaded files, the present devices, commands and answers, what the kernel holds, and what is
@@ -27,10 +27,14 @@ pub struct Net {
     pub(crate) inputs: Inputs,
     pub(crate) settling: Settling,
     pub(crate) notices: VecDeque<Notice>,
+    /// The names that rows reach.
+    pub(crate) reached: BTreeSet<DevName>,
 }
 
 impl Model for Net {
     ghost use Rattle.net_plane.specs.Network.{Network};
+    ghost use Rattle.net_view.specs.Names.{HasNames};
+    ghost use Rattle.net_apart.specs.Reach.{is_reached};
     ghost use Rattle.net_plane.specs.Kept.{IsKept};
 
     ghost Value = { Network };
@@ -41,7 +45,8 @@ impl Model for Net {
       notices = n.notices.items;
     } };
 
-    ghost invariant = { λ n. IsKept n.inputs n.settling };
+    ghost invariant = { λ n. IsKept n.inputs n.settling
+        × HasNames n.reached (is_reached n.inputs) };
 }
 
 impl Net {
@@ -53,6 +58,7 @@ impl Net {
             inputs: no_inputs(alloc),
             settling: Settling::new(alloc),
             notices: VecDeque::new(alloc),
+            reached: BTreeSet::new(alloc),
         }
     }
 

@@ -6,6 +6,7 @@ ghost use Rattle.net_plane.specs.Taken.{IsAfter, HasSoundRows, IsOfNoDevice};
 
 use crate::net::Net;
 use crate::next::{inputs_after, notices_after};
+use crate::reached::names_reached;
 use kern_model::DevEvent;
 use net_refusal::refusal;
 use net_rules::{Event, Refusal};
@@ -32,10 +33,12 @@ impl Net {
     {
         let now = inputs_after(alloc, &self.inputs, event)?;
         let notices = notices_after(alloc, &self.inputs, &now)?;
+        let names = names_reached(alloc, &now)?;
         let objects = wanted(alloc, &now)?;
         self.settling.want(alloc, objects)?;
         self.inputs = now;
         self.notices = notices;
+        self.reached = names;
         Ok(())
     }
 
@@ -46,12 +49,14 @@ impl Net {
     {
         let inputs = inputs_after(alloc, &self.inputs, Event::Device(*event))?;
         let notices = notices_after(alloc, &self.inputs, &inputs)?;
+        let names = names_reached(alloc, &inputs)?;
         let objects = wanted(alloc, &inputs)?;
         let settling = self.settling.after(alloc, event, objects)?;
         Ok(Net {
             inputs,
             settling,
             notices,
+            reached: names,
         })
     }
 }

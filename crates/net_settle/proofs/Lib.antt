@@ -2,3 +2,4 @@ pub mod SettleLemmas
 pub mod DueLemmas
 pub mod CourseLemmas
 pub mod EndLemmas
+pub mod DeviceLemmas

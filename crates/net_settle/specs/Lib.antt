@@ -8,3 +8,5 @@ pub mod Course
 pub mod Settle
 -- how many objects of a list are not among others
 pub mod Due
+-- what happens to a device beside a settling
+pub mod Device

@@ -1,4 +1,4 @@
-use crate::files::{ROUND, ROUTER};
+use crate::files::{ROUND, ROUTER, TWICE};
 use crate::histories::net_behind;
 use crate::steps::Step::{Add, Load};
 use kern_model::read_name;
@@ -65,4 +65,13 @@ fn bridges_that_are_ports_of_each_other_are_shown_with_faults(rt: HostRuntime) -
     let shown = net.device_status(rt.alloc(), &name);
     assert!(rt; matches!(&shown, Err(NetError::NoDevice)));
     Ok(())
+}
+
+#[test]
+fn faults_of_vlans_are_shown_at_their_bridge(rt: HostRuntime) -> Result<(), Fail> {
+    let net = net_behind(&rt, rt.alloc(), &[], &[(Load(TWICE, ""), "ok\n")])?;
+    let name = read_name(b"br0").expect(&rt, "a device name");
+    let text =
+        "{\"available\":false,\"carrier\":false,\"errors\":[\"SameVlan\"],\"name\":\"br0\",\"type\":\"bridge\",\"up\":false,\"users\":0}";
+    assert_text(&rt, rt.alloc(), net.device_status(rt.alloc(), &name), text)
 }

@@ -1,7 +1,7 @@
 use Rattle.std.proofs.Common.{ap, sym, ◌∙◌}
 use Rattle.kern_model.specs.Kernel.{after_event, objects_after_event}
 use Rattle.net_plane.proofs.DeviceLemmas.{happens_to, devices_after_it, held_after_it}
-use Rattle.net_plane.proofs.net.Net.tell.Goals as goal
+use Rattle.net_plane.proofs.net.Net.tell_wholly.Goals as goal
 
 pub environment-requires : goal.environment-requires
 environment-requires g c = happens_to c.args.self.now c.args.event.now (g.K.Kernel.devices c.args.kernel.now) (g.K.Kernel.objects c.args.kernel.now) c.requires.of.devices c.requires.of.objects c.requires.free

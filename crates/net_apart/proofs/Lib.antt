@@ -1,0 +1,4 @@
+pub mod KnownLemmas
+pub mod SameLemmas
+pub mod DeviceLemmas
+pub mod EventLemmas

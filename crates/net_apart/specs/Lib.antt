@@ -1,0 +1,4 @@
+-- Names that no row reaches.
+
+-- which names rows reach
+pub mod Reach
