@@ -9,7 +9,7 @@ use std::process::Abort;
 use std::test::Fail;
 use uci_delta::{print_change, read_deltas};
 use uci_store::{Store, StoreError};
-use uci_tree::{print_package, read_package, read_path};
+use uci_tree::{print_package, read_path};
 
 /// A call on the package `network`.
 #[derive(Clone, Copy)]
@@ -19,8 +19,8 @@ pub(crate) enum Call {
     /// Takes back what lies under this path.
     Revert(&'static str),
     Commit,
-    /// Puts the package of this text in the place of what is committed.
-    Replace(&'static str),
+    /// Puts what is committed in its own place.
+    Replace,
     Apply(Option<u64>),
     Confirm,
     Rollback,
@@ -81,21 +81,20 @@ fn revert<D: Disk, T: Disk>(
     }
 }
 
-/// Puts the package of a text in the place of what is committed.
+/// Puts what is committed in its own place.
 fn replace<D: Disk, T: Disk>(
     alloc: Global,
     store: &mut Store,
     files: &mut D,
     staged: &mut T,
     holder: u128,
-    text: &str,
 ) -> Result<(), StoreError>
     requires files { IsOnFiles store.old (D.view files.old) }
     requires staged { IsOnStaged store.old (T.view staged.old) }
     ensures files { IsOnFiles store.new (D.view files.new) }
     ensures staged { IsOnStaged store.new (T.view staged.new) }
 {
-    let tree = read_package(alloc, b"network", text.as_bytes())?;
+    let tree = store.committed(alloc, b"network")?;
     store.replace(alloc, files, staged, holder, &tree)
 }
 
@@ -141,7 +140,7 @@ fn make<D: Disk, T: Disk>(
         Call::Stage(line) => stage(alloc, store, files, staged, holder, line),
         Call::Revert(path) => revert(alloc, store, files, staged, holder, path),
         Call::Commit => store.commit(alloc, files, staged, holder, b"network"),
-        Call::Replace(text) => replace(alloc, store, files, staged, holder, text),
+        Call::Replace => replace(alloc, store, files, staged, holder),
         Call::Apply(deadline) => store.apply(alloc, files, staged, holder, deadline),
         other => wait(store, files, staged, holder, other),
     }

@@ -22,16 +22,15 @@ pub(crate) struct Left {
     pub(crate) pending: Option<Pending>,
 }
 
-/// A disk with these gates and this file `network`, which does so many calls and then fails.
+/// A disk with these contents, which does so many calls and then fails.
 fn disk(
     rt: &impl Abort,
     alloc: Global,
-    gates: &[u8],
-    network: &[u8],
+    contents: &[&[u8]],
     passed: Option<u64>,
 ) -> Result<MemDisk, Fail> {
     let mut files = Vec::new(alloc);
-    for (name, bytes) in NAMES.iter().zip([gates, b"", network, b""]) {
+    for (name, bytes) in NAMES.iter().zip(contents) {
         files.push(MemFile {
             name: Text::from_bytes(alloc, name.as_bytes())?,
             bytes: Text::from_bytes(alloc, bytes)?,
@@ -60,8 +59,8 @@ pub(crate) fn play_on(
     passed: Option<u64>,
     rows: &[Row],
 ) -> Result<Left, Fail> {
-    let mut files = disk(rt, alloc, b"\0\0", network, None)?;
-    let mut staged = disk(rt, alloc, b"", changes, passed)?;
+    let mut files = disk(rt, alloc, &[b"\0\0", b"", network, b""], None)?;
+    let mut staged = disk(rt, alloc, &[b"", b"", changes, b""], passed)?;
     assert!(rt; have_same_packages(&files, &staged));
     let seen = run(rt, alloc, &mut files, &mut staged, rows)?;
     Ok(Left {

@@ -113,10 +113,10 @@ fn a_replacement_drops_what_is_staged(rt: HostRuntime) -> Result<(), Fail> {
         &[
             (0, Call::Stage("network.a.o='1'"), 0, "network.a.o='1'\n"),
             (7, Call::Stage("network.a.o='2'"), 0, "network.a.o='2'\n"),
-            (0, Call::Replace("config y 'a'\n"), 0, ""),
+            (0, Call::Replace, 0, ""),
             (7, Call::Tick(0), 0, "network.a.o='2'\n"),
         ],
     )?;
-    assert_eq!(rt; left.file.as_slice(), b"\nconfig y 'a'\n\n".as_slice());
+    assert_eq!(rt; left.file.as_slice(), b"\nconfig x 'a'\n\n".as_slice());
     Ok(())
 }

@@ -76,7 +76,7 @@ fn a_staged_write_fails(rt: HostRuntime) -> Result<(), Fail> {
                 (0, Call::Stage("network.a.o='2'"), 34, ""),
                 (7, Call::Revert("network"), 34, "network.a.o='3'\n"),
                 (7, Call::Commit, 34, "network.a.o='3'\n"),
-                (7, Call::Replace(""), 34, "network.a.o='3'\n"),
+                (7, Call::Replace, 34, "network.a.o='3'\n"),
                 (7, Call::Apply(None), 34, "network.a.o='3'\n"),
                 (7, Call::Confirm, 34, "network.a.o='3'\n"),
                 (7, Call::Rollback, 34, "network.a.o='3'\n"),
