@@ -35,7 +35,7 @@ pub enum SnapError {
 
 impl SnapError {
     /// The number of the kind of error: 30 for `DiskFailed`, 31 for `Waiting`, 32 for
-    /// `NothingWaits`, 33 for `BadSnapshot`, 34 for `Reopen`, 96 for `Limit`, 8 for `Memory`.
+    /// `NothingWaits`, 33 for `BadSnapshot`, 34 for `Reopen`, 10 for `Limit`, 8 for `Memory`.
     pub fn number(&self) -> u8
         ensures { result ≡ number_of self.now }
     {
@@ -45,7 +45,7 @@ impl SnapError {
             SnapError::NothingWaits => 32,
             SnapError::BadSnapshot { .. } => 33,
             SnapError::Reopen => 34,
-            SnapError::Limit { .. } => 96,
+            SnapError::Limit { .. } => 10,
             SnapError::Memory => 8,
         }
     }

@@ -65,7 +65,7 @@ fn each_file_is_read_once(rt: HostRuntime) -> Result<(), Fail> {
         (64, 67, 64, 0),
         (64, 66, 64, 30),
         (64, 67, 63, 30),
-        (65, 1000, 1000, 96),
+        (65, 1000, 1000, 10),
         (0, 3, 0, 0),
     ];
     for row in rows {
