@@ -1,4 +1,6 @@
 pub mod StoreLemmas
 pub mod StopLemmas
 pub mod CommitLemmas
+pub mod StageLemmas
 pub mod ApplyLemmas
+pub mod DiskLemmas

@@ -1,5 +1,5 @@
 -- What is seen of a package, and why it is not seen.
-use Rattle.std.specs.Prelude.{ℕ, ◌≡◌, ◌⊎◌, true, false, List, Some, None, Err}
+use Rattle.std.specs.Prelude.{ℕ, ◌≡◌, ◌⊎◌, true, false, List, Some, None, Ok, Err}
 use Rattle.snap_disk.specs.declared.snap_error.SnapError.TheVariants.{DiskFailed, Reopen}
 use Rattle.plane_words.specs.Causes.{Rose}
 use Rattle.plane_disk.specs.View.{View}
@@ -27,6 +27,10 @@ HasFile store name file = file_of (names_of store) name ≡ Some file
 -- no file has the name
 abbrev pub HasNoFile : Store → List ℕ → Type 0
 HasNoFile store name = file_of (names_of store) name ≡ None
+
+-- the package has a file
+abbrev pub HasSomeFile : Store → List ℕ → Type 0
+HasSomeFile store name = (file : ℕ) × HasFile store name file
 
 -- the package of that file as it is committed
 abbrev pub ReadsAt : Store → ℕ → Package → Type 0
@@ -69,7 +73,7 @@ pub record DoesNotRead (store : Store) (name : List ℕ) (error : TreeError) : T
 abbrev pub ReadRefuses : Store → List ℕ → StoreError → Type 0
 ReadRefuses store name NoPackage = HasNoFile store name
 ReadRefuses store name (Parse error) = DoesNotRead store name error
-ReadRefuses store name Memory = Unit {0}
+ReadRefuses store name Memory = HasSomeFile store name
 ReadRefuses store name error = ⊥
 
 -- what the holder has staged of the package
@@ -80,7 +84,7 @@ pub record AreChanges (store : Store) (holder : ℕ) (name : List ℕ) (deltas :
 
 abbrev pub ChangesRefuse : Store → List ℕ → StoreError → Type 0
 ChangesRefuse store name NoPackage = HasNoFile store name
-ChangesRefuse store name Memory = Unit {0}
+ChangesRefuse store name Memory = HasSomeFile store name
 ChangesRefuse store name error = ⊥
 
 -- the view does not take the delta
@@ -89,20 +93,27 @@ pub record DoesNotTake (store : Store) (holder : ℕ) (delta : Delta) (error : D
   pub seen : IsSeen store holder delta.package view
   pub refused : applied view delta ≡ Err error
 
+-- the view takes the delta
+pub record Takes (store : Store) (holder : ℕ) (delta : Delta) : Type 0 where
+  pub view : Package
+  pub seen : IsSeen store holder delta.package view
+  pub taken : Package
+  pub takes : applied view delta ≡ Ok taken
+
 -- why a delta is not staged, with the views of the staged disk before and after
 abbrev pub StageRefuses : Store → ℕ → Delta → View → View → StoreError → Type 0
 StageRefuses store holder delta old new (Snap Reopen) = has_failed store ≡ true
 StageRefuses store holder delta old new NoPackage = (has_failed store ≡ false) × HasNoFile store delta.package
 StageRefuses store holder delta old new (Parse error) = (has_failed store ≡ false) × DoesNotRead store delta.package error
 StageRefuses store holder delta old new (NotTaken error) = (has_failed store ≡ false) × DoesNotTake store holder delta error
-StageRefuses store holder delta old new (Snap DiskFailed) = (has_failed store ≡ false) × (holder ≡ 0) × Rose old.faults new.faults
-StageRefuses store holder delta old new Memory = has_failed store ≡ false
+StageRefuses store holder delta old new (Snap DiskFailed) = (has_failed store ≡ false) × (holder ≡ 0) × Takes store holder delta × Rose old.faults new.faults
+StageRefuses store holder delta old new Memory = (has_failed store ≡ false) × HasSomeFile store delta.package
 StageRefuses store holder delta old new error = ⊥
 
 -- why nothing is reverted
 abbrev pub RevertRefuses : Store → ℕ → List ℕ → View → View → StoreError → Type 0
 RevertRefuses store holder name old new (Snap Reopen) = has_failed store ≡ true
 RevertRefuses store holder name old new NoPackage = (has_failed store ≡ false) × HasNoFile store name
-RevertRefuses store holder name old new (Snap DiskFailed) = (has_failed store ≡ false) × (holder ≡ 0) × Rose old.faults new.faults
-RevertRefuses store holder name old new Memory = has_failed store ≡ false
+RevertRefuses store holder name old new (Snap DiskFailed) = (has_failed store ≡ false) × (holder ≡ 0) × HasSomeFile store name × Rose old.faults new.faults
+RevertRefuses store holder name old new Memory = (has_failed store ≡ false) × HasSomeFile store name
 RevertRefuses store holder name old new error = ⊥

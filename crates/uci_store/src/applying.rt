@@ -7,7 +7,7 @@ ghost use Rattle.snap_disk.specs.Phase.{ArePackageFiles, Stands};
 ghost use Rattle.uci_staged.specs.Kept.{Follows, ChangesPackages};
 ghost use Rattle.uci_store.specs.Store.{names_of, files_of, has_failed, IsStore, IsOnFiles, IsOnStaged};
 ghost use Rattle.uci_store.specs.Staging.{IsWhole};
-ghost use Rattle.uci_store.specs.Stops.{StopLeaves, IsLeft};
+ghost use Rattle.uci_store.specs.Stops.{StopLeaves, IsLeft, UnlessFailed};
 ghost use Rattle.uci_store.specs.Committing.{IsFree, IsNewFile, WriteRefuses};
 ghost use Rattle.uci_store.specs.Applying as spec;
 ghost use Rattle.uci_store.specs.Applying.{EachBefore, AreNewFiles, AreSoFar, HasWrittenAll, AppliesTo, HasApplied, NewFilesRefuse, ApplyStops, ApplyRefuses};
@@ -34,7 +34,8 @@ impl Store {
     /// In this order: `Reopen` exactly after a disk failed; `Waiting` exactly where an apply waits; `NothingStaged` exactly where
     /// the holder has staged nothing; `Parse` exactly where one of the files does not read, with the fault of the first one;
     /// `TooLarge` exactly where one of the new files passes 1,048,576 bytes, with the size of the first one. `DiskFailed` only where
-    /// a disk failed; then the files may be the new ones. `Memory`.
+    /// a disk failed; then the files may be the new ones. `Memory`. But for `DiskFailed` the disks are untouched, and the staged one
+    /// is untouched wherever the files are those before.
     pub fn apply<D: Disk, T: Disk>(
         &mut self,
         alloc: Global,
@@ -55,9 +56,12 @@ impl Store {
         ensures images { StopLeaves self.old (D.view files.old) (D.view files.new)
             (AppliesTo self.old holder deadline) }
         ensures done { OnOk result (HasApplied self.old self.new holder deadline) }
-        ensures left { IfErr result (IsLeft self.old self.new (AppliesTo self.old holder deadline)) }
+        ensures left { IfErr result (IsLeft self.old self.new
+            (AppliesTo self.old holder deadline) (staged.new ≡ staged.old)) }
         ensures refused { IfErr result (ApplyRefuses self.old holder
             (D.view files.old) (D.view files.new) (T.view staged.old) (T.view staged.new)) }
+        ensures untouched { IfErr result
+            (UnlessFailed ((files.new ≡ files.old) × (staged.new ≡ staged.old))) }
         ensures closes { IsWhole result (has_failed self.old) (has_failed self.new) }
     {
         let new = self.apply_files(alloc, holder)?;
@@ -89,9 +93,12 @@ impl Store {
             (λ after. after ≡ begun (files_of self.old) new.items wait) }
         ensures done { OnOk result (HasWrittenAll self.old self.new holder new.items wait) }
         ensures left { IfErr result
-            (IsLeft self.old self.new (λ after. after ≡ begun (files_of self.old) new.items wait)) }
+            (IsLeft self.old self.new (λ after. after ≡ begun (files_of self.old) new.items wait)
+            (staged.new ≡ staged.old)) }
         ensures refused { IfErr result (WriteRefuses holder
             (D.view files.old) (D.view files.new) (T.view staged.old) (T.view staged.new)) }
+        ensures untouched { IfErr result
+            (UnlessFailed ((files.new ≡ files.old) × (staged.new ≡ staged.old))) }
         ensures closes { IsWhole result (has_failed self.old) (has_failed self.new) }
     {
         self.put(alloc, files, new, wait)?;
@@ -143,7 +150,8 @@ impl Store {
     ) -> Result<(), StoreError>
         requires store { IsStore self.now }
         requires within { place < length (names_of self.now) }
-        requires so_far { AreSoFar self.now holder (place + 2) so_far.old.files.items so_far.old.large }
+        requires so_far { AreSoFar self.now holder (place + 2)
+            so_far.old.files.items so_far.old.large }
         ensures more { OnOk result
             (AreSoFar self.now holder (place + 3) so_far.new.files.items so_far.new.large) }
         ensures refused { IfErr result (NewFilesRefuse self.now holder) }

@@ -6,8 +6,8 @@ ghost use Rattle.uci_staged.specs.Change.{has_deltas};
 ghost use Rattle.uci_staged.specs.Kept.{Follows};
 ghost use Rattle.uci_store.specs.Store.{names_of, name_of, staged_in, has_failed, IsStore, IsOnFiles, IsOnStaged};
 ghost use Rattle.uci_store.specs.Staging.{ChangesPackage, IsWhole};
-ghost use Rattle.uci_store.specs.Stops.{StopLeaves, IsLeft};
-ghost use Rattle.uci_store.specs.Committing.{file_text, CommitsTo, ReplacesTo, HasCommitted, HasReplaced, IsReplaceFile, IsNewFile, PlansCommit, NewFileRefuses, PrintRefuses, CommitStops, CommitRefuses, ReplaceStops, ReplaceRefuses};
+ghost use Rattle.uci_store.specs.Stops.{StopLeaves, IsLeft, UnlessFailed};
+ghost use Rattle.uci_store.specs.Committing.{file_text, NothingToCommit, CommitsTo, ReplacesTo, HasCommitted, HasReplaced, IsReplaceFile, IsNewFile, PlansCommit, NewFileRefuses, PrintRefuses, CommitStops, CommitRefuses, ReplaceStops, ReplaceRefuses};
 
 use crate::{Store, StoreError};
 use plane_disk::Disk;
@@ -21,13 +21,14 @@ const MOST_BYTES: usize = 1_048_576;
 
 impl Store {
     /// Writes the package as the holder sees it, and drops what the holder has staged of it once the file is durable. Where the
-    /// holder has staged nothing of it, the file is not looked at and nothing changes.
+    /// holder has staged nothing of it, the file is not looked at and the disks are untouched.
     ///
     /// # Errors
     ///
     /// In this order: `Reopen` exactly after a disk failed; `NoPackage` exactly where no file has that name; `Waiting` exactly where
     /// an apply waits; `Parse` exactly where the file does not read; `TooLarge` exactly where the new file passes 1,048,576 bytes.
-    /// `DiskFailed` only where a disk failed; then the files may be those of the commit. `Memory`.
+    /// `DiskFailed` only where a disk failed; then the files may be those of the commit. `Memory`. But for `DiskFailed` the disks are
+    /// untouched, and the staged one is untouched wherever the files are those before.
     pub fn commit<D: Disk, T: Disk>(
         &mut self,
         alloc: Global,
@@ -40,7 +41,8 @@ impl Store {
         requires staged { IsOnStaged self.old (T.view staged.old) }
         ensures same { SameDisk (D.view files.old) (D.view files.new) }
         ensures follows { Follows (T.view staged.old) (T.view staged.new) }
-        ensures changes { ChangesPackage self.old «package».now (T.view staged.old) (T.view staged.new) }
+        ensures changes { ChangesPackage self.old «package».now
+            (T.view staged.old) (T.view staged.new) }
         ensures aside { holder ≢ 0 → staged.new ≡ staged.old }
         ensures files { IsOnFiles self.new (D.view files.new) }
         ensures staged { IsOnStaged self.new (T.view staged.new) }
@@ -48,10 +50,14 @@ impl Store {
         ensures images { StopLeaves self.old (D.view files.old) (D.view files.new)
             (CommitsTo self.old holder «package».now) }
         ensures done { OnOk result (HasCommitted self.old self.new holder «package».now) }
-        ensures left { IfErr result
-            (IsLeft self.old self.new (CommitsTo self.old holder «package».now)) }
+        ensures rests { NothingToCommit self.old holder «package».now →
+            (files.new ≡ files.old) × (staged.new ≡ staged.old) }
+        ensures left { IfErr result (IsLeft self.old self.new
+            (CommitsTo self.old holder «package».now) (staged.new ≡ staged.old)) }
         ensures refused { IfErr result (CommitRefuses self.old holder «package».now
             (D.view files.old) (D.view files.new) (T.view staged.old) (T.view staged.new)) }
+        ensures untouched { IfErr result
+            (UnlessFailed ((files.new ≡ files.old) × (staged.new ≡ staged.old))) }
         ensures closes { IsWhole result (has_failed self.old) (has_failed self.new) }
     {
         match self.commit_file(alloc, holder, package)? {
@@ -67,7 +73,7 @@ impl Store {
     ///
     /// In this order: `Reopen` exactly after a disk failed; `NoPackage` exactly where no file has its name; `Waiting` exactly where
     /// an apply waits; `TooLarge` exactly where it passes 1,048,576 bytes. `DiskFailed` only where a disk failed; then the files may
-    /// be the new ones. `Memory`.
+    /// be the new ones. `Memory`. The disks are left as by a commit.
     pub fn replace<D: Disk, T: Disk>(
         &mut self,
         alloc: Global,
@@ -89,9 +95,12 @@ impl Store {
         ensures images { StopLeaves self.old (D.view files.old) (D.view files.new)
             (ReplacesTo self.old «package».now) }
         ensures done { OnOk result (HasReplaced self.old self.new holder «package».now) }
-        ensures left { IfErr result (IsLeft self.old self.new (ReplacesTo self.old «package».now)) }
+        ensures left { IfErr result (IsLeft self.old self.new
+            (ReplacesTo self.old «package».now) (staged.new ≡ staged.old)) }
         ensures refused { IfErr result (ReplaceRefuses self.old holder «package».now
             (D.view files.old) (D.view files.new) (T.view staged.old) (T.view staged.new)) }
+        ensures untouched { IfErr result
+            (UnlessFailed ((files.new ≡ files.old) × (staged.new ≡ staged.old))) }
         ensures closes { IsWhole result (has_failed self.old) (has_failed self.new) }
     {
         let new = self.replace_file(alloc, package)?;

@@ -41,14 +41,16 @@ impl Store {
         ensures ready { IfOk result (λ store. has_failed store ≡ false) }
         ensures images { (read : Files) → (D.view files.old).seen ≡ Some read →
             LeavesOnly (D.view files.old) (D.view files.new) (FromImage now (D.view files.old)) }
-        ensures after { OnOk result ((read : Files) → (D.view files.old).seen ≡ Some read → (image : Files) →
-            (D.view files.new).is_image image → OpensFrom (D.view files.old).names now image read) }
+        ensures after { OnOk result ((read : Files) → (D.view files.old).seen ≡ Some read →
+            (image : Files) → (D.view files.new).is_image image →
+            OpensFrom (D.view files.old).names now image read) }
         ensures refused { IfErr result (OpenRefuses (D.view files.old) (D.view files.new)
             (T.view staged.old) (T.view staged.new) now) }
     {
         let snap = match Snap::open(alloc, files, now) {
             Ok(snap) => snap,
-            Err(error) => return Err(StoreError::from(error)),
+            Err(SnapError::Memory) => return Err(StoreError::Memory),
+            Err(error) => return Err(StoreError::Snap(error)),
         };
         let staged = match Staged::open(alloc, staged) {
             Ok(staged) => staged,

@@ -4,6 +4,7 @@ ghost use Rattle.uci_staged.specs.Kept.{Follows};
 ghost use Rattle.uci_store.specs.Store.{names_of, snap_of, staged_in, has_failed, IsOnStaged};
 ghost use Rattle.uci_store.specs.Staging.{HasStaged, HasReverted, ChangesPackage, IsKeptOf, IsWhole};
 ghost use Rattle.uci_store.specs.Refusals.{StageRefuses, RevertRefuses};
+ghost use Rattle.uci_store.specs.Stops.{UnlessFailed};
 ghost use Rattle.uci_store.specs.StoreError.{IsDiskAnswer};
 
 use crate::{Store, StoreError};
@@ -19,9 +20,10 @@ impl Store {
     ///
     /// # Errors
     ///
-    /// The store stays as it was. `Reopen` exactly after a disk failed; `NoPackage` exactly where no file has the package's name;
-    /// `Parse` exactly where the file does not read; those of [`uci_delta::apply`] exactly where the view does not take the change;
-    /// `DiskFailed` only where the disk failed, and `Memory`.
+    /// The store stays as it was, and but for `DiskFailed` the disk is untouched. `Reopen` exactly after a disk failed; `NoPackage`
+    /// exactly where no file has the package's name; `Parse` exactly where the file does not read; those of [`uci_delta::apply`]
+    /// exactly where the view does not take the change; `DiskFailed` only where it does and the disk failed; and `Memory`, of a
+    /// package that has a file.
     pub fn stage<T: Disk>(
         &mut self,
         alloc: Global,
@@ -35,13 +37,15 @@ impl Store {
         ensures names { names_of self.new ≡ names_of self.old }
         ensures snap { snap_of self.new ≡ snap_of self.old }
         ensures done { OnOk result (HasStaged self.old self.new holder delta) }
-        ensures changes { ChangesPackage self.old delta.«package» (T.view staged.old) (T.view staged.new) }
+        ensures changes { ChangesPackage self.old delta.«package»
+            (T.view staged.old) (T.view staged.new) }
         ensures text { OnOk result
             (IsKeptOf self.new holder delta.«package» (T.view staged.old) (T.view staged.new)) }
         ensures aside { holder ≢ 0 → staged.new ≡ staged.old }
         ensures kept { OnErr result (staged_in self.new ≡ staged_in self.old) }
         ensures refused { IfErr result
             (StageRefuses self.old holder delta (T.view staged.old) (T.view staged.new)) }
+        ensures untouched { IfErr result (UnlessFailed (staged.new ≡ staged.old)) }
         ensures closes { IsWhole result (has_failed self.old) (has_failed self.new) }
     {
         self.refuse_failed()?;
@@ -69,8 +73,8 @@ impl Store {
     ///
     /// # Errors
     ///
-    /// The store stays as it was. `Reopen` exactly after a disk failed; `NoPackage` exactly where no file has the package's name;
-    /// `DiskFailed` only where the disk failed, and `Memory`.
+    /// The store stays as it was, and but for `DiskFailed` the disk is untouched. `Reopen` exactly after a disk failed; `NoPackage`
+    /// exactly where no file has the package's name; of a package that has one, `DiskFailed` only where the disk failed, and `Memory`.
     pub fn revert<T: Disk>(
         &mut self,
         alloc: Global,
@@ -90,8 +94,9 @@ impl Store {
             (T.view staged.old) (T.view staged.new)) }
         ensures aside { holder ≢ 0 → staged.new ≡ staged.old }
         ensures kept { OnErr result (staged_in self.new ≡ staged_in self.old) }
-        ensures refused { IfErr result
-            (RevertRefuses self.old holder path.now.«package» (T.view staged.old) (T.view staged.new)) }
+        ensures refused { IfErr result (RevertRefuses self.old holder path.now.«package»
+            (T.view staged.old) (T.view staged.new)) }
+        ensures untouched { IfErr result (UnlessFailed (staged.new ≡ staged.old)) }
         ensures closes { IsWhole result (has_failed self.old) (has_failed self.new) }
     {
         self.refuse_failed()?;

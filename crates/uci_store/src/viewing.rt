@@ -15,7 +15,8 @@ impl Store {
     ///
     /// # Errors
     ///
-    /// `NoPackage` exactly where no file has that name, `Parse` exactly where the file does not read, and `Memory`.
+    /// `NoPackage` exactly where no file has that name, `Parse` exactly where the file does not read, and `Memory`, of a package that
+    /// has a file.
     pub fn committed(&self, alloc: Global, package: &[u8]) -> Result<Package, StoreError>
         requires { IsStore self.now }
         ensures found { IfOk result (IsCommitted self.now «package».now) }
@@ -50,7 +51,7 @@ impl Store {
     ///
     /// # Errors
     ///
-    /// `NoPackage` exactly where no file has that name, and `Memory`.
+    /// `NoPackage` exactly where no file has that name, and `Memory`, of a package that has a file.
     pub fn changes(
         &self,
         alloc: Global,

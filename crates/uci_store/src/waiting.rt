@@ -5,7 +5,7 @@ ghost use Rattle.snap_disk.specs.Open.{is_due};
 ghost use Rattle.uci_store.specs.Store.{names_of, snap_of, files_of, staged_in, has_failed, IsOnFiles};
 ghost use Rattle.uci_store.specs.Staging.{IsWhole};
 ghost use Rattle.uci_store.specs.StoreError.{IsAnswer};
-ghost use Rattle.uci_store.specs.Stops.{StopLeaves};
+ghost use Rattle.uci_store.specs.Stops.{StopLeaves, UnlessFailed};
 ghost use Rattle.uci_store.specs.Waiting.{IsHolders, ConfirmsTo, RollsBackTo, TicksTo, EndStops, EndRefuses, TickRefuses};
 
 use crate::{Store, StoreError};
@@ -17,8 +17,9 @@ impl Store {
     ///
     /// # Errors
     ///
-    /// The store stays as it was. `Reopen` exactly after a disk failed; `NothingWaits` exactly where no apply waits; `NotHolder`
-    /// exactly where another holder's does; `DiskFailed` only where the disk failed.
+    /// The store stays as it was, and but for `DiskFailed` the disk is untouched. `Reopen` exactly after a disk failed;
+    /// `NothingWaits` exactly where no apply waits; `NotHolder` exactly where another holder's does; `DiskFailed` only where the
+    /// disk failed.
     pub fn confirm<D: Disk>(&mut self, files: &mut D, holder: u128) -> Result<(), StoreError>
         requires { IsOnFiles self.old (D.view files.old) }
         ensures same { SameDisk (D.view files.old) (D.view files.new) }
@@ -31,6 +32,7 @@ impl Store {
         ensures kept { OnErr result (files_of self.new ≡ files_of self.old) }
         ensures refused { IfErr result
             (EndRefuses self.old holder (D.view files.old) (D.view files.new)) }
+        ensures untouched { IfErr result (UnlessFailed (files.new ≡ files.old)) }
         ensures closes { IsWhole result (has_failed self.old) (has_failed self.new) }
     {
         self.refuse_other(holder)?;
@@ -57,6 +59,7 @@ impl Store {
         ensures kept { OnErr result (files_of self.new ≡ files_of self.old) }
         ensures refused { IfErr result
             (EndRefuses self.old holder (D.view files.old) (D.view files.new)) }
+        ensures untouched { IfErr result (UnlessFailed (files.new ≡ files.old)) }
         ensures closes { IsWhole result (has_failed self.old) (has_failed self.new) }
     {
         self.refuse_other(holder)?;
@@ -70,7 +73,8 @@ impl Store {
     ///
     /// # Errors
     ///
-    /// The store stays as it was. `Reopen` exactly after a disk failed; `DiskFailed` only where the disk failed.
+    /// The store stays as it was, and but for `DiskFailed` the disk is untouched. `Reopen` exactly after a disk failed; `DiskFailed`
+    /// only where the disk failed.
     pub fn tick<D: Disk>(&mut self, files: &mut D, now: u64) -> Result<bool, StoreError>
         requires { IsOnFiles self.old (D.view files.old) }
         ensures same { SameDisk (D.view files.old) (D.view files.new) }
@@ -85,6 +89,7 @@ impl Store {
         ensures kept { OnErr result (files_of self.new ≡ files_of self.old) }
         ensures refused { IfErr result
             (TickRefuses self.old now (D.view files.old) (D.view files.new)) }
+        ensures untouched { IfErr result (UnlessFailed (files.new ≡ files.old)) }
         ensures closes { IsWhole result (has_failed self.old) (has_failed self.new) }
     {
         self.refuse_failed()?;

@@ -8,7 +8,7 @@ ghost use Rattle.uci_staged.specs.Change.{without, forgotten};
 ghost use Rattle.uci_staged.specs.Kept.{Follows, ChangesFile, ChangesPackages};
 ghost use Rattle.uci_store.specs.Store.{names_of, snap_of, files_of, staged_in, has_failed, IsOnFiles, IsOnStaged};
 ghost use Rattle.uci_store.specs.Staging.{IsWhole};
-ghost use Rattle.uci_store.specs.Stops.{StopLeaves, IsLeft};
+ghost use Rattle.uci_store.specs.Stops.{StopLeaves, IsLeft, UnlessFailed};
 ghost use Rattle.uci_store.specs.Committing.{with_file, IsFree, HasWritten, WriteRefuses, PutRefuses, DropRefuses};
 
 use crate::{Store, StoreError};
@@ -41,9 +41,12 @@ impl Store {
             (λ after. after ≡ with_file (files_of self.old) new) }
         ensures done { OnOk result (HasWritten self.old self.new holder new) }
         ensures left { IfErr result
-            (IsLeft self.old self.new (λ after. after ≡ with_file (files_of self.old) new)) }
+            (IsLeft self.old self.new (λ after. after ≡ with_file (files_of self.old) new)
+            (staged.new ≡ staged.old)) }
         ensures refused { IfErr result (WriteRefuses holder
             (D.view files.old) (D.view files.new) (T.view staged.old) (T.view staged.new)) }
+        ensures untouched { IfErr result
+            (UnlessFailed ((files.new ≡ files.old) × (staged.new ≡ staged.old))) }
         ensures closes { IsWhole result (has_failed self.old) (has_failed self.new) }
     {
         let file = new.file;
@@ -73,6 +76,7 @@ impl Store {
         ensures done { OnOk result (files_of self.new ≡ begun (files_of self.old) new.items wait) }
         ensures kept { OnErr result (files_of self.new ≡ files_of self.old) }
         ensures refused { IfErr result (PutRefuses (D.view files.old) (D.view files.new)) }
+        ensures untouched { IfErr result (UnlessFailed (files.new ≡ files.old)) }
         ensures closes { IsWhole result (has_failed self.old) (has_failed self.new) }
     {
         match self.snap.begin(alloc, files, new, wait) {
@@ -100,7 +104,8 @@ impl Store {
         ensures snap { snap_of self.new ≡ snap_of self.old }
         ensures done { OnOk result (staged_in self.new ≡ without holder file (staged_in self.old)) }
         ensures kept { OnErr result (staged_in self.new ≡ staged_in self.old) }
-        ensures refused { IfErr result (DropRefuses holder (T.view staged.old) (T.view staged.new)) }
+        ensures refused { IfErr result
+            (DropRefuses holder (T.view staged.old) (T.view staged.new)) }
         ensures closes { IsWhole result (has_failed self.old) (has_failed self.new) }
     {
         match self.staged.drop_package(staged, holder, file) {
@@ -128,7 +133,8 @@ impl Store {
         ensures snap { snap_of self.new ≡ snap_of self.old }
         ensures done { OnOk result (staged_in self.new ≡ forgotten holder (staged_in self.old)) }
         ensures kept { OnErr result (staged_in self.new ≡ staged_in self.old) }
-        ensures refused { IfErr result (DropRefuses holder (T.view staged.old) (T.view staged.new)) }
+        ensures refused { IfErr result
+            (DropRefuses holder (T.view staged.old) (T.view staged.new)) }
         ensures closes { IsWhole result (has_failed self.old) (has_failed self.new) }
     {
         match self.staged.drop_holder(staged, holder) {
