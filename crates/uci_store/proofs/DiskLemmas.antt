@@ -1,5 +1,5 @@
 -- A store on its disks behind a call that took one of them alone.
-use Rattle.std.proofs.Common.{ℕ, ◌≡◌, ◌+◌, Bool, true, false, List, length, Result, Ok, Err, sym, ap, subst, ◌∙◌, arith}
+use Rattle.std.proofs.Common.{◌≡◌, Bool, true, false, length, Result, Ok, Err, sym, ap, subst, ◌∙◌, arith}
 use Rattle.std.specs.List.{AllByRecursion}
 use Rattle.plane_disk.specs.View.{View}
 use Rattle.snap_disk.specs.Opened.{IsWithin}
@@ -8,7 +8,6 @@ use Rattle.snap_disk.specs.Refusals.{IsGood}
 use Rattle.snap_disk.specs.declared.snap_error.SnapError.TheVariants.{DiskFailed, Waiting, NothingWaits, BadSnapshot, Reopen, Limit, Memory as SnapMemory}
 use Rattle.uci_text.specs.declared.byte_class.ByteClass.TheVariants.{PackageName}
 use Rattle.uci_text.specs.Table.{IsNameOf}
-use Rattle.uci_staged.specs.Change.{deltas_in}
 use Rattle.uci_staged.specs.Kept.{AreStagedIn, AreKept}
 use Rattle.uci_store.specs.declared.store.Store.{Store}
 use Rattle.uci_store.specs.declared.store_error.StoreError.{StoreError}

@@ -24,6 +24,7 @@ impl Store {
     /// exactly where no file has the package's name; `Parse` exactly where the file does not read; those of [`uci_delta::apply`]
     /// exactly where the view does not take the change; `DiskFailed` only where it does and the disk failed; and `Memory`, of a
     /// package that has a file.
+    #[tactic(auto, using(crate::proofs::StageLemmas::not_taken))]
     pub fn stage<T: Disk>(
         &mut self,
         alloc: Global,
