@@ -1,5 +1,5 @@
 use Rattle.uci_store.specs.Store.{has_failed}
-use Rattle.store_tests.proofs.DiskLemmas.{still_good, files_stay}
+use Rattle.uci_store.proofs.DiskLemmas.{still_good, files_stay}
 use Rattle.store_tests.proofs.calls.stage.Goals as goal
 
 pub returns-in-Some-clause-files : goal.returns-in-Some-clause-files

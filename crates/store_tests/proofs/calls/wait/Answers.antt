@@ -1,5 +1,5 @@
 use Rattle.uci_store.specs.Store.{has_failed}
-use Rattle.store_tests.proofs.DiskLemmas.{still_good, staged_stay}
+use Rattle.uci_store.proofs.DiskLemmas.{still_good, staged_stay}
 use Rattle.store_tests.proofs.calls.wait.Goals as goal
 
 pub returns-in-Confirm-clause-staged : goal.returns-in-Confirm-clause-staged
