@@ -1,0 +1,12 @@
+use Rattle.step_net.proofs.EventLemmas.{ends_taken, ends_refused}
+use Rattle.step_net.proofs.take.tell.Goals as goal
+
+pub returns-in-Ok-clause-ends : goal.returns-in-Ok-clause-ends
+returns-in-Ok-clause-ends c =
+    ends_taken c.args.ended tt c.args.net.now c.tell_asks.new.net c.tell_asks.result c.in-Ok.is
+    c.tell_asks.ensures.told c.tell_asks.ensures.silent
+
+pub returns-in-Err-clause-ends : goal.returns-in-Err-clause-ends
+returns-in-Err-clause-ends c =
+    ends_refused c.args.ended c.in-Err.error c.args.net.now c.refuse_or.result c.in-Err.is
+    c.refuse_or.ensures

@@ -1,0 +1,62 @@
+-- What a settling and an answer left outside.
+use Rattle.std.specs.Prelude.{ℕ, ◌≡◌, ◌≤◌, List, ◌++◌, Bool, map, Option, Result, Ok, Err, is_some}
+use Rattle.plane_words.specs.Causes.{Rose, RoseBy}
+use Rattle.plane_words.specs.Growth.{Grows, GrowsByFront}
+use Rattle.kern_model.specs.declared.object.Call.{Call}
+use Rattle.kern_model.specs.Kernel.{Records}
+use Rattle.kern_model.specs.CallOrder.{after_calls}
+use Rattle.net_rules.specs.Moment.{Moment}
+use Rattle.net_settle.specs.Outside.{Outside}
+use Rattle.net_settle.specs.Settle.{lines_of, done_call}
+use Rattle.step_net.specs.Effects.{Leaves, LeavesInPart}
+use Rattle.step_net.specs.Moved.{Telling, due, made, is_stopped, asked_in, settled, finished, once_if}
+
+-- a settling and an answer came to their end, with some luck
+pub record IsFinished (net now : Moment) (telling : Telling) (before after : Outside) (is_ok : Bool)
+    : Type 0 where
+  pub failed_behind : Option ℕ
+  pub next : now ≡ (finished net telling failed_behind).net
+  pub answer : is_ok ≡ (finished net telling failed_behind).is_ok
+  pub left : Leaves (finished net telling failed_behind).effects (once_if (is_some failed_behind))
+      before after
+
+-- they were cut short by the output, with some luck
+pub record IsCutShort (net : Moment) (telling : Telling) (before after : Outside) : Type 0 where
+  pub failed_behind : Option ℕ
+  pub left : LeavesInPart (finished net telling failed_behind).effects
+      (once_if (is_some failed_behind)) before after
+  pub objects : after.objects ≡ after_calls before.objects left.front.calls
+  pub cause : Rose before.out_faults after.out_faults
+
+abbrev pub Finishes : {E : Type 0} → Moment → Moment → Telling → Outside → Outside → Result Bool E
+    → Type 0
+Finishes net now telling before after (Ok is_ok) = IsFinished net now telling before after is_ok
+Finishes net now telling before after (Err failed) = IsCutShort net telling before after
+
+-- a settling came to its end, or to a call that failed, with some luck
+pub record IsSettled (net now : Moment) (before after : Outside) (stopped : Bool) : Type 0 where
+  pub failed_behind : Option ℕ
+  pub stops : stopped ≡ is_stopped (due net) failed_behind
+  pub next : now ≡ settled net (made (due net) failed_behind)
+  pub asked : Records before.asked after.asked (asked_in (due net) failed_behind)
+  pub logged : Grows before.calls after.calls (made (due net) failed_behind)
+  pub objects : after.objects ≡ after_calls before.objects (made (due net) failed_behind)
+  pub written : Grows before.out after.out (lines_of (made (due net) failed_behind))
+  pub cause : RoseBy (once_if (is_some failed_behind)) before.kernel_faults after.kernel_faults
+  pub later : before.out_faults ≤ after.out_faults
+
+-- it was cut short by the output
+pub record IsSettledInPart (net : Moment) (before after : Outside) : Type 0 where
+  pub calls : List Call
+  pub not_made : List Call
+  pub parts : due net ≡ calls ++ not_made
+  pub asked : Records before.asked after.asked (map done_call calls)
+  pub logged : Grows before.calls after.calls calls
+  pub objects : after.objects ≡ after_calls before.objects calls
+  pub written : GrowsByFront before.out after.out (lines_of (due net))
+  pub later : before.kernel_faults ≤ after.kernel_faults
+  pub cause : Rose before.out_faults after.out_faults
+
+abbrev pub Settles : {E : Type 0} → Moment → Moment → Outside → Outside → Result Bool E → Type 0
+Settles net now before after (Ok stopped) = IsSettled net now before after stopped
+Settles net now before after (Err failed) = IsSettledInPart net before after

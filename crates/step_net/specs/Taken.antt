@@ -1,0 +1,88 @@
+-- What the code made of a line before its settling.
+use Rattle.std.specs.Prelude.{ℕ, ◌≡◌, ◌⊎◌, List, [], Bool, false, ⊤, Option, Some, None, Result, Ok, Err}
+use Rattle.plane_words.specs.Causes.{RoseBy}
+use Rattle.kern_model.specs.declared.kernel.Asked.{Asked}
+use Rattle.kern_model.specs.declared.kernel.Kernel.{Ghosts as KernelMembers}
+use Rattle.kern_model.specs.Kernel.{Records}
+use Rattle.net_plane.specs.declared.net_error.NetError.{NetError}
+use Rattle.net_plane.specs.Network.{Network, moment_of}
+use Rattle.line_texts.specs.declared.line_error.LineError.{LineError}
+use Rattle.step_net.specs.declared.told.Told.{Told}
+use Rattle.step_net.specs.NetLine.{NetLine}
+use Rattle.step_net.specs.Acted.{Acted, acted, lines_of_asks}
+use Rattle.step_net.specs.Moved.{Telling, telling_of, once_if}
+use Rattle.step_net.specs.Told.{shown, refused, line_error}
+
+abbrev pub telling_in : Told → Telling
+telling_in told = record { shown = told.shown; refusal = told.refusal }
+
+-- the line was acted on, and what is to be told of it is kept; nothing else is left to be told
+pub record IsActed (done : Acted) (now : Network) (told : Told) : Type 0 where
+  pub net : moment_of now ≡ done.net
+  pub telling : telling_in told ≡ telling_of done
+  pub silent : now.notices ≡ []
+
+-- there was no memory, before anything was done or for what is to be told
+abbrev pub IsHalted : Acted → Network → Network → Type 0
+IsHalted done before now = (now ≡ before) ⊎ (moment_of now ≡ done.net)
+
+-- a line at which the kernel cannot fail
+abbrev pub Takes : {M : Type 0} → NetLine → Network → Network → Result Told M → Type 0
+Takes line before now (Ok told) = IsActed (acted (moment_of before) line false) now told
+Takes line before now (Err lacks) = IsHalted (acted (moment_of before) line false) before now
+
+-- what the kernel was asked before and after, and its counts of faults
+pub record Telled : Type 0 where
+  pub asked : Option (List Asked)
+  pub asked_now : Option (List Asked)
+  pub faults : ℕ
+  pub faults_now : ℕ
+
+-- the kernel was asked this, and the count rose where it failed
+pub record Asks (what : List Asked) (failed : Bool) (kernel : Telled) : Type 0 where
+  pub asked : Records kernel.asked kernel.asked_now what
+  pub cause : RoseBy (once_if failed) kernel.faults kernel.faults_now
+
+-- a line at which the kernel may have failed
+pub record IsTaken (line : NetLine) (before now : Network) (kernel : Telled) (told : Told)
+    : Type 0 where
+  pub failed : Bool
+  pub is : IsActed (acted (moment_of before) line failed) now told
+  pub asks : Asks (acted (moment_of before) line failed).asked failed kernel
+
+pub data IsLeft (line : NetLine) (before now : Network) (kernel : Telled) : Type 0 where
+  in_front : now ≡ before → Asks [] false kernel → IsLeft line before now kernel
+  behind : (failed : Bool) → moment_of now ≡ (acted (moment_of before) line failed).net
+      → Asks (acted (moment_of before) line failed).asked failed kernel
+      → IsLeft line before now kernel
+
+abbrev pub Tries : {M : Type 0} → NetLine → Network → Network → Telled → Result Told M → Type 0
+Tries line before now kernel (Ok told) = IsTaken line before now kernel told
+Tries line before now kernel (Err lacks) = IsLeft line before now kernel
+
+abbrev pub telled_of : {K : Type 0} → KernelMembers K → K → K → Telled
+telled_of kernel before after = record {
+  asked = kernel.asked before;
+  asked_now = kernel.asked after;
+  faults = kernel.faults before;
+  faults_now = kernel.faults after;
+}
+
+-- the error is told
+abbrev pub Tells : Option LineError → Told → Type 0
+Tells None told = ⊥
+Tells (Some e) told = telling_in told ≡ refused e
+
+-- How an event ended is told. Where it was taken, all that is to be told of asks is handed out. Where
+-- it was refused, its error is told, and nothing changes. Either may want memory.
+abbrev pub Ends : {X M : Type 0} → Result X NetError → Network → Network → Result Told M → Type 0
+Ends (Ok taken) before now (Ok told) =
+    (telling_in told ≡ shown (lines_of_asks before.inputs.conf before.notices)) × (now.notices ≡ [])
+Ends (Err e) before now (Ok told) = Tells (line_error e) told × (now ≡ before)
+Ends (Ok taken) before now (Err lacks) = ⊤
+Ends (Err e) before now (Err lacks) = now ≡ before
+
+-- a line that shows something and changes nothing
+abbrev pub Shows : {M : Type 0} → NetLine → Network → Result Told M → Type 0
+Shows line now (Ok told) = telling_in told ≡ telling_of (acted (moment_of now) line false)
+Shows line now (Err lacks) = ⊤
