@@ -119,6 +119,7 @@ module _ (old new : Network) (before after : Outside) (held : before.objects ≡
           grows = s.printed;
         };
         later = kernel_later;
+        out_later = out_later;
         cause = s.cause;
       }
 
@@ -154,10 +155,11 @@ module _ (net now : Moment) (telling : Telling) (before mid after : Outside) (st
   last_is = ap (last_line telling.refusal) s.stops
 
   pub answered : (between : Option (List ℕ)) → Grows mid.out between telling.shown
-      → Grows between after.out (last_line telling.refusal stopped) → (is_ok : Bool)
+      → Grows between after.out (last_line telling.refusal stopped)
+      → mid.out_faults ≤ after.out_faults → (is_ok : Bool)
       → is_ok ≡ is_fine telling.refusal stopped
       → IsFinished net now telling before after is_ok
-  answered between shown line is_ok fine = record {
+  answered between shown line later is_ok fine = record {
     failed_behind = s.failed_behind;
     next = s.next;
     answer = fine ∙ ap (is_fine telling.refusal) s.stops;
@@ -168,12 +170,13 @@ module _ (net now : Moment) (telling : Telling) (before mid after : Outside) (st
           (grows_more mid.out between after.out telling.shown last shown
           (subst (Grows between after.out) last_is line));
       cause = let c = s.cause in omega arith;
+      later = let l = s.later in omega arith;
     };
   }
 
   cut_at : GrowsByFront mid.out after.out (telling.shown ++ last) → Rose before.out_faults after.out_faults
-      → IsCutShort net telling before after
-  cut_at written rose =
+      → before.out_faults ≤ after.out_faults → IsCutShort net telling before after
+  cut_at written rose later =
       let text = grows_to_front before.out mid.out after.out (lines_of done) (telling.shown ++ last) s.written written in
       record {
         failed_behind = s.failed_behind;
@@ -190,6 +193,7 @@ module _ (net now : Moment) (telling : Telling) (before mid after : Outside) (st
             logged = subst (λ x. Grows before.calls x done) (sym calls) s.logged;
             written = text.grows;
             cause = let c = s.cause in omega arith;
+            later = later;
           };
         };
         objects = objects ∙ s.objects;
@@ -197,15 +201,17 @@ module _ (net now : Moment) (telling : Telling) (before mid after : Outside) (st
       }
 
   pub cut_at_shown : GrowsByFront mid.out after.out telling.shown → Rose before.out_faults after.out_faults
-      → IsCutShort net telling before after
-  cut_at_shown written rose = cut_at (front_of_more mid.out after.out telling.shown last written) rose
+      → before.out_faults ≤ after.out_faults → IsCutShort net telling before after
+  cut_at_shown written rose later =
+      cut_at (front_of_more mid.out after.out telling.shown last written) rose later
 
   pub cut_at_last : (between : Option (List ℕ)) → Grows mid.out between telling.shown
       → GrowsByFront between after.out (last_line telling.refusal stopped)
-      → Rose before.out_faults after.out_faults → IsCutShort net telling before after
-  cut_at_last between shown written rose =
+      → Rose before.out_faults after.out_faults → before.out_faults ≤ after.out_faults
+      → IsCutShort net telling before after
+  cut_at_last between shown written rose later =
       cut_at (grows_to_front mid.out between after.out telling.shown last shown
-      (subst (GrowsByFront between after.out) last_is written)) rose
+      (subst (GrowsByFront between after.out) last_is written)) rose later
 
 map_append : (xs ys : List Call) → map done_call (xs ++ ys) ≡ map done_call xs ++ map done_call ys
 map_append [] ys = refl
@@ -230,6 +236,7 @@ cut_in_settling net telling before after s =
           logged = s.logged;
           written = text.grows;
           cause = let later = s.later in omega arith;
+          later = s.out_later;
         };
       };
       objects = s.objects;

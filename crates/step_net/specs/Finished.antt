@@ -55,6 +55,7 @@ pub record IsSettledInPart (net : Moment) (before after : Outside) : Type 0 wher
   pub objects : after.objects ≡ after_calls before.objects calls
   pub written : GrowsByFront before.out after.out (lines_of (due net))
   pub later : before.kernel_faults ≤ after.kernel_faults
+  pub out_later : before.out_faults ≤ after.out_faults
   pub cause : Rose before.out_faults after.out_faults
 
 abbrev pub Settles : {E : Type 0} → Moment → Moment → Outside → Outside → Result Bool E → Type 0

@@ -19,10 +19,11 @@ returns-in_default-tell-clause-finishes g c =
     let after = outside_of g.O.Sink g.K.Kernel c.tell.new.out c.settle.new.kernel in
     let later = c.in-Ok.ensures.settles.later in
     let rose = c.in_default-tell.ensures.cause.failed in
+    let later_too = c.tell.ensures.cause.later in
     cut_at_shown (moment_of c.args.net.now) (moment_of c.settle.new.net) (telling_in c.args.told.now)
     before mid after c.in-Ok.stopped c.in-Ok.ensures.settles refl refl refl refl
     (subst (GrowsByFront mid.out after.out) c.as_bytes.ensures c.in_default-tell.ensures.in_part)
-    (omega arith)
+    (omega arith) (omega arith)
 
 pub returns-in_default-tell-2-clause-finishes : goal.returns-in_default-tell-2-clause-finishes
 returns-in_default-tell-2-clause-finishes g c =
@@ -33,11 +34,12 @@ returns-in_default-tell-2-clause-finishes g c =
     let later = c.in-Ok.ensures.settles.later in
     let later_too = c.tell.ensures.cause.later in
     let rose = c.in_default-tell-2.ensures.cause.failed in
+    let last_later = c.tell-2.ensures.cause.later in
     cut_at_last (moment_of c.args.net.now) (moment_of c.settle.new.net) (telling_in c.args.told.now)
     before mid after c.in-Ok.stopped c.in-Ok.ensures.settles refl refl refl refl between
     (subst (Grows mid.out between) c.as_bytes.ensures c.in-Ok-tell.ensures.written)
     (subst (GrowsByFront between after.out) c.last_line.ensures c.in_default-tell-2.ensures.in_part)
-    (omega arith)
+    (omega arith) (omega arith)
 
 pub returns-clause-finishes : goal.returns-clause-finishes
 returns-clause-finishes g c =
@@ -45,8 +47,10 @@ returns-clause-finishes g c =
     let mid = outside_of g.O.Sink g.K.Kernel c.settle.new.out c.settle.new.kernel in
     let between = g.O.Sink.held c.tell.new.out in
     let after = outside_of g.O.Sink g.K.Kernel c.tell-2.new.out c.settle.new.kernel in
+    let later = c.tell.ensures.cause.later in
+    let last_later = c.tell-2.ensures.cause.later in
     answered (moment_of c.args.net.now) (moment_of c.settle.new.net) (telling_in c.args.told.now)
     before mid after c.in-Ok.stopped c.in-Ok.ensures.settles refl refl refl refl between
     (subst (Grows mid.out between) c.as_bytes.ensures c.in-Ok-tell.ensures.written)
     (subst (Grows between after.out) c.last_line.ensures c.in-Ok-tell-2.ensures.written)
-    c.is_fine.result c.is_fine.ensures
+    (omega arith) c.is_fine.result c.is_fine.ensures
