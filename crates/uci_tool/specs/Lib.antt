@@ -1,0 +1,34 @@
+-- OpenWrt's `uci` command, as a function of its words, a folder and the input.
+
+-- what a command sees and changes
+pub mod Folder
+-- texts as packages, lines and commands
+pub mod Reading
+-- texts as paths, computed
+pub mod Paths
+-- what is seen of a package
+pub mod Seen
+-- `show`, `get`, `changes` and `export`
+pub mod Texts
+-- `set`, `add_list`, `del_list`, `delete`, `rename`, `reorder`, `add` and `revert`
+pub mod Staging
+-- `commit`
+pub mod Commit
+-- commands of a text behind the sections of a package
+pub mod Merging
+-- `import`
+pub mod Import
+-- a command that reads no input, and the lines of `batch`
+pub mod Line
+-- the whole command
+pub mod Done
+-- the folders that a command passes through
+pub mod Passes
+-- what the functions of the crate answer
+pub mod Answers
+-- what cuts a run short
+pub mod Cut
+-- how a run ends, and what it leaves
+pub mod Ends
+-- how the parts of a run answer
+pub mod Runs
