@@ -43,7 +43,8 @@ pub fn commit_each<D: Disk, T: Disk>(
     staged: &mut T,
 ) -> Result<Option<Refusal>, Stop>
     requires { IsOpen store.old (D.view files.old) (T.view staged.old) }
-    ensures carries { Carries result (λ refusal. spec.commit_each (folder_of store.old) (names_of store.old)
+    ensures carries { Carries result
+        (λ refusal. spec.commit_each (folder_of store.old) (names_of store.old)
         ≡ record { refusal = refusal; after = folder_of store.new })
         (folder_of store.new) (commit_passes (folder_of store.old) (names_of store.old)) }
     ensures writes { Writes result store.old store.new

@@ -32,7 +32,8 @@ pub fn carry_out<D: Disk, T: Disk>(
     command: &Command,
 ) -> Result<Report, Stop>
     requires { IsOpen store.old (D.view files.old) (T.view staged.old) }
-    ensures carries { Carries result (λ report. spec.command_done options.now (folder_of store.old) command.now
+    ensures carries { Carries result
+        (λ report. spec.command_done options.now (folder_of store.old) command.now
         ≡ carried_as report (folder_of store.new)) (folder_of store.new)
         (passes.command_passes options.now (folder_of store.old) command.now) }
     ensures writes { Writes result store.old store.new
@@ -145,7 +146,8 @@ fn commit<D: Disk, T: Disk>(
     name: &Option<Text>,
 ) -> Result<Report, Stop>
     requires { IsOpen store.old (D.view files.old) (T.view staged.old) }
-    ensures carries { Carries result (λ report. spec.of_changed (commit_done (folder_of store.old) name.now)
+    ensures carries { Carries result
+        (λ report. spec.of_changed (commit_done (folder_of store.old) name.now)
         ≡ carried_as report (folder_of store.new)) (folder_of store.new)
         (passes.of_commit (folder_of store.old) name.now) }
     ensures writes { Writes result store.old store.new
@@ -181,7 +183,8 @@ pub fn carry_lines<D: Disk, T: Disk>(
     lines: &[Line],
 ) -> Result<Report, Stop>
     requires { IsOpen store.old (D.view files.old) (T.view staged.old) }
-    ensures carries { Carries result (λ report. spec.lines_done options.now (folder_of store.old) lines.now
+    ensures carries { Carries result
+        (λ report. spec.lines_done options.now (folder_of store.old) lines.now
         ≡ carried_as report (folder_of store.new)) (folder_of store.new)
         (passes.lines_passes options.now (folder_of store.old) lines.now) }
     ensures writes { Writes result store.old store.new
@@ -235,7 +238,8 @@ fn carry_line<D: Disk, T: Disk>(
     line: &Line,
 ) -> Result<Report, Stop>
     requires { IsOpen store.old (D.view files.old) (T.view staged.old) }
-    ensures carries { Carries result (λ report. spec.line_done options.now (folder_of store.old) line.now.words
+    ensures carries { Carries result
+        (λ report. spec.line_done options.now (folder_of store.old) line.now.words
         ≡ carried_as report (folder_of store.new)) (folder_of store.new)
         (passes.line_passes options.now (folder_of store.old) line.now.words) }
     ensures writes { Writes result store.old store.new

@@ -150,8 +150,8 @@ impl Merge {
         ensures done { OnOk result
             (fold.with_options (spec.draft_of self.old) line (fold.with_option name value)
             ≡ Ok (spec.draft_of self.new)) }
-        ensures refused { IfErr result
-            (IsLack (fold.with_options (spec.draft_of self.old) line (fold.with_option name value))) }
+        ensures refused { IfErr result (IsLack
+            (fold.with_options (spec.draft_of self.old) line (fold.with_option name value))) }
     {
         let Some(place) = self.current else {
             return Err(TreeError::NoSection { line });

@@ -125,7 +125,8 @@ fn run<D: Disk, T: Disk, S: Source>(
     command: &Command,
 ) -> Result<Report, Cut>
     requires { IsOpen store.old (D.view files.old) (T.view staged.old) }
-    ensures runs { runs.Runs result options.now command.now (folder_of store.old) (folder_of store.new)
+    ensures runs { runs.Runs result options.now command.now
+        (folder_of store.old) (folder_of store.new)
         (source_of S.Source input.old input.new) }
     ensures leaves { runs.Leaves result store.new
         (D.view files.old) (D.view files.new) (T.view staged.old) (T.view staged.new) }
@@ -173,7 +174,8 @@ fn run_on<D: Disk, T: Disk>(
 ) -> Result<Report, Cut>
     requires open { IsOpen store.old (D.view files.old) (T.view staged.old) }
     requires within { length text.now ≤ MOST }
-    ensures runs { runs.RunsOn result options.now command.now (folder_of store.old) (folder_of store.new) text.now }
+    ensures runs { runs.RunsOn result options.now command.now
+        (folder_of store.old) (folder_of store.new) text.now }
     ensures leaves { runs.Leaves result store.new
         (D.view files.old) (D.view files.new) (T.view staged.old) (T.view staged.new) }
 {
@@ -196,7 +198,8 @@ fn carry<D: Disk, T: Disk>(
 ) -> Result<Report, Stop>
     requires open { IsOpen store.old (D.view files.old) (T.view staged.old) }
     requires within { length text.now ≤ MOST }
-    ensures carries { Carries result (λ report. carried options.now (folder_of store.old) command.now text.now
+    ensures carries { Carries result
+        (λ report. carried options.now (folder_of store.old) command.now text.now
         ≡ carried_as report (folder_of store.new)) (folder_of store.new)
         (passes options.now (folder_of store.old) command.now text.now) }
     ensures writes { Writes result store.old store.new
@@ -222,7 +225,8 @@ fn batch<D: Disk, T: Disk>(
 ) -> Result<Report, Stop>
     requires open { IsOpen store.old (D.view files.old) (T.view staged.old) }
     requires within { length input.now ≤ MOST }
-    ensures carries { Carries result (λ report. batch_of options.now (folder_of store.old) (lines_in input.now)
+    ensures carries { Carries result
+        (λ report. batch_of options.now (folder_of store.old) (lines_in input.now)
         ≡ carried_as report (folder_of store.new)) (folder_of store.new)
         (batch_passes options.now (folder_of store.old) (lines_in input.now)) }
     ensures writes { Writes result store.old store.new
@@ -257,7 +261,8 @@ fn end_with<O: Sink, E: Sink>(quiet: bool, report: &Report, out: &mut O, err: &m
 
 fn end_short<E: Sink>(quiet: bool, cut: Cut, err: &mut E) -> UciEnd
     ensures end { result ≡ end_of (spec.cut_status cut) 0 }
-    ensures told { IsTold (runs.told_unless quiet (spec.cut_text cut)) (sink_of E.Sink err.old err.new) }
+    ensures told { IsTold (runs.told_unless quiet (spec.cut_text cut))
+        (sink_of E.Sink err.old err.new) }
 {
     tell(quiet, cut.text(), err);
     UciEnd {
