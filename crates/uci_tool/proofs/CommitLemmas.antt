@@ -125,11 +125,11 @@ commit_stopped old new name (store_error.NotHolder holder) kept h = absurd h
 commit_stopped old new name store_error.NothingStaged kept h = absurd h
 
 -- a refusal that is no failure of a disk leaves the folder
-pub left_files : (old new : Store) (Leads : State → Type 0) (error : StoreError) → (error ≡ store_error.Snap snap_error.DiskFailed → ⊥) → IsLeft old new Leads error → files_of new ≡ files_of old
-left_files old new Leads error no' h = go h.files
+pub left_files : (old new : Store) (Leads : State → Type 0) (Untouched : Type 0) (error : StoreError) → (error ≡ store_error.Snap snap_error.DiskFailed → ⊥) → IsLeft old new Leads Untouched error → files_of new ≡ files_of old
+left_files old new Leads Untouched error no' h = go h.files
   where
-    go : (files_of new ≡ files_of old) ⊎ ((error ≡ store_error.Snap snap_error.DiskFailed) × Leads (files_of new)) → files_of new ≡ files_of old
-    go (inl e) = e
+    go : ((files_of new ≡ files_of old) × Untouched) ⊎ ((error ≡ store_error.Snap snap_error.DiskFailed) × Leads (files_of new)) → files_of new ≡ files_of old
+    go (inl e) = e.0
     go (inr e) = absurd (no' e.0)
 
 pub disk_failed : (error : StoreError) (old new : Folder) (expected : Result Folder Refusal) → error ≡ store_error.Snap snap_error.DiskFailed → Changes {X = Unit {0}} (Err (stop_of error)) old new expected
@@ -151,12 +151,12 @@ is_disk (store_error.NotHolder holder) = inr (λ e. cc)
 is_disk store_error.NothingStaged = inr (λ e. cc)
 is_disk store_error.Memory = inr (λ e. cc)
 
-pub commit_refused : (old new : Store) (name : List ℕ) (error : StoreError) (a b c d : View) → names_of new ≡ names_of old → IsLeft old new (CommitsTo old 0 name) error → CommitRefuses old 0 name a b c d error → Changes {X = Unit {0}} (Err (stop_of error)) (folder_of old) (folder_of new) (commit_package (folder_of old) name)
-commit_refused old new name error a b c d names left h = go (is_disk error) h
+pub commit_refused : (old new : Store) (name : List ℕ) (Untouched : Type 0) (error : StoreError) (a b c d : View) → names_of new ≡ names_of old → IsLeft old new (CommitsTo old 0 name) Untouched error → CommitRefuses old 0 name a b c d error → Changes {X = Unit {0}} (Err (stop_of error)) (folder_of old) (folder_of new) (commit_package (folder_of old) name)
+commit_refused old new name Untouched error a b c d names left h = go (is_disk error) h
   where
     go : (error ≡ store_error.Snap snap_error.DiskFailed) ⊎ (error ≢ store_error.Snap snap_error.DiskFailed) → CommitRefuses old 0 name a b c d error → Changes {X = Unit {0}} (Err (stop_of error)) (folder_of old) (folder_of new) (commit_package (folder_of old) name)
     go (inl e) r = disk_failed error (folder_of old) (folder_of new) (commit_package (folder_of old) name) e
-    go (inr no') (inl r) = commit_stopped old new name error (same_all old new (files_of old) (staged_in old) names (left_files old new (CommitsTo old 0 name) error no' left) left.staged) r
+    go (inr no') (inl r) = commit_stopped old new name error (same_all old new (files_of old) (staged_in old) names (left_files old new (CommitsTo old 0 name) Untouched error no' left) left.staged) r
     go (inr no') (inr r) = absurd (no' r.0)
 
 -- ---- each package

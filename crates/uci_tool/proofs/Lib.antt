@@ -14,3 +14,4 @@ pub mod JoinLemmas
 pub mod MergeLemmas
 pub mod ImportLemmas
 pub mod CarryLemmas
+pub mod SilentLemmas

@@ -142,7 +142,7 @@ stage_is_open old delta store_error.NoPackage before after ready h = other (λ e
 stage_is_open old delta (store_error.Parse error) before after ready h = other (fault_is_no_disk (fault_of error))
 stage_is_open old delta (store_error.Delta error) before after ready h = other (delta_is_no_disk error)
 stage_is_open old delta store_error.Memory before after ready h = other (λ e. cc)
-stage_is_open old delta (store_error.Snap snap_error.DiskFailed) before after ready h = failed refl h.2
+stage_is_open old delta (store_error.Snap snap_error.DiskFailed) before after ready h = failed refl h.3
 stage_is_open old delta (store_error.Snap snap_error.Reopen) before after ready h = absurd (never_both (has_failed old) ready h)
 stage_is_open old delta (store_error.Snap (snap_error.Waiting deadline)) before after ready h = absurd h
 stage_is_open old delta (store_error.Snap snap_error.NothingWaits) before after ready h = absurd h
@@ -156,7 +156,7 @@ stage_is_open old delta store_error.NothingStaged before after ready h = absurd 
 pub revert_is_open : (old : Store) (name : List ℕ) (error : StoreError) (before after : View) → has_failed old ≡ false → RevertRefuses old 0 name before after error → IsOpenRefusal (Rose before.faults after.faults) error
 revert_is_open old name store_error.NoPackage before after ready h = other (λ e. cc)
 revert_is_open old name store_error.Memory before after ready h = other (λ e. cc)
-revert_is_open old name (store_error.Snap snap_error.DiskFailed) before after ready h = failed refl h.2
+revert_is_open old name (store_error.Snap snap_error.DiskFailed) before after ready h = failed refl h.3
 revert_is_open old name (store_error.Snap snap_error.Reopen) before after ready h = absurd (never_both (has_failed old) ready h)
 revert_is_open old name (store_error.Snap (snap_error.Waiting deadline)) before after ready h = absurd h
 revert_is_open old name (store_error.Snap snap_error.NothingWaits) before after ready h = absurd h

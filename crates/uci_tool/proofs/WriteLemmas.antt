@@ -182,10 +182,10 @@ replace_stopped old new tree (store_error.Delta error) kept h = absurd h
 replace_stopped old new tree (store_error.NotHolder holder) kept h = absurd h
 replace_stopped old new tree store_error.NothingStaged kept h = absurd h
 
-pub replace_refused : (old new : Store) (tree : Package) (error : StoreError) (a b c d : View) → names_of new ≡ names_of old → IsLeft old new (ReplacesTo old tree) error → ReplaceRefuses old 0 tree a b c d error → Changes {X = Unit {0}} (Err (stop_of error)) (folder_of old) (folder_of new) (replaced (folder_of old) tree)
-replace_refused old new tree error a b c d names left h = go (is_disk error) h
+pub replace_refused : (old new : Store) (tree : Package) (Untouched : Type 0) (error : StoreError) (a b c d : View) → names_of new ≡ names_of old → IsLeft old new (ReplacesTo old tree) Untouched error → ReplaceRefuses old 0 tree a b c d error → Changes {X = Unit {0}} (Err (stop_of error)) (folder_of old) (folder_of new) (replaced (folder_of old) tree)
+replace_refused old new tree Untouched error a b c d names left h = go (is_disk error) h
   where
     go : (error ≡ store_error.Snap snap_error.DiskFailed) ⊎ (error ≢ store_error.Snap snap_error.DiskFailed) → ReplaceRefuses old 0 tree a b c d error → Changes {X = Unit {0}} (Err (stop_of error)) (folder_of old) (folder_of new) (replaced (folder_of old) tree)
     go (inl e) r = disk_failed error (folder_of old) (folder_of new) (replaced (folder_of old) tree) e
-    go (inr no') (inl r) = replace_stopped old new tree error (same_all old new (files_of old) (staged_in old) names (left_files old new (ReplacesTo old tree) error no' left) left.staged) r
+    go (inr no') (inl r) = replace_stopped old new tree error (same_all old new (files_of old) (staged_in old) names (left_files old new (ReplacesTo old tree) Untouched error no' left) left.staged) r
     go (inr no') (inr r) = absurd (no' r.0)

@@ -95,7 +95,8 @@ pub fn uci<D: Disk, T: Disk, S: Source, O: Sink, E: Sink>(
     ensures same { SameDisk (D.view files.old) (D.view files.new) }
     ensures follows { Follows (T.view staged.old) (T.view staged.new) }
 
-    // A command that reads no input leaves it alone.
+    // With 0 nothing was written to the error output. A command that reads no input leaves it alone.
+    ensures silent { result.status ≡ 0 → err.new ≡ err.old }
     ensures unread { reads words.now ≡ false → input.new ≡ input.old }
 {
     let Ok(asked) = read_words(alloc, words) else {
@@ -242,6 +243,8 @@ fn batch<D: Disk, T: Disk>(
 fn end_with<O: Sink, E: Sink>(quiet: bool, report: &Report, out: &mut O, err: &mut E) -> UciEnd
     ensures ends { runs.EndsWith quiet report.now (sink_of O.Sink out.old out.new)
         (sink_of E.Sink err.old err.new) result }
+    ensures silent { result.status ≡ 0 → runs.told_unless quiet report.now.told ≡ []
+        → err.new ≡ err.old }
 {
     let Ok(()) = out.write(report.output.as_bytes()) else {
         return end_short(quiet, Cut::WriteFailed, err);

@@ -12,7 +12,7 @@ returns-in-Ok-clause-changes g c = committed_is c.args.store.now c.commit.new.se
 
 pub returns-in-Err-clause-changes : goal.returns-in-Err-clause-changes
 returns-in-Err-clause-changes g c = subst (λ (z : Stop). Changes {X = Unit {0}} (Err z) (folder_of c.args.store.now) (folder_of c.commit.new.self) (commit_package (folder_of c.args.store.now) c.args.name.now)) (sym c.stop_of.ensures)
-    (commit_refused c.args.store.now c.commit.new.self c.args.name.now c.in-Err.error (g.D.Disk.view c.args.files.now) (g.D.Disk.view c.commit.new.files) (g.T.Disk.view c.args.staged.now) (g.T.Disk.view c.commit.new.staged) c.in-Err.ensures.names c.in-Err.ensures.left c.in-Err.ensures.refused)
+    (commit_refused c.args.store.now c.commit.new.self c.args.name.now _ c.in-Err.error (g.D.Disk.view c.args.files.now) (g.D.Disk.view c.commit.new.files) (g.T.Disk.view c.args.staged.now) (g.T.Disk.view c.commit.new.staged) c.in-Err.ensures.names c.in-Err.ensures.left c.in-Err.ensures.refused)
 
 pub returns-in-Ok-clause-writes : goal.returns-in-Ok-clause-writes
 returns-in-Ok-clause-writes g c = writes_done _ c.args.store.now c.commit.new.self (g.D.Disk.view c.args.files.now) (g.D.Disk.view c.commit.new.files) (g.T.Disk.view c.args.staged.now) (g.T.Disk.view c.commit.new.staged) c.requires.ready

@@ -11,7 +11,7 @@ returns-in-Ok-clause-changes g c = replaced_is c.args.store.now c.replace.new.se
 
 pub returns-in-Err-clause-changes : goal.returns-in-Err-clause-changes
 returns-in-Err-clause-changes g c = subst (λ (z : Stop). Changes {X = Unit {0}} (Err z) (folder_of c.args.store.now) (folder_of c.replace.new.self) (replaced (folder_of c.args.store.now) c.args.tree.now)) (sym c.stop_of.ensures)
-    (replace_refused c.args.store.now c.replace.new.self c.args.tree.now c.in-Err.error (g.D.Disk.view c.args.files.now) (g.D.Disk.view c.replace.new.files) (g.T.Disk.view c.args.staged.now) (g.T.Disk.view c.replace.new.staged) c.in-Err.ensures.names c.in-Err.ensures.left c.in-Err.ensures.refused)
+    (replace_refused c.args.store.now c.replace.new.self c.args.tree.now _ c.in-Err.error (g.D.Disk.view c.args.files.now) (g.D.Disk.view c.replace.new.files) (g.T.Disk.view c.args.staged.now) (g.T.Disk.view c.replace.new.staged) c.in-Err.ensures.names c.in-Err.ensures.left c.in-Err.ensures.refused)
 
 pub returns-in-Ok-clause-writes : goal.returns-in-Ok-clause-writes
 returns-in-Ok-clause-writes g c = writes_done _ c.args.store.now c.replace.new.self (g.D.Disk.view c.args.files.now) (g.D.Disk.view c.replace.new.files) (g.T.Disk.view c.args.staged.now) (g.T.Disk.view c.replace.new.staged) c.requires.ready

@@ -4,6 +4,7 @@ use Rattle.uci_tool.specs.Ends.{streams_of}
 use Rattle.uci_tool.specs.Folder.{folder_of}
 use Rattle.uci_store.specs.Store.{has_failed}
 use Rattle.uci_tool.proofs.RunLemmas.{usage_ends, carried_ends, cut_ends, ready_by}
+use Rattle.uci_tool.proofs.SilentLemmas.{silent_end}
 use Rattle.uci_tool.proofs.tool.uci.Goals as goal
 
 pub returns-in_default-command-clause-ended : goal.returns-in_default-command-clause-ended
@@ -25,3 +26,8 @@ returns-clause-ended g c =
 
 pub returns-clause-ready : goal.returns-clause-ready
 returns-clause-ready g c = ready_by c.in-Err.cut c.end_short-in-Err.result.status (has_failed c.run.new.store) (ap (λ (z : UciEnd). z.status) c.end_short-in-Err.ensures.end) c.in-Err.ensures.leaves.closes
+
+pub returns-in-Ok-run-clause-silent : goal.returns-in-Ok-run-clause-silent
+returns-in-Ok-run-clause-silent g c zero =
+    c.end_with.ensures.silent zero
+    (silent_end c.in-Ok.asked.options.quiet c.in-Ok.asked.options c.in-Some.command (folder_of c.args.store.now) (folder_of c.run.new.store) _ _ _ c.in-Ok-run.report c.end_with.result c.in-Ok-run.ensures.runs c.end_with.ensures.ends zero)
