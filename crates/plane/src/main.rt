@@ -1,9 +1,12 @@
 //! `plane`: carries a command out over the real devices of the process and a kernel that is a model.
 #![tactic(auto)]
 
-use kern_memory::MemKernel;
-use plane_main::{lack_memory, plane};
-use plane_real::{StdSink, StdSource};
+mod devices;
+mod folders;
+
+use devices::run;
+use plane_main::{lack_memory, places};
+use plane_real::StdSink;
 use std::io::ErrorKind;
 use std::process::ExitCode;
 use std::rt::Env;
@@ -29,9 +32,9 @@ fn main(rt: HostRuntime) -> ExitCode {
         // Words that are no text are those of no command.
         Err(_) => Vec::new(alloc),
     };
-    let mut input = StdSource::new(rt.stdin());
-    let mut out = StdSink::new(rt.stdout());
-    let mut kernel = MemKernel::unlogged(alloc);
-    let status = plane(alloc, &words, &mut input, &mut out, &mut err, &mut kernel);
+    let status = match places(alloc, &words) {
+        Ok(places) => run(&rt, alloc, &words, places.as_ref(), &mut err),
+        Err(_) => lack_memory(&mut err),
+    };
     ExitCode::from(status)
 }

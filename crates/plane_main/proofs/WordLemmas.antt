@@ -1,5 +1,5 @@
 -- The words of commands.
-use Rattle.std.proofs.Common.{arith, ℕ, suc, ◌≡◌, ◌<◌, ◌≤◌, List, [], ◌∷◌, length, Bool, true, refl, ap, sym, ◌∙◌, subst, take, drop, map, slice_index_or, get_or}
+use Rattle.std.proofs.Common.{arith, ℕ, suc, ◌≡◌, ◌<◌, ◌≤◌, List, [], ◌∷◌, length, Bool, true, refl, ap, sym, ◌∙◌, subst, take, drop, map, slice_index_or, get_or, codes}
 use Rattle.std.specs.Prelude.{Contains, bytes_eq}
 use Rattle.std.proofs.lemmas.Slice.Eq.{bytes_eq-Decides}
 use Rattle.std.specs.List.{AllByRecursion}
@@ -8,7 +8,7 @@ use Rattle.kern_model.specs.VlanName.{IsPlainName}
 use Rattle.plane_main.specs.declared.page.Page.{Page}
 use Rattle.plane_main.specs.declared.page.Page.TheVariants.{Help, Version}
 use Rattle.plane_main.specs.declared.command.Command.{Command}
-use Rattle.plane_main.specs.declared.command.Command.TheVariants.{Start, Show}
+use Rattle.plane_main.specs.declared.command.Command.TheVariants.{Start, Uci, Show}
 use Rattle.plane_main.specs.Command.{AskFor, IsStart, IsCommand, IsPageCommand, page_word}
 use Rattle.plane_main.proofs.DistinctLemmas.{all_at, map_split, distinct_behind}
 
@@ -54,16 +54,34 @@ page_one words Version Version is other = refl
 page_one words Help Version is other = absurd (other_pages (sym is ∙ other))
 page_one words Version Help is other = absurd (other_pages (sym other ∙ is))
 
+-- the first word tells `uci` and `start` apart, and a page has one word alone
+uci_or_start : (words rest devices : List (List ℕ)) → words ≡ codes "uci" ∷ rest → IsStart words devices → ⊥
+uci_or_start words rest devices asked start = let spelled = start.spelled in absurd (cc (asked, spelled))
+
+uci_or_page : (words rest : List (List ℕ)) (page : Page) → words ≡ codes "uci" ∷ rest → words ≡ page_word page ∷ [] → ⊥
+uci_or_page words rest Help asked is = absurd (cc (asked, is))
+uci_or_page words rest Version asked is = absurd (cc (asked, is))
+
+uci_one : (words rest other : List (List ℕ)) → words ≡ codes "uci" ∷ rest → words ≡ codes "uci" ∷ other → other ≡ rest
+uci_one words rest other asked again = cc (asked, again)
+
 -- words ask for one command
 pub command_one : (words : List (List ℕ)) (command other : Command) → AskFor words command → AskFor words other → other ≡ command
 command_one words (Start xs) (Start ys) asked again = ap (λ devices. Start devices) (start_one words xs ys asked again)
+command_one words (Start xs) (Uci rest) asked again = absurd (uci_or_start words rest xs again asked)
 command_one words (Start xs) (Show page) asked again = absurd (not_both words xs page again asked)
+command_one words (Uci rest) (Start xs) asked again = absurd (uci_or_start words rest xs asked again)
+command_one words (Uci rest) (Uci other) asked again = ap (λ words. Uci words) (uci_one words rest other asked again)
+command_one words (Uci rest) (Show page) asked again = absurd (uci_or_page words rest page asked again)
 command_one words (Show page) (Start xs) asked again = absurd (not_both words xs page asked again)
+command_one words (Show page) (Uci rest) asked again = absurd (uci_or_page words rest page again asked)
 command_one words (Show page) (Show other) asked again = ap (λ p. Show p) (page_one words page other asked again)
 
-pub none_asked : (words : List (List ℕ)) → (IsPageCommand words → ⊥) → ((devices : List (List ℕ)) → IsStart words devices → ⊥) → IsCommand words → ⊥
-none_asked words no_page no_start (Start devices, asked) = no_start devices asked
-none_asked words no_page no_start (Show page, asked) = no_page (page, asked)
+pub none_asked : (words : List (List ℕ)) → (IsPageCommand words → ⊥) → ((rest : List (List ℕ)) → words ≡ codes "uci" ∷ rest → ⊥)
+    → ((devices : List (List ℕ)) → IsStart words devices → ⊥) → IsCommand words → ⊥
+none_asked words no_page no_uci no_start (Start devices, asked) = no_start devices asked
+none_asked words no_page no_uci no_start (Uci rest, asked) = no_uci rest asked
+none_asked words no_page no_uci no_start (Show page, asked) = no_page (page, asked)
 
 -- the words are this one
 pub one_word : {X : Type 0} (f : X → List ℕ) → (words : List X) (word : X) (text : List ℕ) → 1 ≤ length words → length words < 2 → word ≡ get_or words 0 word → f word ≡ text → map f words ≡ text ∷ []

@@ -1,12 +1,14 @@
 -- The command line. Words are texts, without the name of the program itself.
-use Rattle.std.specs.Prelude.{ℕ, ◌≡◌, ◌≤◌, List, [], ◌∷◌, length, codes, ⊤}
+use Rattle.std.specs.Prelude.{ℕ, ◌≡◌, ◌≤◌, List, [], ◌∷◌, length, codes, true, ⊤}
 use Rattle.std.specs.List.{AllByRecursion}
 use Rattle.plane_words.specs.Distinct.{AreDistinct}
 use Rattle.kern_model.specs.VlanName.{IsPlainName}
+use Rattle.uci_tool.specs.Ends.{reads}
+use Rattle.uci_run.specs.Asking.{asks}
 use Rattle.plane_main.specs.declared.page.Page.{Page}
 use Rattle.plane_main.specs.declared.page.Page.TheVariants.{Help, Version}
 use Rattle.plane_main.specs.declared.command.Command.{Command}
-use Rattle.plane_main.specs.declared.command.Command.TheVariants.{Start, Show}
+use Rattle.plane_main.specs.declared.command.Command.TheVariants.{Start, Uci, Show}
 use Rattle.plane_main.specs.declared.command.TheConstants.{MOST_DEVICES}
 
 -- the words are `start` and names of devices, at least one and not too many, each once and none of the form X.N
@@ -25,11 +27,22 @@ page_word Version = codes "--version"
 -- the words ask for this command, and for nothing else
 abbrev pub AskFor : List (List ℕ) → Command → Type 0
 AskFor words (Start devices) = IsStart words devices
+AskFor words (Uci rest) = words ≡ codes "uci" ∷ rest
 AskFor words (Show page) = words ≡ page_word page ∷ []
 
--- the words are in the table of commands
+-- the words ask for a command, perhaps with words behind it that are in no row of its own table
 abbrev pub IsCommand : List (List ℕ) → Type 0
 IsCommand words = (command : Command) × AskFor words command
+
+-- the words of `uci` are in a row of its table
+abbrev pub HasRow : Command → Type 0
+HasRow (Start devices) = ⊤
+HasRow (Uci words) = asks words ≡ true
+HasRow (Show page) = ⊤
+
+-- the words are in the table of commands
+abbrev pub IsInTable : List (List ℕ) → Type 0
+IsInTable words = (command : Command) × AskFor words command × HasRow command
 
 -- the words ask for some page
 abbrev pub IsPageCommand : List (List ℕ) → Type 0
@@ -38,12 +51,20 @@ IsPageCommand words = (page : Page) × AskFor words (Show page)
 -- the command reads the input
 abbrev pub ReadsInput : Command → Type 0
 ReadsInput (Start devices) = ⊤
+ReadsInput (Uci words) = reads words ≡ true
 ReadsInput (Show page) = ⊥
 
 -- the command calls the kernel
 abbrev pub CallsKernel : Command → Type 0
 CallsKernel (Start devices) = ⊤
+CallsKernel (Uci words) = ⊥
 CallsKernel (Show page) = ⊥
+
+-- the command opens the folders of packages and of staged changes, at the moment of the clock
+abbrev pub OpensFolders : Command → Type 0
+OpensFolders (Start devices) = ⊥
+OpensFolders (Uci words) = asks words ≡ true
+OpensFolders (Show page) = ⊥
 
 -- the words ask for no command of this kind
 abbrev pub AskForNone : (Command → Type 0) → List (List ℕ) → Type 0

@@ -21,8 +21,9 @@ status_of (ending.KernelFailed left) = 6
 status_of ending.OutOfMemory = 8
 status_of (ending.Unreadable fault) = 9
 status_of (ending.TooLong limit) = 10
+status_of (ending.OfUci status) = status
 
--- the text, nothing for a good end
+-- the text, nothing for a good end, and nothing more for `uci`, which has told its own
 abbrev pub text_of : Ending → List ℕ
 text_of ending.Done = []
 text_of ending.Usage = texts.USAGE.now
@@ -32,11 +33,17 @@ text_of (ending.KernelFailed left) = texts.KERNEL.now ++ decimal left ++ texts.D
 text_of ending.OutOfMemory = texts.OUT_OF_MEMORY.now
 text_of (ending.Unreadable fault) = texts.NETWORK_LINE.now ++ decimal fault.line ++ texts.COLON.now ++ reason_text fault.reason ++ texts.NEWLINE.now
 text_of (ending.TooLong limit) = texts.LIMIT.now ++ decimal limit ++ texts.NEWLINE.now
+text_of (ending.OfUci status) = []
 
 -- the text is on the error output, all of it where no fault was counted there, and else a front of it
 pub record IsTold (text : List ℕ) (errors : ErrorOutput) : Type 0 where
   pub front : GrowsByFront errors.held errors.held_now text
   pub whole : DidNotRise errors.faults errors.faults_now → Grows errors.held errors.held_now text
+
+-- it is that of `uci`
+abbrev pub IsOfUci : Ending → Type 0
+IsOfUci (ending.OfUci status) = ⊤
+IsOfUci _ = ⊥
 
 -- how a run ends in which bringing up ended so
 abbrev pub ending_of : {X : Type 0} → Result X StartError → Ending

@@ -12,5 +12,7 @@ pub mod Locations
 pub mod Ending
 -- how a run of `start` ends, and when
 pub mod Start
+-- how a run of `uci` ends, and when
+pub mod Uci
 -- the pages of the program, and how a run ends that prints one
 pub mod Page

@@ -2,62 +2,75 @@
 -- `CommandComes`, and in `Command` a case to the words that ask for it and to what it reads and calls.
 use Rattle.std.specs.Prelude.{ℕ, ◌≡◌, List}
 use Rattle.plane_main.specs.declared.command.Command.{Command}
-use Rattle.plane_main.specs.declared.command.Command.TheVariants.{Start, Show}
+use Rattle.plane_main.specs.declared.command.Command.TheVariants.{Start, Uci, Show}
 use Rattle.plane_main.specs.declared.ending.Ending.{Ending}
 use Rattle.plane_main.specs.declared.ending.Ending.TheVariants as ending
-use Rattle.net_settle.specs.Outside.{Outside}
-use Rattle.plane_main.specs.Outside.{Input, ErrorOutput}
-use Rattle.plane_main.specs.Command.{AskFor, IsCommand, IsPageCommand, AskForNone, ReadsInput, CallsKernel}
-use Rattle.plane_main.specs.Ending.{status_of, text_of, IsTold, IsEarly, OrLacksMemory}
+use Rattle.plane_main.specs.Outside.{Seen}
+use Rattle.plane_main.specs.Command.{AskFor, IsCommand, IsInTable, IsPageCommand, AskForNone, ReadsInput, CallsKernel, OpensFolders}
+use Rattle.plane_main.specs.Ending.{status_of, text_of, IsTold, IsOfUci, IsEarly, OrLacksMemory}
 use Rattle.plane_main.specs.Start.{StartEnds, StartComes}
+use Rattle.plane_main.specs.Uci.{UciEnds, UciComes}
 use Rattle.plane_main.specs.Page.{PageEnds, PageComes}
 
 -- why a run of a command ends so, and what it leaves
-abbrev pub CommandEnds : Command → Input → Outside → Outside → Ending → Type 0
-CommandEnds (Start devices) input before after end = StartEnds devices input before after end
-CommandEnds (Show page) input before after end = PageEnds page before after end
+abbrev pub CommandEnds : Command → Seen → Ending → Type 0
+CommandEnds (Start devices) seen end = StartEnds devices seen.input seen.before seen.after end
+CommandEnds (Uci words) seen end = UciEnds words seen end
+CommandEnds (Show page) seen end = PageEnds page seen.before seen.after end
 
 -- when a run of a command ends so
-abbrev pub CommandComes : Command → Input → Outside → Outside → Ending → Type 0
-CommandComes (Start devices) input before after end =
-    StartComes devices input before after end
-CommandComes (Show page) input before after end = PageComes before after end
+abbrev pub CommandComes : Command → Seen → Ending → Type 0
+CommandComes (Start devices) seen end =
+    StartComes devices seen.input seen.before seen.after end
+CommandComes (Uci words) seen end = UciComes words seen end
+CommandComes (Show page) seen end = PageComes seen.before seen.after end
 
 -- why a run ends so, and what it leaves
-pub data Ends (words : List (List ℕ)) (input : Input) (before after : Outside) (end : Ending) : Type 0 where
+pub data Ends (words : List (List ℕ)) (seen : Seen) (end : Ending) : Type 0 where
   -- the words ask for a command, and it ended so
-  of_command : (command : Command) → AskFor words command → CommandEnds command input before after end → Ends words input before after end
-  -- they are in no row of the table
-  of_no_command : (IsCommand words → ⊥) → end ≡ ending.Usage → Ends words input before after end
+  of_command : (command : Command) → AskFor words command → CommandEnds command seen end → Ends words seen end
+  -- they ask for none
+  of_no_command : (IsCommand words → ⊥) → end ≡ ending.Usage → Ends words seen end
   -- memory was lacking while they were read, which takes none for a page
-  of_unread_words : (IsPageCommand words → ⊥) → after ≡ before → end ≡ ending.OutOfMemory → Ends words input before after end
+  of_unread_words : (IsPageCommand words → ⊥) → seen.after ≡ seen.before → end ≡ ending.OutOfMemory → Ends words seen end
 
 -- when a run ends so
-pub record Comes (words : List (List ℕ)) (input : Input) (before after : Outside) (end : Ending) : Type 0 where
-  pub command : (command : Command) → AskFor words command → CommandComes command input before after end
+pub record Comes (words : List (List ℕ)) (seen : Seen) (end : Ending) : Type 0 where
+  pub command : (command : Command) → AskFor words command → CommandComes command seen end
   pub no_command : (IsCommand words → ⊥) → OrLacksMemory (end ≡ ending.Usage) end
 
 -- A run ends with an ending, whose status is the answer: it has its cause, it comes where it must, and its text is on
--- the error output.
-pub record Ended (words : List (List ℕ)) (input : Input) (before after : Outside) (errors : ErrorOutput) (answer : ℕ) : Type 0 where
+-- the error output, unless it is one of `uci`, whose cause says what is there.
+pub record Ended (words : List (List ℕ)) (seen : Seen) (answer : ℕ) : Type 0 where
   pub end : Ending
   pub status : status_of end ≡ answer
-  pub cause : Ends words input before after end
-  pub comes : Comes words input before after end
-  pub told : IsTold (text_of end) errors
+  pub cause : Ends words seen end
+  pub comes : Comes words seen end
+  pub told : (IsOfUci end → ⊥) → IsTold (text_of end) seen.errors
 
--- Which devices a run leaves wholly alone, as the values that they are. They are the input, the output and the kernel,
--- each before and after.
-pub record LeavesAlone {S O K : Type 0} (words : List (List ℕ)) (end : Ending) (before after : S × O × K) : Type 0 where
-  pub input : AskForNone ReadsInput words → after.0 ≡ before.0
-  pub out : IsEarly end → after.1 ≡ before.1
-  pub out_unfilled : end ≡ ending.OutOfMemory → after.1 ≡ before.1
-  pub out_unasked : (IsCommand words → ⊥) → after.1 ≡ before.1
-  pub kernel : IsEarly end → after.2 ≡ before.2
-  pub kernel_unasked : AskForNone CallsKernel words → after.2 ≡ before.2
+-- the devices of a run: the input, the output, the kernel, the disks of the packages and of staged changes, and the clock
+pub record Devices (S O K D T C : Type 0) : Type 0 where
+  pub input : S
+  pub out : O
+  pub kernel : K
+  pub files : D
+  pub staged : T
+  pub clock : C
+
+-- Which of them a run leaves wholly alone, as the values that they are.
+pub record LeavesAlone {S O K D T C : Type 0} (words : List (List ℕ)) (end : Ending) (before after : Devices S O K D T C) : Type 0 where
+  pub input : AskForNone ReadsInput words → after.input ≡ before.input
+  pub out : IsEarly end → after.out ≡ before.out
+  pub out_unfilled : end ≡ ending.OutOfMemory → after.out ≡ before.out
+  pub out_unasked : (IsInTable words → ⊥) → after.out ≡ before.out
+  pub kernel : IsEarly end → after.kernel ≡ before.kernel
+  pub kernel_unasked : AskForNone CallsKernel words → after.kernel ≡ before.kernel
+  pub files : AskForNone OpensFolders words → after.files ≡ before.files
+  pub staged : AskForNone OpensFolders words → after.staged ≡ before.staged
+  pub clock : AskForNone OpensFolders words → after.clock ≡ before.clock
 
 -- a run with this answer leaves those devices alone
-pub record LeftAlone {S O K : Type 0} (words : List (List ℕ)) (answer : ℕ) (before after : S × O × K) : Type 0 where
+pub record LeftAlone {S O K D T C : Type 0} (words : List (List ℕ)) (answer : ℕ) (before after : Devices S O K D T C) : Type 0 where
   pub end : Ending
   pub status : status_of end ≡ answer
   pub alone : LeavesAlone words end before after

@@ -1,43 +1,85 @@
 ghost use Rattle.std.specs.Prelude.{◌≡◌, map, string_bytes};
 ghost use Rattle.net_settle.specs.Outside.{outside_of};
 ghost use Rattle.net_start.specs.BringUp.{IsBare};
-ghost use Rattle.plane_main.specs.Outside.{input_of};
+ghost use Rattle.plane_main.specs.Outside.{input_of, errors_of};
+ghost use Rattle.plane_main.specs.Ending.{status_of, text_of, IsTold, IsOfUci};
 ghost use Rattle.plane_main.specs.Run.{Ends, LeavesAlone};
 
 use crate::command::{Command, read_command};
 use crate::ending::Ending;
 use crate::page::show;
+use crate::report::report;
 use crate::start::start;
 use kern_model::Kernel;
+use plane_disk::Disk;
 use plane_io::{Sink, Source};
+use plane_outside::Clock;
 use std::alloc::Global;
+use uci_run::run_uci;
 
-/// Carries the command out that the words ask for.
-pub fn carry_out<S: Source, O: Sink, K: Kernel>(
+/// Carries the command out that the words ask for, and tells how it ended.
+pub fn carry_out<S: Source, O: Sink, E: Sink, D: Disk, T: Disk, K: Kernel, C: Clock>(
     alloc: Global,
     words: &[String],
     input: &mut S,
     out: &mut O,
+    err: &mut E,
+    files: &mut D,
+    staged: &mut T,
     kernel: &mut K,
+    clock: &mut C,
 ) -> Ending
     requires bare { IsBare K.Kernel kernel.old }
-    ensures cause { Ends (map string_bytes words.now)
-        (input_of S.Source input.old input.new)
-        (outside_of O.Sink K.Kernel out.old kernel.old)
-        (outside_of O.Sink K.Kernel out.new kernel.new) result }
+    requires same_packages { (T.view staged.old).names ≡ (D.view files.old).names }
+    ensures cause { Ends (map string_bytes words.now) (record {
+      input = input_of S.Source input.old input.new;
+      before = outside_of O.Sink K.Kernel out.old kernel.old;
+      after = outside_of O.Sink K.Kernel out.new kernel.new;
+      errors = errors_of E.Sink err.old err.new;
+      folders = record {
+        files = D.view files.old;
+        files_now = D.view files.new;
+        staged = T.view staged.old;
+        staged_now = T.view staged.new;
+        moments = C.moments clock.old;
+      };
+    }) result }
+    ensures told { (IsOfUci result → ⊥)
+        → IsTold (text_of result) (errors_of E.Sink err.old err.new) }
+    ensures silent { status_of result ≡ 0 → err.new ≡ err.old }
     ensures alone { LeavesAlone (map string_bytes words.now) result
-        (input.old, out.old, kernel.old) (input.new, out.new, kernel.new) }
+        (record {
+          input = input.old;
+          out = out.old;
+          kernel = kernel.old;
+          files = files.old;
+          staged = staged.old;
+          clock = clock.old;
+        })
+        (record {
+          input = input.new;
+          out = out.new;
+          kernel = kernel.new;
+          files = files.new;
+          staged = staged.new;
+          clock = clock.new;
+        }) }
 {
     let command = match read_command(alloc, words) {
         Ok(Some(command)) => command,
-        Ok(None) => return Ending::Usage,
-        Err(_) => return Ending::OutOfMemory,
+        Ok(None) => return report(Ending::Usage, err),
+        Err(_) => return report(Ending::OutOfMemory, err),
     };
     match command {
-        Command::Start { devices } => start(alloc, devices.as_slice(), input, out, kernel),
-        Command::Show(page) => match show(page, out) {
-            Ok(()) => Ending::Done,
-            Err(_) => Ending::WriteFailed,
-        },
+        Command::Start { devices } => {
+            let ending = start(alloc, devices.as_slice(), input, out, kernel);
+            report(ending, err)
+        }
+        Command::Uci { words } => {
+            let words = words.as_slice();
+            let status = run_uci(alloc, words, input, out, err, files, staged, clock);
+            Ending::OfUci { status }
+        }
+        Command::Show(page) => report(show(page, out), err),
     }
 }

@@ -1,9 +1,9 @@
-ghost use Rattle.std.specs.Prelude.{◌≡◌, ℕ, List, map, string_bytes, IfOk, OnErr, IfSome, IfNone};
+ghost use Rattle.std.specs.Prelude.{◌≡◌, ◌∷◌, ℕ, List, map, codes, string_bytes, IfOk, OnErr, IfSome, IfNone};
 ghost use Rattle.plane_main.specs.Command.{AskFor, IsCommand, IsStart, IsPageCommand};
 
 use crate::page::Page;
 use kern_model::{DevName, read_plain_name};
-use plane_io::{Items, Memory};
+use plane_io::{Items, Memory, Text};
 use std::alloc::Global;
 use std::collections::BTreeSet;
 
@@ -15,6 +15,8 @@ pub const MOST_DEVICES: usize = 4096;
 pub enum Command {
     /// Brings a network up on these devices.
     Start { devices: Items<DevName> },
+    /// Carries OpenWrt's `uci` out with these words.
+    Uci { words: Items<Text> },
     /// Prints a page about the program.
     Show(Page),
 }
@@ -30,12 +32,37 @@ pub fn read_command(alloc: Global, words: &[String]) -> Result<Option<Command>, 
     if let Some(page) = Page::read(words) {
         return Ok(Some(Command::Show(page)));
     }
+    if let Some(words) = uci_words(alloc, words)? {
+        return Ok(Some(Command::Uci {
+            words: Items::from_vec(words),
+        }));
+    }
     let Some(names) = start_devices(alloc, words)? else {
         return Ok(None);
     };
     Ok(Some(Command::Start {
         devices: Items::from_vec(names),
     }))
+}
+
+// The words of `uci`, without that word itself.
+fn uci_words(alloc: Global, words: &[String]) -> Result<Option<Vec<Text>>, Memory>
+    ensures found { IfOk result (λ found. IfSome found (λ rest.
+        map string_bytes words.now ≡ codes "uci" ∷ rest.items)) }
+    ensures none { IfOk result (λ found. IfNone found ((rest : List (List ℕ)) →
+        map string_bytes words.now ≡ codes "uci" ∷ rest → ⊥)) }
+{
+    let Some((command, rest)) = words.split_first() else {
+        return Ok(None);
+    };
+    if command.as_bytes() != b"uci".as_slice() {
+        return Ok(None);
+    }
+    let mut texts = Vec::new(alloc);
+    for word in rest {
+        texts.push(Text::from_bytes(alloc, word.as_bytes())?)?;
+    }
+    Ok(Some(texts))
 }
 
 // The devices of a `start`.

@@ -16,6 +16,8 @@ pub enum Ending {
     Unreadable { fault: Fault },
     /// The input is longer than it may be, or a list of its rows is.
     TooLong { limit: u64 },
+    /// A run of `uci`, which has told its own text.
+    OfUci { status: u8 },
 }
 
 impl Ending {
@@ -32,6 +34,7 @@ impl Ending {
             Ending::OutOfMemory => 8,
             Ending::Unreadable { .. } => 9,
             Ending::TooLong { .. } => 10,
+            Ending::OfUci { status } => *status,
         }
     }
 }

@@ -1,40 +1,91 @@
-ghost use Rattle.std.specs.Prelude.{map, string_bytes, IfOk, IfSome, IfNone};
-ghost use Rattle.plane_main.specs.Locations.{IsNowhere};
-ghost use Rattle.plane_main.specs.Command.{IsCommand};
+ghost use Rattle.std.specs.Prelude.{◌≡◌, map, string_bytes, IfOk, IfSome, IfNone};
+ghost use Rattle.plane_main.specs.Locations as spec;
+ghost use Rattle.plane_main.specs.Locations.{IsPlaced};
+ghost use Rattle.plane_main.specs.Command.{IsInTable};
 
-use crate::command::read_command;
-use plane_io::Memory;
+use crate::command::{Command, read_command};
+use plane_io::{Memory, Text};
 use std::alloc::Global;
+use uci_words::{Asked, Options, read_words};
 
 /// Where the real devices of a command are. `start` reads the standard input and has no places, and
 /// the pages about the program have none.
 #[derive(Debug, Drop)]
 pub struct Locations {
-    pub files: String,
-    pub staged: String,
-    pub socket: Option<String>,
-    pub input: Option<String>,
-    pub user: String,
-    pub group: String,
+    /// The folder of the packages, empty where the command has none.
+    pub files: Text,
+    /// The folder of staged changes, empty where the command has none.
+    pub staged: Text,
+    /// The socket of a server.
+    pub socket: Option<Text>,
+    /// The file of the input, where the command reads one and it is not the standard input.
+    pub input: Option<Text>,
+    /// The user and the group of clients.
+    pub user: Text,
+    pub group: Text,
 }
 
 /// Where the devices of the command are, or `None` where the words are not in the table of commands.
+///
+/// # Errors
+///
+/// Want of memory.
 pub fn places(alloc: Global, words: &[String]) -> Result<Option<Locations>, Memory>
     ensures found { IfOk result (λ found.
-        IfSome found (λ locations. IsCommand (map string_bytes words.now))) }
+        IfSome found (IsPlaced (map string_bytes words.now))) }
     ensures none { IfOk result (λ found.
-        IfNone found (IsCommand (map string_bytes words.now) → ⊥)) }
-    ensures nowhere { IfOk result (λ found. IfSome found (λ locations. IsNowhere locations)) }
+        IfNone found (IsInTable (map string_bytes words.now) → ⊥)) }
 {
-    let Some(_) = read_command(alloc, words)? else {
+    let Some(command) = read_command(alloc, words)? else {
         return Ok(None);
     };
-    Ok(Some(Locations {
-        files: String::new(alloc),
-        staged: String::new(alloc),
+    let nowhere = nowhere(alloc)?;
+    match command {
+        Command::Uci { words } => folders(alloc, words.as_slice(), nowhere),
+        Command::Start { .. } | Command::Show(_) => Ok(Some(nowhere)),
+    }
+}
+
+// No folders, no socket and no input, under the user and the group `root`.
+fn nowhere(alloc: Global) -> Result<Locations, Memory>
+    ensures { IfOk result (λ locations. locations ≡ spec.nowhere) }
+{
+    Ok(Locations {
+        files: Text::from_vec(Vec::new(alloc)),
+        staged: Text::from_vec(Vec::new(alloc)),
         socket: None,
         input: None,
-        user: String::from_str(alloc, "root")?,
-        group: String::from_str(alloc, "root")?,
-    }))
+        user: Text::from_bytes(alloc, b"root")?,
+        group: Text::from_bytes(alloc, b"root")?,
+    })
+}
+
+// Those of `uci`, where its words ask for a command.
+fn folders(alloc: Global, words: &[Text], nowhere: Locations) -> Result<Option<Locations>, Memory>
+    ensures { IfOk result (λ found. found ≡ spec.folders words.now nowhere) }
+{
+    let Asked { options, command } = read_words(alloc, words)?;
+    let Some(command) = command else {
+        return Ok(None);
+    };
+    Ok(Some(named_by(options, &command, nowhere)))
+}
+
+// The folders that the options name, and the file of the input, where the command reads one.
+fn named_by(options: Options, command: &uci_words::Command, nowhere: Locations) -> Locations
+    ensures { result ≡ spec.named_by options command.now nowhere }
+{
+    let reads = command.reads_input();
+    let Options {
+        files,
+        staged,
+        input,
+        ..
+    } = options;
+    Locations {
+        files,
+        staged,
+        input: if reads { input } else { None },
+        ..nowhere
+    }
 }

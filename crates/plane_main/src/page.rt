@@ -1,12 +1,11 @@
-ghost use Rattle.std.specs.Prelude.{◌≡◌, map, string_bytes, IfSome, IfNone, OnOk, OnErr};
-ghost use Rattle.plane_words.specs.Causes.{HasCause};
-ghost use Rattle.plane_words.specs.Growth.{Grows, GrowsByFront};
+ghost use Rattle.std.specs.Prelude.{◌≡◌, map, string_bytes, IfSome, IfNone};
 ghost use Rattle.plane_main.specs.declared.command.Command.TheVariants as command;
 ghost use Rattle.plane_main.specs.Command.{AskFor, IsPageCommand};
-ghost use Rattle.plane_main.specs.Page.{page_text};
+ghost use Rattle.plane_main.specs.Page.{page_text, PrintEnds};
 
+use crate::ending::Ending;
 use crate::texts::{HELP, VERSION};
-use plane_io::{Failed, Sink};
+use plane_io::Sink;
 
 /// A page that the program prints about itself.
 #[derive(Clone, Copy, Debug, PartialEq, Eq, Hash)]
@@ -45,10 +44,12 @@ impl Page {
 }
 
 /// Prints a page.
-pub fn show<O: Sink>(page: Page, out: &mut O) -> Result<(), Failed>
-    ensures ok { OnOk result (Grows (O.held out.old) (O.held out.new) (page_text page)) }
-    ensures err { OnErr result (GrowsByFront (O.held out.old) (O.held out.new) (page_text page)) }
-    ensures cause { HasCause (O.faults out.old) (O.faults out.new) result }
+pub fn show<O: Sink>(page: Page, out: &mut O) -> Ending
+    ensures ends { PrintEnds (page_text page) (O.held out.old) (O.held out.new)
+        (O.faults out.old) (O.faults out.new) result }
 {
-    out.write(page.text())
+    match out.write(page.text()) {
+        Ok(()) => Ending::Done,
+        Err(_) => Ending::WriteFailed,
+    }
 }

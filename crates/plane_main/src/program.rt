@@ -9,42 +9,73 @@ use crate::carry_out::carry_out;
 use crate::ending::Ending;
 use crate::report::report;
 use kern_model::Kernel;
+use plane_disk::Disk;
 use plane_io::{Sink, Source};
+use plane_outside::{Clock, Hub, Random};
 use std::alloc::Global;
 
 /// The program: carries a command out over the devices that it is given, and answers its exit status.
 ///
-/// `start DEV..` reads a `network` text from the input, and brings its interfaces up on the devices of those names;
-/// `--help` and `--version` print a page about the program. The words are without the name of the program. A device that
-/// the kernel does not take is absent. Status 8 is want of memory: then no object was put and nothing was written to the
-/// output, but devices may have been added.
-pub fn plane<S: Source, O: Sink, E: Sink, K: Kernel>(
+/// `start DEV..` reads a `network` text from the input, and brings its interfaces up on the devices of those names. `uci WORDS`
+/// carries OpenWrt's `uci` out over the packages of `files`, with the command line's changes in `staged`, at the moment of `clock`.
+/// `--help` and `--version` print a page about the program. The words are without the name of the program. A device that the kernel
+/// does not take is absent. Status 8 is want of memory: then no object was put and nothing was written to the output, but devices
+/// may have been added, and of a `uci` that takes several steps the first ones may be done.
+pub fn plane<S: Source, O: Sink, E: Sink, D: Disk, T: Disk, K: Kernel, H: Hub, C: Clock, R: Random>(
     alloc: Global,
     words: &[String],
     input: &mut S,
     out: &mut O,
     err: &mut E,
+    files: &mut D,
+    staged: &mut T,
     kernel: &mut K,
+    hub: &mut H,
+    clock: &mut C,
+    random: &mut R,
 ) -> u8
     requires bare { IsBare K.Kernel kernel.old }
+    requires same_packages { (T.view staged.old).names ≡ (D.view files.old).names }
 
     // How the run ends: its status, why it ends so, what it leaves, when it does, and its text on the error output.
-    ensures ended { Ended (map string_bytes words.now)
-        (input_of S.Source input.old input.new)
-        (outside_of O.Sink K.Kernel out.old kernel.old)
-        (outside_of O.Sink K.Kernel out.new kernel.new)
-        (errors_of E.Sink err.old err.new) result }
+    ensures ended { Ended (map string_bytes words.now) (record {
+      input = input_of S.Source input.old input.new;
+      before = outside_of O.Sink K.Kernel out.old kernel.old;
+      after = outside_of O.Sink K.Kernel out.new kernel.new;
+      errors = errors_of E.Sink err.old err.new;
+      folders = record {
+        files = D.view files.old;
+        files_now = D.view files.new;
+        staged = T.view staged.old;
+        staged_now = T.view staged.new;
+        moments = C.moments clock.old;
+      };
+    }) result }
 
     // The devices that it has no business with are as they were.
     ensures alone { LeftAlone (map string_bytes words.now) result
-        (input.old, out.old, kernel.old) (input.new, out.new, kernel.new) }
+        (record {
+          input = input.old;
+          out = out.old;
+          kernel = kernel.old;
+          files = files.old;
+          staged = staged.old;
+          clock = clock.old;
+        })
+        (record {
+          input = input.new;
+          out = out.new;
+          kernel = kernel.new;
+          files = files.new;
+          staged = staged.new;
+          clock = clock.new;
+        }) }
+    ensures unused { (hub.new ≡ hub.old) × (random.new ≡ random.old) }
 
     // With 0 nothing was written to the error output.
     ensures silent { result ≡ 0 → err.new ≡ err.old }
 {
-    let ending = carry_out(alloc, words, input, out, kernel);
-    report(&ending, err);
-    ending.status()
+    carry_out(alloc, words, input, out, err, files, staged, kernel, clock).status()
 }
 
 /// Ends a run before it began, for want of memory to read the words or to make the devices: tells so, and answers the
@@ -53,7 +84,5 @@ pub fn lack_memory<E: Sink>(err: &mut E) -> u8
     ensures status { result ≡ status_of Ending.OutOfMemory }
     ensures told { IsTold (text_of Ending.OutOfMemory) (errors_of E.Sink err.old err.new) }
 {
-    let ending = Ending::OutOfMemory;
-    report(&ending, err);
-    ending.status()
+    report(Ending::OutOfMemory, err).status()
 }

@@ -14,13 +14,14 @@ use itoa::Buffer;
 use plane_io::{Failed, Sink, append_text};
 use uci_tree::Fault;
 
-/// Tells how a run ended. Where that fails, nothing is done about it.
-pub fn report<E: Sink>(ending: &Ending, err: &mut E)
-    ensures told { IsTold (text_of ending.now) (errors_of E.Sink err.old err.new) }
-    ensures silent { ending.now ≡ Ending.Done → err.new ≡ err.old }
-    ensures later { E.faults err.old ≤ E.faults err.new }
+/// Tells how a run ended, and answers that. Where telling fails, nothing is done about it.
+pub fn report<E: Sink>(ending: Ending, err: &mut E) -> Ending
+    ensures same { result ≡ ending }
+    ensures told { IsTold (text_of ending) (errors_of E.Sink err.old err.new) }
+    ensures silent { ending ≡ Ending.Done → err.new ≡ err.old }
 {
-    let _ = write_text(ending, err);
+    let _ = write_text(&ending, err);
+    ending
 }
 
 // Writes the text of an ending, in one piece.
@@ -32,7 +33,7 @@ fn write_text<E: Sink>(ending: &Ending, err: &mut E) -> Result<(), Failed>
     ensures silent { ending.now ≡ Ending.Done → err.new ≡ err.old }
 {
     match ending {
-        Ending::Done => Ok(()),
+        Ending::Done | Ending::OfUci { .. } => Ok(()),
         Ending::Usage => err.write(USAGE),
         Ending::ReadFailed => err.write(READ_FAILED),
         Ending::WriteFailed => err.write(WRITE_FAILED),

@@ -5,6 +5,8 @@ pub const HELP: &[u8] = b"plane: the configuration plane of an OpenWrt router as
 
 plane start DEV..   reads a network configuration from the standard input, and prints the kernel calls that bring
                     it up on the devices DEV, as lines for `ip -batch`
+plane uci WORDS     carries OpenWrt's `uci` out over a folder of configuration: show, get, set, add, add_list, del_list,
+                    delete, rename, reorder, changes, revert, commit, export, import and batch
 plane --help        prints this page
 plane --version     prints the version
 
@@ -36,8 +38,13 @@ link set dev eth1 up
 addr add 192.168.1.1/24 dev br-lan
 ask 1 interface wan dhcp eth1 {}
 
-Status: 0 done, 2 usage, 3 the input failed, 4 a line was not written, 6 a call of the kernel failed and objects
-are due, 8 out of memory, 9 the input is no UCI file, 10 the input or a list of its rows is too long.
+uci takes the options of OpenWrt's: -c DIR, the folder of packages, is /etc/config where it is not given, and -t DIR, that
+of staged changes, /tmp/.uci; -q is quiet, -n and -N tell whether export names anonymous sections, -X shows them by
+name, -m merges on import, -d STR stands between items, and -f FILE is the input. What it tells is its own.
+
+Status: 0 done, 1 a command of uci was refused, 2 usage, 3 the input failed, 4 a line was not written, 5 a disk failed,
+6 a call of the kernel failed and objects are due, 8 out of memory, 9 the input is no UCI file, 10 the input, a list of
+its rows or a file is too long, 12 what an apply left in the folder has no reading, 13 a place cannot be opened.
 The manual is docs/plane.1.
 ";
 

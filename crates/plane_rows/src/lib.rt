@@ -11,3 +11,5 @@ mod pages;
 mod session;
 #[cfg(test)]
 mod start;
+#[cfg(test)]
+mod uci;

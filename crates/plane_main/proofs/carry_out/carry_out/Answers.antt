@@ -1,9 +1,12 @@
-use Rattle.std.proofs.Common.{ℕ, List, map, string_bytes, subst}
-use Rattle.plane_main.specs.declared.command.Command.TheVariants.{Start, Show}
+use Rattle.std.proofs.Common.{ℕ, List, map, string_bytes, sym, subst}
+use Rattle.plane_main.specs.declared.command.Command.TheVariants.{Start, Uci, Show}
 use Rattle.net_settle.specs.Outside.{outside_of}
+use Rattle.uci_run.specs.Run.{RunEnds}
+use Rattle.uci_tool.specs.Ends.{streams_of}
 use Rattle.plane_main.specs.Outside.{input_of}
 use Rattle.plane_main.specs.Command.{AskFor}
 use Rattle.plane_main.specs.Start.{StartEnds}
+use Rattle.plane_main.specs.Page.{PageEnds}
 use Rattle.plane_main.specs.Run.{of_command}
 use Rattle.plane_main.proofs.carry_out.carry_out.Goals as goal
 
@@ -11,19 +14,25 @@ pub returns-in-Start-clause-cause : goal.returns-in-Start-clause-cause
 returns-in-Start-clause-cause g c =
     let words : List (List ℕ) = map string_bytes c.args.words.now in
     let asked : AskFor words c.in-Ok-Some.command = rw c.in-Ok-Some.field-0-is at c.in-Ok-Some.ensures.found in
-    let input = input_of g.S.Source c.args.input.now c.start.new.input in
+    let input = input_of g.S.Source c.args.input.now c.start-ending.new.input in
     let before = outside_of g.O.Sink g.K.Kernel c.args.out.now c.args.kernel.now in
-    let after = outside_of g.O.Sink g.K.Kernel c.start.new.out c.start.new.kernel in
-    of_command (Start c.in-Start.devices) (subst (AskFor words) c.in-Start.is asked) (subst (λ devices. StartEnds devices input before after c.start.result) c.as_slice.ensures c.start.ensures.cause)
+    let after = outside_of g.O.Sink g.K.Kernel c.start-ending.new.out c.start-ending.new.kernel in
+    let ends : StartEnds c.in-Start.devices input before after c.start-ending.result = subst (λ devices. StartEnds devices input before after c.start-ending.result) c.as_slice.ensures c.start-ending.ensures.cause in
+    of_command (Start c.in-Start.devices) (subst (AskFor words) c.in-Start.is asked) (subst (StartEnds c.in-Start.devices input before after) (sym c.report-in-Start.ensures.same) ends)
 
-pub returns-in-Ok-clause-cause : goal.returns-in-Ok-clause-cause
-returns-in-Ok-clause-cause g c =
+pub returns-in-Uci-clause-cause : goal.returns-in-Uci-clause-cause
+returns-in-Uci-clause-cause g c =
     let words : List (List ℕ) = map string_bytes c.args.words.now in
     let asked : AskFor words c.in-Ok-Some.command = rw c.in-Ok-Some.field-0-is at c.in-Ok-Some.ensures.found in
-    of_command (Show c.in-Show.page) (subst (AskFor words) c.in-Show.is asked) c.in-Ok.ensures.ok
+    let streams = streams_of g.S.Source c.args.input.now c.run_uci-status.new.input g.O.Sink c.args.out.now c.run_uci-status.new.out g.E.Sink c.args.err.now c.run_uci-status.new.err in
+    of_command (Uci c.in-Uci.words) (subst (AskFor words) c.in-Uci.is asked)
+    (subst (λ ws. RunEnds ws (g.C.Clock.moments c.args.clock.now) streams (g.D.Disk.view c.args.files.now) (g.D.Disk.view c.run_uci-status.new.files) (g.T.Disk.view c.args.staged.now) (g.T.Disk.view c.run_uci-status.new.staged) c.run_uci-status.result)
+    c.as_slice-words.ensures c.run_uci-status.ensures.ended)
 
-pub returns-in-Err-show-clause-cause : goal.returns-in-Err-show-clause-cause
-returns-in-Err-show-clause-cause g c =
+pub returns-in-Show-clause-cause : goal.returns-in-Show-clause-cause
+returns-in-Show-clause-cause g c =
     let words : List (List ℕ) = map string_bytes c.args.words.now in
     let asked : AskFor words c.in-Ok-Some.command = rw c.in-Ok-Some.field-0-is at c.in-Ok-Some.ensures.found in
-    of_command (Show c.in-Show.page) (subst (AskFor words) c.in-Show.is asked) (c.in-Err-show.ensures.err, c.in-Err-show.ensures.cause.failed)
+    let before = outside_of g.O.Sink g.K.Kernel c.args.out.now c.args.kernel.now in
+    let after = outside_of g.O.Sink g.K.Kernel c.show.new.out c.args.kernel.now in
+    of_command (Show c.in-Show.page) (subst (AskFor words) c.in-Show.is asked) (subst (PageEnds c.in-Show.page before after) (sym c.report-in-Show.ensures.same) c.show.ensures.ends)
