@@ -29,9 +29,7 @@ pub fn run<E: Sink>(
     err: &mut E,
 ) -> u8 {
     let done = match places {
-        Some(places) if !places.files.as_bytes().is_empty() => {
-            run_over(rt, alloc, words, places, err)
-        }
+        Some(places) if has_folders(places) => run_over(rt, alloc, words, places, err),
         _ => run_without(rt, alloc, words, err),
     };
     match done {
@@ -42,6 +40,10 @@ pub fn run<E: Sink>(
             OPENED_NOTHING
         }
     }
+}
+
+fn has_folders(places: &Locations) -> bool {
+    !places.files.as_bytes().is_empty() || !places.staged.as_bytes().is_empty()
 }
 
 // Over its folders and its input.

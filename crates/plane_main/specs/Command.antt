@@ -34,6 +34,10 @@ AskFor words (Show page) = words ≡ page_word page ∷ []
 abbrev pub IsCommand : List (List ℕ) → Type 0
 IsCommand words = (command : Command) × AskFor words command
 
+-- the first word is `uci`
+abbrev pub IsForUci : List (List ℕ) → Type 0
+IsForUci words = (rest : List (List ℕ)) × (words ≡ codes "uci" ∷ rest)
+
 -- the words of `uci` are in a row of its table
 abbrev pub HasRow : Command → Type 0
 HasRow (Start devices) = ⊤

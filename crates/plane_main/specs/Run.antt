@@ -6,7 +6,7 @@ use Rattle.plane_main.specs.declared.command.Command.TheVariants.{Start, Uci, Sh
 use Rattle.plane_main.specs.declared.ending.Ending.{Ending}
 use Rattle.plane_main.specs.declared.ending.Ending.TheVariants as ending
 use Rattle.plane_main.specs.Outside.{Seen}
-use Rattle.plane_main.specs.Command.{AskFor, IsCommand, IsInTable, IsPageCommand, AskForNone, ReadsInput, CallsKernel, OpensFolders}
+use Rattle.plane_main.specs.Command.{AskFor, IsCommand, IsForUci, IsInTable, IsPageCommand, AskForNone, ReadsInput, CallsKernel, OpensFolders}
 use Rattle.plane_main.specs.Ending.{status_of, text_of, IsTold, IsOfUci, IsEarly, OrLacksMemory}
 use Rattle.plane_main.specs.Start.{StartEnds, StartComes}
 use Rattle.plane_main.specs.Uci.{UciEnds, UciComes}
@@ -59,6 +59,8 @@ pub record Devices (S O K D T C : Type 0) : Type 0 where
 
 -- Which of them a run leaves wholly alone, as the values that they are.
 pub record LeavesAlone {S O K D T C : Type 0} (words : List (List ℕ)) (end : Ending) (before after : Devices S O K D T C) : Type 0 where
+  -- no other run ends as one of `uci` does
+  pub of_uci : IsOfUci end → IsForUci words
   pub input : AskForNone ReadsInput words → after.input ≡ before.input
   pub out : IsEarly end → after.out ≡ before.out
   pub out_unfilled : end ≡ ending.OutOfMemory → after.out ≡ before.out

@@ -1,6 +1,7 @@
 //! OpenWrt's `uci` by the whole program.
 use crate::session::{Failing, Folder, run_over};
 use std::alloc::Global;
+use std::process::Abort;
 use std::test::Fail;
 
 /// A router's network.
@@ -75,7 +76,7 @@ const DELETED: &[Row] = &[
     ),
 ];
 
-fn play(rt: &HostRuntime, alloc: Global, rows: &[Row]) -> Result<Folder, Fail> {
+fn play(rt: &impl Abort, alloc: Global, rows: &[Row]) -> Result<Folder, Fail> {
     let mut folder = Folder::new(alloc, b"\0\0", b"", NETWORK, None)?;
     for (words, printed, told, status) in rows {
         let ran = run_over(alloc, words, b"", Failing::default(), &mut folder)?;

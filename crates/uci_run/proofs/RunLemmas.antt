@@ -4,7 +4,7 @@ use Rattle.std.specs.Prelude.{◌⊎◌, ◌<◌, ◌+◌, length, unwrap_or, if
 use Rattle.plane_words.specs.Causes.{Rose}
 use Rattle.plane_disk.specs.Files.{Files, bytes_of}
 use Rattle.plane_disk.specs.Names.{name_at}
-use Rattle.plane_disk.specs.View.{View, IsSound}
+use Rattle.plane_disk.specs.View.{View, Stays}
 use Rattle.snap_disk.specs.Images.{LeavesOnly, SameDisk}
 use Rattle.snap_disk.specs.Opened.{State, OpensAs}
 use Rattle.snap_disk.specs.Opening.{OpensGiving, FromImage, OpensFrom}
@@ -26,6 +26,10 @@ use Rattle.uci_tool.specs.Ends.{Stream, Streams, IsTold, Tells, IsInput, Ends, c
 use Rattle.uci_run.specs.Shut.{shut_of, IsShut}
 use Rattle.plane_outside.specs.Given.{Advances}
 use Rattle.uci_run.specs.Folders.{IsMoment, IsFound, IsHeld}
+
+-- what is left alone stays
+pub same_stays : (view : View) → Stays view view
+same_stays view = record { seen = refl; images = λ image. (λ is. is, λ is. is) }
 
 -- what the clock gave is the moment that it told
 pub moment_is : (told next : Option (ℕ → ℕ)) (given : ℕ) → Advances told next given → IsMoment told given

@@ -1,17 +1,18 @@
 -- How a run of OpenWrt's `uci` over a folder ends.
 use Rattle.std.specs.Prelude.{ℕ, ◌≡◌, ◌≢◌, true, false, List, Option}
-use Rattle.plane_disk.specs.View.{View}
+use Rattle.plane_disk.specs.View.{View, Stays}
 use Rattle.uci_texts.specs.declared.refusal.TheConstants as texts
 use Rattle.uci_tool.specs.declared.tool.UciEnd.{UciEnd}
 use Rattle.uci_tool.specs.Folder.{Folder}
-use Rattle.uci_tool.specs.Ends.{Streams, IsSilent, Tells, Ends}
+use Rattle.uci_tool.specs.Ends.{Streams, IsSilent, IsTold, Tells, Ends}
 use Rattle.uci_run.specs.declared.shut.Shut.{Shut}
 use Rattle.uci_run.specs.Asking.{asks}
 use Rattle.uci_run.specs.Shut.{status_of, text_of, IsShut}
 use Rattle.uci_run.specs.Folders.{IsMoment, IsFound, IsHeld, StopsAsFound}
 
 -- The words ask for no command. Or the folder is not opened, and why. Or it was opened at a moment, and the command ended over what
--- was found then; unless a disk failed, the disks hold what it left. Or there was no memory to read the words.
+-- was found then; unless a disk failed, the disks hold what it left. Or there was no memory to read the words, and the disks are
+-- as they were.
 pub data RunEnds (words : List (List ℕ)) (told : Option (ℕ → ℕ)) (streams : Streams) (files files_now staged staged_now : View) (status : ℕ) : Type 0 where
   no_command : asks words ≡ false → status ≡ 2
       → IsSilent streams.out → Tells words texts.USAGE.now streams.err
@@ -23,5 +24,6 @@ pub data RunEnds (words : List (List ℕ)) (told : Option (ℕ → ℕ)) (stream
       → (end : UciEnd) → Ends words before after streams files files_now staged staged_now end → status ≡ end.status
       → (status ≢ 5 → IsHeld files_now staged_now after)
       → RunEnds words told streams files files_now staged staged_now status
-  words_unread : status ≡ 8 → IsSilent streams.out
+  words_unread : status ≡ 8 → IsSilent streams.out → IsTold texts.OUT_OF_MEMORY.now streams.err
+      → Stays files files_now → Stays staged staged_now
       → RunEnds words told streams files files_now staged staged_now status
