@@ -55,7 +55,7 @@ invalid_carries report folder is = ap (λ (z : Report). carried_as z folder) (sy
 
 -- ---- `commit`
 
-changed_same : (folder : Folder) (answer : Result Folder Refusal) → of_folder folder answer ≡ of_changed (changed_by folder answer)
+pub changed_same : (folder : Folder) (answer : Result Folder Refusal) → of_folder folder answer ≡ of_changed (changed_by folder answer)
 changed_same folder (Ok after) = refl
 changed_same folder (Err refusal) = refl
 

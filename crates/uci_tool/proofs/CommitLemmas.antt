@@ -16,7 +16,7 @@ use Rattle.uci_store.specs.declared.store.Store.{Store}
 use Rattle.uci_store.specs.declared.store_error.StoreError.{StoreError}
 use Rattle.uci_store.specs.declared.store_error.StoreError.TheVariants as store_error
 use Rattle.uci_store.specs.Store.{names_of, files_of, staged_in, file_of}
-use Rattle.uci_store.specs.Committing.{file_text, with_file, CommitsTo, HasRested, HasPrinted, HasCommitted, CommitStops, CommitRefuses}
+use Rattle.uci_store.specs.Committing.{file_text, with_file, CommitsTo, IsCommitFile, HasRested, HasPrinted, HasCommitted, CommitStops, CommitRefuses}
 use Rattle.uci_store.specs.Stops.{IsLeft}
 use Rattle.uci_texts.specs.declared.refusal.Refusal.{Refusal}
 use Rattle.uci_texts.specs.declared.refusal.Refusal.TheVariants.{Waiting, TooLarge}
@@ -88,12 +88,17 @@ rested_is old new name names h =
     ∙ none_there (folder_of old) h.nothing.file h.nothing.nothing
     ∙ ap (λ (z : Folder). Ok z) (sym (same_all old new (files_of old) (staged_in old) names h.files h.staged))
 
+-- the folder that a commit leads to
+pub printed_to : (store : Store) (name : List ℕ) (new : NewFile) → IsCommitFile store 0 name new → commit_package (folder_of store) name ≡ Ok (written (folder_of store) new)
+printed_to store name new is =
+    at_free (folder_of store) name new.file is.number is.free.rests
+    ∙ some_there (folder_of store) new.file is.is.some
+    ∙ ap (λ (z : Result Package Refusal). if_ok z (printed_at (folder_of store) new.file)) (seen_there store new.file is.is.view is.is.seen)
+    ∙ prints_there (folder_of store) new is.is.view is.is.text is.is.fits
+
 printed_is : (old new : Store) (name : List ℕ) → names_of new ≡ names_of old → HasPrinted old new 0 name → commit_package (folder_of old) name ≡ Ok (folder_of new)
 printed_is old new name names h =
-    at_free (folder_of old) name h.file.file h.is.number h.is.free.rests
-    ∙ some_there (folder_of old) h.file.file h.is.is.some
-    ∙ ap (λ (z : Result Package Refusal). if_ok z (printed_at (folder_of old) h.file.file)) (seen_there old h.file.file h.is.is.view h.is.is.seen)
-    ∙ prints_there (folder_of old) h.file h.is.is.view h.is.is.text h.is.is.fits
+    printed_to old name h.file h.is
     ∙ ap (λ (z : Folder). Ok z) (sym (same_all old new (with_file (files_of old) h.file) (without 0 h.file.file (staged_in old)) names h.written.files h.written.staged))
 
 pub committed_is : (old new : Store) (name : List ℕ) → names_of new ≡ names_of old → HasCommitted old new 0 name → commit_package (folder_of old) name ≡ Ok (folder_of new)

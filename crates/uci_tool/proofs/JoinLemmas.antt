@@ -77,7 +77,7 @@ pub record CommitsSoFar (old now : Store) (a b c d : View) (place : ℕ) : Type 
 pub commits_none : (store : Store) (files staged : View) → IsOpen store files staged → CommitsSoFar store store files files staged staged 0
 commits_none store files staged open' = record { writes = writes_none store files staged open'; left = refl; among = λ found h. h }
 
-from_here : (names : List (List ℕ)) (place : ℕ) (name : List ℕ) → place < length names → name ≡ slice_index_or names place name → drop place names ≡ name ∷ drop (place + 1) names
+pub from_here : (names : List (List ℕ)) (place : ℕ) (name : List ℕ) → place < length names → name ≡ slice_index_or names place name → drop place names ≡ name ∷ drop (place + 1) names
 from_here names place name inside is = rw add-one (drop-cons names place name inside ∙ ap (λ y. y ∷ drop (suc place) names) (sym is))
 
 -- the next package is committed

@@ -15,3 +15,4 @@ pub mod MergeLemmas
 pub mod ImportLemmas
 pub mod CarryLemmas
 pub mod SilentLemmas
+pub mod StopLemmas

@@ -10,15 +10,13 @@ use Rattle.uci_words.specs.Command.{command_of}
 use Rattle.uci_texts.specs.declared.refusal.Refusal.{Refusal}
 use Rattle.uci_tool.specs.declared.report.Report.{Report}
 use Rattle.uci_tool.specs.declared.tool.UciEnd.{UciEnd}
-use Rattle.uci_tool.specs.declared.texts.Printed.{Printed}
 use Rattle.uci_tool.specs.Folder.{Folder}
 use Rattle.uci_tool.specs.Import.{import_done}
 use Rattle.uci_tool.specs.Reading.{lines_in}
 use Rattle.uci_tool.specs.Staging.{Effect, stage_word, add_done, revert_word}
-use Rattle.uci_tool.specs.Line.{Carried, told_of, refused, of_printed, of_folder, of_effect, command_done, asked_done, line_done, first_refusal, lines_done}
-use Rattle.uci_tool.specs.Done.{batch_of, carried, status_of, refusal_number}
-use Rattle.uci_tool.specs.Answers.{carried_as}
-use Rattle.uci_tool.specs.Ends.{Stream, end_of}
+use Rattle.uci_tool.specs.Line.{Carried, told_of, refused, of_folder, of_effect, command_done, asked_done, line_done, first_refusal, lines_done}
+use Rattle.uci_tool.specs.Done.{batch_of, carried, status_of}
+use Rattle.uci_tool.specs.Ends.{Stream}
 use Rattle.uci_tool.specs.Runs.{IsCarried, told_unless, EndsWith, written, not_written}
 
 abbrev TellsOnlyRefusals : Carried → Type 0

@@ -2,6 +2,7 @@
 use Rattle.std.proofs.Common.{ℕ, ◌≡◌, ◌≢◌, ◌+◌, ◌⊎◌, inl, inr, false, List, length, Some, None, Result, Ok, Err, refl, ap, sym, subst, ◌∙◌, arith}
 use Rattle.plane_words.specs.Causes.{Rose}
 use Rattle.plane_disk.specs.View.{View}
+use Rattle.snap_disk.specs.declared.new_file.NewFile.{NewFile}
 use Rattle.snap_disk.specs.declared.snap.Snap.{Snap}
 use Rattle.snap_disk.specs.declared.snap_error.SnapError.TheVariants as snap_error
 use Rattle.snap_disk.specs.Images.{SameDisk}
@@ -15,14 +16,14 @@ use Rattle.uci_store.specs.declared.store.Store.{Store}
 use Rattle.uci_store.specs.declared.store_error.StoreError.{StoreError}
 use Rattle.uci_store.specs.declared.store_error.StoreError.TheVariants as store_error
 use Rattle.uci_store.specs.Store.{names_of, snap_of, files_of, staged_in, has_failed, file_of, IsOnFiles, IsOnStaged}
-use Rattle.uci_store.specs.Committing.{with_file, DiskRose, CommitRefuses, CommitStops, ReplacesTo, HasReplaced, ReplaceStops, ReplaceRefuses}
+use Rattle.uci_store.specs.Committing.{with_file, DiskRose, CommitRefuses, CommitStops, ReplacesTo, IsReplaceFile, HasReplaced, ReplaceStops, ReplaceRefuses}
 use Rattle.uci_store.specs.Staging.{IsWhole}
 use Rattle.uci_store.specs.Stops.{IsLeft}
 use Rattle.uci_texts.specs.declared.refusal.Refusal.{Refusal}
 use Rattle.uci_tool.specs.declared.stop.Stop.{Stop}
 use Rattle.uci_tool.specs.declared.stop.Stop.TheVariants as stop
 use Rattle.uci_tool.specs.Folder.{Folder, folder_of}
-use Rattle.uci_tool.specs.Commit.{where_free, printed_at}
+use Rattle.uci_tool.specs.Commit.{where_free, printed_at, written}
 use Rattle.uci_tool.specs.Import.{replaced}
 use Rattle.uci_tool.specs.Answers.{stop_of, Answers, Changes, Closes, Stages, Writes, IsOpen}
 use Rattle.uci_tool.proofs.SeenLemmas.{at_file, no_file}
@@ -160,10 +161,13 @@ writes_of_stages result old new files before after open' stages = record {
 at_free : (folder : Folder) (tree : Package) (file : ℕ) → file_of folder.names tree.name ≡ Some file → folder.files.waits ≡ None → replaced folder tree ≡ printed_at folder file tree
 at_free folder tree file number rests = at_file folder tree.name file (λ found. where_free folder (printed_at folder found tree)) number ∙ free_there folder (printed_at folder file tree) rests
 
+-- the folder that a replacement leads to
+pub replaced_to : (store : Store) (tree : Package) (new : NewFile) → IsReplaceFile store tree new → replaced (folder_of store) tree ≡ Ok (written (folder_of store) new)
+replaced_to store tree new is = at_free (folder_of store) tree new.file is.number is.free.rests ∙ prints_there (folder_of store) new tree is.text is.fits
+
 pub replaced_is : (old new : Store) (tree : Package) → names_of new ≡ names_of old → HasReplaced old new 0 tree → replaced (folder_of old) tree ≡ Ok (folder_of new)
 replaced_is old new tree names h =
-    at_free (folder_of old) tree h.file.file h.is.number h.is.free.rests
-    ∙ prints_there (folder_of old) h.file tree h.is.text h.is.fits
+    replaced_to old tree h.file h.is
     ∙ ap (λ (z : Folder). Ok z) (sym (same_all old new (with_file (files_of old) h.file) (without 0 h.file.file (staged_in old)) names h.written.files h.written.staged))
 
 replace_stopped : (old new : Store) (tree : Package) (error : StoreError) → folder_of new ≡ folder_of old → ReplaceStops old tree error → Changes {X = Unit {0}} (Err (stop_of error)) (folder_of old) (folder_of new) (replaced (folder_of old) tree)

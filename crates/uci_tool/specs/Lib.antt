@@ -30,5 +30,7 @@ pub mod Answers
 pub mod Cut
 -- how a run ends, and what it leaves
 pub mod Ends
+-- what a stop within a run leaves of the files
+pub mod Stops
 -- how the parts of a run answer
 pub mod Runs

@@ -10,7 +10,8 @@ use Rattle.uci_words.specs.Command.{command_of}
 use Rattle.uci_words.specs.Words.{asked_of}
 use Rattle.uci_tool.specs.Folder.{Folder}
 use Rattle.uci_tool.specs.Reading.{lines_in}
-use Rattle.uci_tool.specs.Commit.{commit_package, commit_done}
+use Rattle.uci_texts.specs.declared.refusal.Refusal.{Refusal}
+use Rattle.uci_tool.specs.Commit.{changed_by, commit_package, commit_done}
 use Rattle.uci_tool.specs.Line.{line_done, command_done}
 use Rattle.uci_tool.specs.Done.{carried}
 
@@ -25,6 +26,10 @@ commit_passes folder (name ∷ names) =
 
 abbrev pub one_step : Folder → Folder → List Folder
 one_step folder after = folder ∷ after ∷ []
+
+-- a step that leads to a folder, or is refused
+abbrev pub step_to : Folder → Result Folder Refusal → List Folder
+step_to folder expected = one_step folder (changed_by folder expected).after
 
 abbrev pub of_commit : Folder → Option (List ℕ) → List Folder
 of_commit folder None = commit_passes folder folder.names

@@ -4,7 +4,8 @@ ghost use Rattle.uci_store.specs.Store.{names_of};
 ghost use Rattle.uci_tool.specs.Answers.{Changes, Carries, Writes, IsOpen, ended_by};
 ghost use Rattle.uci_tool.specs.Commit as spec;
 ghost use Rattle.uci_tool.specs.Folder.{folder_of};
-ghost use Rattle.uci_tool.specs.Passes.{commit_passes};
+ghost use Rattle.uci_tool.specs.Passes.{commit_passes, step_to};
+ghost use Rattle.uci_tool.specs.Stops.{StaysOrStops};
 
 use crate::Stop;
 use crate::seeing::COMMAND_LINE;
@@ -28,6 +29,9 @@ pub fn commit_package<D: Disk, T: Disk>(
         (spec.commit_package (folder_of store.old) name.now) }
     ensures writes { Writes result store.old store.new
         (D.view files.old) (D.view files.new) (T.view staged.old) (T.view staged.new) }
+    ensures images { StaysOrStops store.old D.view files.old files.new
+        (step_to (folder_of store.old)
+        (spec.commit_package (folder_of store.old) name.now)) }
 {
     match store.commit(alloc, files, staged, COMMAND_LINE, name) {
         Ok(()) => Ok(()),
@@ -49,6 +53,8 @@ pub fn commit_each<D: Disk, T: Disk>(
         (folder_of store.new) (commit_passes (folder_of store.old) (names_of store.old)) }
     ensures writes { Writes result store.old store.new
         (D.view files.old) (D.view files.new) (T.view staged.old) (T.view staged.new) }
+    ensures images { StaysOrStops store.old D.view files.old files.new
+        (commit_passes (folder_of store.old) (names_of store.old)) }
 {
     for place in 0..store.packages().len() {
         let Ok(name) = name_at(store, place) else {

@@ -5,7 +5,9 @@ ghost use Rattle.uci_tool.specs.Answers.{Changes, Writes, IsOpen};
 ghost use Rattle.uci_tool.specs.Folder.{folder_of};
 ghost use Rattle.uci_tool.specs.Import as spec;
 ghost use Rattle.uci_tool.specs.Merging.{merged};
+ghost use Rattle.uci_tool.specs.Passes.{step_to};
 ghost use Rattle.uci_tool.specs.Seen.{if_ok};
+ghost use Rattle.uci_tool.specs.Stops.{StaysOrStops};
 
 use crate::Stop;
 use crate::merging::merge_text;
@@ -33,6 +35,9 @@ pub fn import<D: Disk, T: Disk>(
         (spec.import_done options.now (folder_of store.old) name.now input.now) }
     ensures writes { Writes result store.old store.new
         (D.view files.old) (D.view files.new) (T.view staged.old) (T.view staged.new) }
+    ensures images { StaysOrStops store.old D.view files.old files.new
+        (step_to (folder_of store.old)
+        (spec.import_done options.now (folder_of store.old) name.now input.now)) }
 {
     match read_package(alloc, name, input) {
         Ok(tree) => {
@@ -60,6 +65,9 @@ fn merge_over<D: Disk, T: Disk>(
         (spec.merge_done (folder_of store.old) name.now input.now) }
     ensures writes { Writes result store.old store.new
         (D.view files.old) (D.view files.new) (T.view staged.old) (T.view staged.new) }
+    ensures images { StaysOrStops store.old D.view files.old files.new
+        (step_to (folder_of store.old)
+        (spec.merge_done (folder_of store.old) name.now input.now)) }
 {
     match see(alloc, store, name) {
         Ok(view) => replace_by(alloc, store, files, staged, view, input),
@@ -81,6 +89,9 @@ fn replace_by<D: Disk, T: Disk>(
         (if_ok (merged view input.now) (spec.replaced (folder_of store.old))) }
     ensures writes { Writes result store.old store.new
         (D.view files.old) (D.view files.new) (T.view staged.old) (T.view staged.new) }
+    ensures images { StaysOrStops store.old D.view files.old files.new
+        (step_to (folder_of store.old)
+        (if_ok (merged view input.now) (spec.replaced (folder_of store.old)))) }
 {
     match merge_text(alloc, view, input) {
         Ok(tree) => replace(alloc, store, files, staged, &tree),
@@ -100,6 +111,9 @@ fn replace<D: Disk, T: Disk>(
         (spec.replaced (folder_of store.old) tree.now) }
     ensures writes { Writes result store.old store.new
         (D.view files.old) (D.view files.new) (T.view staged.old) (T.view staged.new) }
+    ensures images { StaysOrStops store.old D.view files.old files.new
+        (step_to (folder_of store.old)
+        (spec.replaced (folder_of store.old) tree.now)) }
 {
     match store.replace(alloc, files, staged, COMMAND_LINE, tree) {
         Ok(()) => Ok(()),

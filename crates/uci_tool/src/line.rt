@@ -7,6 +7,7 @@ ghost use Rattle.uci_tool.specs.Texts as texts;
 ghost use Rattle.uci_tool.specs.Folder.{folder_of};
 ghost use Rattle.uci_tool.specs.Line as spec;
 ghost use Rattle.uci_tool.specs.Passes as passes;
+ghost use Rattle.uci_tool.specs.Stops.{StaysOrStops};
 
 use crate::Stop;
 use crate::adding::{add, revert_word};
@@ -38,6 +39,8 @@ pub fn carry_out<D: Disk, T: Disk>(
         (passes.command_passes options.now (folder_of store.old) command.now) }
     ensures writes { Writes result store.old store.new
         (D.view files.old) (D.view files.new) (T.view staged.old) (T.view staged.new) }
+    ensures images { StaysOrStops store.old D.view files.old files.new
+        (passes.command_passes options.now (folder_of store.old) command.now) }
 {
     match command {
         Command::Show { path } => show(alloc, options, store, path),
@@ -152,6 +155,8 @@ fn commit<D: Disk, T: Disk>(
         (passes.of_commit (folder_of store.old) name.now) }
     ensures writes { Writes result store.old store.new
         (D.view files.old) (D.view files.new) (T.view staged.old) (T.view staged.new) }
+    ensures images { StaysOrStops store.old D.view files.old files.new
+        (passes.of_commit (folder_of store.old) name.now) }
 {
     match name {
         Some(name) => {
@@ -189,6 +194,8 @@ pub fn carry_lines<D: Disk, T: Disk>(
         (passes.lines_passes options.now (folder_of store.old) lines.now) }
     ensures writes { Writes result store.old store.new
         (D.view files.old) (D.view files.new) (T.view staged.old) (T.view staged.new) }
+    ensures images { StaysOrStops store.old D.view files.old files.new
+        (passes.lines_passes options.now (folder_of store.old) lines.now) }
 {
     let mut output = Vec::new(alloc);
     let mut told = Vec::new(alloc);
@@ -244,6 +251,8 @@ fn carry_line<D: Disk, T: Disk>(
         (passes.line_passes options.now (folder_of store.old) line.now.words) }
     ensures writes { Writes result store.old store.new
         (D.view files.old) (D.view files.new) (T.view staged.old) (T.view staged.new) }
+    ensures images { StaysOrStops store.old D.view files.old files.new
+        (passes.line_passes options.now (folder_of store.old) line.now.words) }
 {
     match read_command(line.words.as_slice()) {
         Ok(Some(command)) => carry_out(alloc, options, store, files, staged, &command),

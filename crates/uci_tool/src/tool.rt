@@ -1,5 +1,5 @@
 //! The whole command.
-ghost use Rattle.std.specs.Prelude.{◌≡◌, ◌≢◌, ◌≤◌, [], false, length};
+ghost use Rattle.std.specs.Prelude.{ℕ, ◌≡◌, ◌≢◌, ◌≤◌, ◌⊎◌, List, [], false, length};
 ghost use Rattle.plane_io.specs.declared.input.TheConstants.{INPUT_LIMIT as MOST};
 ghost use Rattle.snap_disk.specs.Images.{SameDisk};
 ghost use Rattle.uci_staged.specs.Kept.{Follows};
@@ -8,11 +8,12 @@ ghost use Rattle.uci_words.specs.Command.{reads_input};
 ghost use Rattle.uci_tool.specs.Answers.{Carries, Writes, IsOpen, carried_as};
 ghost use Rattle.uci_tool.specs.Cut as spec;
 ghost use Rattle.uci_tool.specs.Done.{carried, batch_of};
-ghost use Rattle.uci_tool.specs.Ends.{Ends, IsTold, end_of, reads, source_of, sink_of, streams_of};
+ghost use Rattle.uci_tool.specs.Ends.{Ends, IsInput, IsTold, end_of, reads, source_of, sink_of, streams_of};
 ghost use Rattle.uci_tool.specs.Folder.{folder_of};
-ghost use Rattle.uci_tool.specs.Passes.{passes, batch_passes};
+ghost use Rattle.uci_tool.specs.Passes.{passes, batch_passes, uci_passes};
 ghost use Rattle.uci_tool.specs.Reading.{lines_in};
 ghost use Rattle.uci_tool.specs.Runs as runs;
+ghost use Rattle.uci_tool.specs.Stops.{CommandStops, StaysOrStops, StopsAmong};
 
 use crate::Stop;
 use crate::importing::import;
@@ -95,6 +96,12 @@ pub fn uci<D: Disk, T: Disk, S: Source, O: Sink, E: Sink>(
     ensures same { SameDisk (D.view files.old) (D.view files.new) }
     ensures follows { Follows (T.view staged.old) (T.view staged.new) }
 
+    // Whenever it stops, each image of the files gives what a folder that the command passes through is to give.
+    ensures images { (files.new ≡ files.old) ⊎ ((text : List ℕ)
+        × IsInput words.now (source_of S.Source input.old input.new) text
+        × StopsAmong store.old (D.view files.old) (D.view files.new)
+        (uci_passes words.now (folder_of store.old) text)) }
+
     // With 0 nothing was written to the error output. A command that reads no input leaves it alone.
     ensures silent { result.status ≡ 0 → err.new ≡ err.old }
     ensures unread { reads words.now ≡ false → input.new ≡ input.old }
@@ -131,6 +138,8 @@ fn run<D: Disk, T: Disk, S: Source>(
         (source_of S.Source input.old input.new) }
     ensures leaves { runs.Leaves result store.new
         (D.view files.old) (D.view files.new) (T.view staged.old) (T.view staged.new) }
+    ensures images { CommandStops options.now command.now store.old
+        (source_of S.Source input.old input.new) D.view files.old files.new }
     ensures unread { reads_input command.now ≡ false → input.new ≡ input.old }
 {
     match read_text(alloc, command, input) {
@@ -179,6 +188,8 @@ fn run_on<D: Disk, T: Disk>(
         (folder_of store.old) (folder_of store.new) text.now }
     ensures leaves { runs.Leaves result store.new
         (D.view files.old) (D.view files.new) (T.view staged.old) (T.view staged.new) }
+    ensures images { StaysOrStops store.old D.view files.old files.new
+        (passes options.now (folder_of store.old) command.now text.now) }
 {
     match carry(alloc, options, store, files, staged, command, text) {
         Ok(report) => Ok(report),
@@ -205,6 +216,8 @@ fn carry<D: Disk, T: Disk>(
         (passes options.now (folder_of store.old) command.now text.now) }
     ensures writes { Writes result store.old store.new
         (D.view files.old) (D.view files.new) (T.view staged.old) (T.view staged.new) }
+    ensures images { StaysOrStops store.old D.view files.old files.new
+        (passes options.now (folder_of store.old) command.now text.now) }
 {
     match command {
         Command::Import { name } => change(
@@ -232,6 +245,8 @@ fn batch<D: Disk, T: Disk>(
         (batch_passes options.now (folder_of store.old) (lines_in input.now)) }
     ensures writes { Writes result store.old store.new
         (D.view files.old) (D.view files.new) (T.view staged.old) (T.view staged.new) }
+    ensures images { StaysOrStops store.old D.view files.old files.new
+        (batch_passes options.now (folder_of store.old) (lines_in input.now)) }
 {
     match read_lines(alloc, input) {
         Ok(lines) => carry_lines(alloc, options, store, files, staged, lines.as_slice()),

@@ -1,10 +1,11 @@
 use Rattle.std.proofs.Common.{ap, refl}
 use Rattle.uci_tool.specs.declared.tool.UciEnd.{UciEnd}
-use Rattle.uci_tool.specs.Ends.{streams_of}
+use Rattle.uci_tool.specs.Ends.{source_of, streams_of}
 use Rattle.uci_tool.specs.Folder.{folder_of}
 use Rattle.uci_store.specs.Store.{has_failed}
 use Rattle.uci_tool.proofs.RunLemmas.{usage_ends, carried_ends, cut_ends, ready_by}
 use Rattle.uci_tool.proofs.SilentLemmas.{silent_end}
+use Rattle.uci_tool.proofs.StopLemmas.{whole_stops}
 use Rattle.uci_tool.proofs.tool.uci.Goals as goal
 
 pub returns-in_default-command-clause-ended : goal.returns-in_default-command-clause-ended
@@ -31,3 +32,9 @@ pub returns-in-Ok-run-clause-silent : goal.returns-in-Ok-run-clause-silent
 returns-in-Ok-run-clause-silent g c zero =
     c.end_with.ensures.silent zero
     (silent_end c.in-Ok.asked.options.quiet c.in-Ok.asked.options c.in-Some.command (folder_of c.args.store.now) (folder_of c.run.new.store) _ _ _ c.in-Ok-run.report c.end_with.result c.in-Ok-run.ensures.runs c.end_with.ensures.ends zero)
+
+pub returns-in-Ok-run-clause-images : goal.returns-in-Ok-run-clause-images
+returns-in-Ok-run-clause-images g c = whole_stops g.D.Disk.view c.args.words.now c.in-Ok.asked c.in-Some.command c.args.store.now (source_of g.S.Source c.args.input.now c.run.new.input) c.args.files.now c.run.new.files c.in-Ok.ensures c.in-Some.is c.in-Ok-run.ensures.images
+
+pub returns-clause-images : goal.returns-clause-images
+returns-clause-images g c = whole_stops g.D.Disk.view c.args.words.now c.in-Ok.asked c.in-Some.command c.args.store.now (source_of g.S.Source c.args.input.now c.run.new.input) c.args.files.now c.run.new.files c.in-Ok.ensures c.in-Some.is c.in-Err.ensures.images
