@@ -219,5 +219,5 @@ module _ (words : List (List ℕ)) (told : Option (ℕ → ℕ)) (streams : Stre
 pub run_comes : (words : List (List ℕ)) (told : Option (ℕ → ℕ)) (streams : Streams) (files files_now staged staged_now : View) (status : ℕ) → RunEnds words told streams files files_now staged staged_now status → RunComes words told streams files files_now staged staged_now status
 run_comes words told streams files files_now staged staged_now status (no_command none is out text) = usage_comes words told streams files files_now staged staged_now status none is
 run_comes words told streams files files_now staged staged_now status (not_opened some now moment shut why is out text stops) = shut_comes words told streams files files_now staged staged_now status some now moment shut why is
-run_comes words told streams files files_now staged staged_now status (opened some now moment before after found end ends is held) = opened_comes words told streams files files_now staged staged_now some now moment before after found end status ends is
+run_comes words told streams files files_now staged staged_now status (opened some now moment before after found end ends is held stops) = opened_comes words told streams files files_now staged staged_now some now moment before after found end status ends is
 run_comes words told streams files files_now staged staged_now status (words_unread is out text files_stay staged_stay) = memory_comes words told streams files files_now staged staged_now status is

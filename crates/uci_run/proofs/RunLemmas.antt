@@ -23,9 +23,12 @@ use Rattle.uci_tool.specs.Folder.{Folder, folder_of}
 use Rattle.uci_words.specs.declared.words.Asked.{Asked}
 use Rattle.uci_words.specs.Words.{asked_of}
 use Rattle.uci_tool.specs.Ends.{Stream, Streams, IsTold, Tells, IsInput, Ends, carried_out, input_too_long, read_failed, write_failed, disk_failed, no_memory}
+use Rattle.uci_tool.specs.Passes.{uci_passes}
+use Rattle.uci_tool.specs.Stops.{OpensAmong, StopsAmong}
+use Rattle.snap_disk.proofs.Moments.{joins}
 use Rattle.uci_run.specs.Shut.{shut_of, IsShut}
 use Rattle.plane_outside.specs.Given.{Advances}
-use Rattle.uci_run.specs.Folders.{IsMoment, IsFound, IsHeld}
+use Rattle.uci_run.specs.Folders.{IsMoment, IsFound, IsHeld, StopsAsFound, StopsOver, Stops}
 
 -- what is left alone stays
 pub same_stays : (view : View) → Stays view view
@@ -98,6 +101,28 @@ held files staged store on_files on_staged ready = record {
   opens = on_files.snap.durable (on_files.ready ready);
   kept = on_staged.kept ready;
 }
+
+-- what a stop leaves: images as opening left them, and those that the command passed through
+module _ (words : List (List ℕ)) (now : ℕ) (streams : Streams) (store : Store) (old mid new : View) where
+  pub stops_over : SameDisk old mid → ((read : Files) → old.seen ≡ Some read → LeavesOnly old mid (FromImage now old))
+      → IsOnFiles store mid → has_failed store ≡ false
+      → (input : List ℕ) → IsInput words streams.input input
+      → StopsAmong store mid new (uci_passes words (folder_of store) input)
+      → Stops words now streams (folder_of store) old new
+  stops_over same first on ready input is among = inr (record {
+    input = input;
+    is = is;
+    leaves = λ read tells. let seen = same.tells read tells in
+        joins old mid new (FromImage now old) (OpensAmong mid.names (uci_passes words (folder_of store) input)) _
+        (first read tells) (among (on.ready ready) seen.0 seen.1) (λ image from. inl from)
+        (λ image opens. inr (subst (λ names. OpensAmong names (uci_passes words (folder_of store) input) image) same.names opens));
+  })
+
+-- a command that left the disk alone leaves what opening left
+pub stops_found : {D : Type 0} (view : D → View) (words : List (List ℕ)) (now : ℕ) (streams : Streams) (before : Folder) (old mid new : D) → new ≡ mid
+    → ((read : Files) → (view old).seen ≡ Some read → LeavesOnly (view old) (view mid) (FromImage now (view old)))
+    → Stops words now streams before (view old) (view new)
+stops_found view words now streams before old mid new same first = inl (λ read tells. subst (λ d. LeavesOnly (view old) (view d) (FromImage now (view old))) (sym same) (first read tells))
 
 -- a text that was written unless the words ask for silence is told as they ask
 pub told_of : (quiet : Bool) (words : List (List ℕ)) (written text : List ℕ) (stream : Stream) → quiet ≡ (asked_of words).options.quiet → written ≡ text

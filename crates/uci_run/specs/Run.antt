@@ -8,7 +8,7 @@ use Rattle.uci_tool.specs.Ends.{Streams, IsSilent, IsTold, Tells, Ends}
 use Rattle.uci_run.specs.declared.shut.Shut.{Shut}
 use Rattle.uci_run.specs.Asking.{asks}
 use Rattle.uci_run.specs.Shut.{status_of, text_of, IsShut}
-use Rattle.uci_run.specs.Folders.{IsMoment, IsFound, IsHeld, StopsAsFound}
+use Rattle.uci_run.specs.Folders.{IsMoment, IsFound, IsHeld, StopsAsFound, Stops}
 
 -- The words ask for no command. Or the folder is not opened, and why. Or it was opened at a moment, and the command ended over what
 -- was found then; unless a disk failed, the disks hold what it left. Or there was no memory to read the words, and the disks are
@@ -22,7 +22,7 @@ pub data RunEnds (words : List (List ℕ)) (told : Option (ℕ → ℕ)) (stream
       → RunEnds words told streams files files_now staged staged_now status
   opened : asks words ≡ true → (now : ℕ) → IsMoment told now → (before after : Folder) → IsFound files staged now before
       → (end : UciEnd) → Ends words before after streams files files_now staged staged_now end → status ≡ end.status
-      → (status ≢ 5 → IsHeld files_now staged_now after)
+      → (status ≢ 5 → IsHeld files_now staged_now after) → Stops words now streams before files files_now
       → RunEnds words told streams files files_now staged staged_now status
   words_unread : status ≡ 8 → IsSilent streams.out → IsTold texts.OUT_OF_MEMORY.now streams.err
       → Stays files files_now → Stays staged staged_now

@@ -41,7 +41,7 @@ pub fn run_uci<D: Disk, T: Disk, S: Source, O: Sink, E: Sink, C: Clock>(
 ) -> u8
     requires same_packages { (T.view staged.old).names ≡ (D.view files.old).names }
 
-    // How the run ends, and what it leaves; and when it ends so.
+    // How the run ends, what it leaves, and what a stop leaves at any moment; and when it ends so.
     ensures ended { RunEnds words.now (C.moments clock.old)
         (streams_of S.Source input.old input.new O.Sink out.old out.new E.Sink err.old err.new)
         (D.view files.old) (D.view files.new) (T.view staged.old) (T.view staged.new) result }

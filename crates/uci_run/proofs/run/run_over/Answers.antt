@@ -1,9 +1,10 @@
-use Rattle.std.proofs.Common.{ℕ, List, refl, sym, subst}
+use Rattle.std.proofs.Common.{ℕ, List, inl, inr, refl, sym, subst}
 use Rattle.uci_tool.specs.Ends.{streams_of}
 use Rattle.uci_tool.specs.Folder.{folder_of}
 use Rattle.uci_run.specs.Shut.{IsShut}
 use Rattle.uci_run.specs.Run.{not_opened, opened}
-use Rattle.uci_run.proofs.RunLemmas.{moment_is, shut_is, ends_before, found, held, told_of}
+use Rattle.uci_run.specs.Folders.{Stops}
+use Rattle.uci_run.proofs.RunLemmas.{moment_is, shut_is, ends_before, found, held, stops_found, stops_over, told_of}
 use Rattle.uci_run.proofs.run.run_over.Goals as goal
 
 pub returns-in-Ok-clause-ended : goal.returns-in-Ok-clause-ended
@@ -19,12 +20,18 @@ returns-in-Ok-clause-ended g c =
     let staged_new = g.T.Disk.view c.uci.new.staged in
     let opening = c.in-Ok.ensures in
     let ends = c.uci.ensures in
+    let stops : Stops words now streams (folder_of c.in-Ok.store) old new =
+    elim ends.images as (λ _. Stops words now streams (folder_of c.in-Ok.store) old new) [
+      | inl same ↦ stops_found g.D.Disk.view words now streams (folder_of c.in-Ok.store) c.args.files.now c.open.new.files c.uci.new.files same opening.images
+      | inr (text, is, among) ↦ stops_over words now streams c.in-Ok.store old mid new opening.same opening.images opening.files opening.ready text is among
+    ] in
     opened c.requires.some now (moment_is _ _ now c.now-now.ensures.advances) (folder_of c.in-Ok.store) (folder_of c.uci.new.store)
     (found old mid staged_old staged_mid now c.in-Ok.store opening.same opening.reads opening.gives opening.files opening.staged opening.own opening.ready)
     c.uci.result
     (ends_before words (folder_of c.in-Ok.store) (folder_of c.uci.new.store) streams old mid new staged_old staged_mid staged_new c.uci.result opening.same.later opening.reads.later ends.ended)
     refl
     (λ whole. held new staged_new c.uci.new.store ends.files ends.staged (ends.ready whole))
+    stops
 
 pub returns-in-Err-clause-ended : goal.returns-in-Err-clause-ended
 returns-in-Err-clause-ended g c =
