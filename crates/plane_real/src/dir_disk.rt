@@ -139,6 +139,17 @@ fn package_names<R: Files + Alloc + Clone + Drop>(
     Ok(names)
 }
 
+/// Whether a folder has a file of that name.
+fn has_file<R: Files<File = File>>(
+    rt: &R,
+    alloc: Global,
+    folder: &str,
+    name: &str,
+) -> io::Result<bool> {
+    let path = format!(in alloc; "{folder}/{name}")?;
+    Ok(fs::metadata(rt, path.as_str()).is_ok())
+}
+
 /// What a call of the system gave; its failure is counted.
 fn counted<T: Drop>(faults: &mut u64, given: io::Result<T>) -> Result<T, Failed>
     ensures cause { HasCause faults.old faults.new result }
@@ -213,11 +224,15 @@ impl DirDisk {
         if !are_disk_names(&names) || u32::try_from(names.len()).is_err() {
             return Err(io::Error::from(ErrorKind::InvalidInput));
         }
+        let had_gates = has_file(rt, alloc, folder, ".plane-gates")?;
         let mut files = Vec::new(alloc);
         for name in &names {
             files.push(DirFile::open(rt, alloc, folder, name)?)?;
         }
-        files[0].close_gates()?;
+        // Gates that a stop left half made stand beside a snapshot that nobody has written yet.
+        if !had_gates || files[1].size == 0 {
+            files[0].close_gates()?;
+        }
         fs::open(rt, folder)?.sync_all()?;
         Ok(DirDisk {
             names,

@@ -76,6 +76,21 @@ fn a_folder_is_a_disk(rt: HostRuntime) -> Result<(), Fail> {
 }
 
 #[test]
+fn short_gates_stay_beside_a_snapshot(rt: HostRuntime) -> Result<(), Fail> {
+    let alloc = rt.alloc();
+    for (snapshot, size) in [(b"".as_slice(), 2u64), (b"body".as_slice(), 1u64)] {
+        let _ = fs::remove_dir_all(&rt, "gates");
+        fs::create_dir_all(&rt, "gates")?;
+        fs::write(&rt, "gates/.plane-gates", b"O")?;
+        fs::write(&rt, "gates/.plane-snapshot", snapshot)?;
+        let disk = DirDisk::open(&rt, alloc, "gates")?;
+        sizes_are(&rt, &disk, &[size, snapshot.len() as u64]);
+    }
+    fs::remove_dir_all(&rt, "gates")?;
+    Ok(())
+}
+
+#[test]
 fn a_staged_folder_has_the_given_names(rt: HostRuntime) -> Result<(), Fail> {
     let alloc = rt.alloc();
     let _ = fs::remove_dir_all(&rt, "tmp");
