@@ -1,10 +1,50 @@
 # Completion of plane(1) for bash: source it, or install it as /usr/share/bash-completion/completions/plane.
 
+# The words of `plane uci`: options, then a command, then packages of the folder.
+_plane_uci() {
+	local word=${COMP_WORDS[COMP_CWORD]} folder=/etc/config place=2 option
+	while [ "$place" -lt "$COMP_CWORD" ]; do
+		option=${COMP_WORDS[place]}
+		case $option in
+		-c | -t | -d | -f)
+			if [ $((place + 1)) -eq "$COMP_CWORD" ]; then
+				case $option in
+				-c | -t) mapfile -t COMPREPLY < <(compgen -d -- "$word") ;;
+				-f) mapfile -t COMPREPLY < <(compgen -f -- "$word") ;;
+				esac
+				return
+			fi
+			[ "$option" = -c ] && folder=${COMP_WORDS[place + 1]}
+			place=$((place + 2))
+			;;
+		-n | -N | -X | -m | -q) place=$((place + 1)) ;;
+		*) break ;;
+		esac
+	done
+	if [ "$place" -eq "$COMP_CWORD" ]; then
+		COMPREPLY=($(compgen -W '-c -t -d -f -n -N -X -m -q show get set add_list del_list delete rename reorder add changes
+			revert commit export import batch' -- "$word"))
+		return
+	fi
+	# The first word behind the command begins with a package.
+	if [ $((place + 1)) -eq "$COMP_CWORD" ] && [ "${COMP_WORDS[place]}" != batch ]; then
+		local file
+		for file in "$folder"/*; do
+			file=${file##*/}
+			[[ $file == "$word"* && $file != *[!A-Za-z0-9_-]* ]] && COMPREPLY+=("$file")
+		done
+	fi
+}
+
 _plane() {
 	local word=${COMP_WORDS[COMP_CWORD]}
 	COMPREPLY=()
 	if [ "$COMP_CWORD" -eq 1 ]; then
-		COMPREPLY=($(compgen -W 'start --help --version' -- "$word"))
+		COMPREPLY=($(compgen -W 'start uci --help --version' -- "$word"))
+		return
+	fi
+	if [ "${COMP_WORDS[1]}" = uci ]; then
+		_plane_uci
 		return
 	fi
 	# Devices of this machine; each is named once.
