@@ -212,7 +212,7 @@ module _ (words : List (List ℕ)) (told : Option (ℕ → ℕ)) (streams : Stre
   opened_comes end status (disk_failed (inr rose) ends out text) same =
       let never : IsCalm streams files files_now staged staged_now → ⊥ = λ calm. let still = calm.at_staged in omega arith in
       ran_comes status (λ calm failed. never calm) (λ text calm reads left over. absurd (never calm)) (λ calm fits. absurd (never calm))
-  opened_comes end status (no_memory ends out passed) same =
+  opened_comes end status (no_memory ends out text passed) same =
       let by : status ≡ 8 = same ∙ ap (λ (e : UciEnd). e.status) ends in
       ran_comes status (λ calm failed. no_failure_of status 8 by (omega arith) failed) (λ text calm reads left over. inr by) (λ calm fits. inr by)
 

@@ -1,4 +1,5 @@
-ghost use Rattle.std.specs.Prelude.{◌≡◌, [], true, false, IfOk, if◌then◌else◌};
+ghost use Rattle.std.specs.Prelude.{ℕ, ◌≡◌, ◌⊎◌, [], true, false, IfOk, if◌then◌else◌};
+ghost use Rattle.plane_outside.specs.Given.{Advances};
 ghost use Rattle.snap_disk.specs.Images.{SameDisk};
 ghost use Rattle.uci_staged.specs.Kept.{Follows};
 ghost use Rattle.uci_words.specs.Words.{asked_of};
@@ -57,6 +58,10 @@ pub fn run_uci<D: Disk, T: Disk, S: Source, O: Sink, E: Sink, C: Clock>(
     ensures silent { result ≡ 0 → err.new ≡ err.old }
     ensures unread { reads words.now ≡ false → input.new ≡ input.old }
 
+    // The clock is asked once, or not at all.
+    ensures once { (clock.new ≡ clock.old) ⊎ ((now : ℕ)
+        × Advances (C.moments clock.old) (C.moments clock.new) now) }
+
     // Words that ask for no command leave all but the error output alone.
     ensures unasked { asks words.now ≡ false → (input.new ≡ input.old)
         × (out.new ≡ out.old) × (files.new ≡ files.old) × (staged.new ≡ staged.old)
@@ -96,6 +101,7 @@ fn run_over<D: Disk, T: Disk, S: Source, O: Sink, E: Sink, C: Clock>(
     ensures follows { Follows (T.view staged.old) (T.view staged.new) }
     ensures silent { result ≡ 0 → err.new ≡ err.old }
     ensures unread { reads words.now ≡ false → input.new ≡ input.old }
+    ensures once { (now : ℕ) × Advances (C.moments clock.old) (C.moments clock.new) now }
 {
     let now = clock.now();
     match Store::open(alloc, files, staged, now) {

@@ -128,7 +128,7 @@ cut_ends words asked command before after streams a b c d cut.TooLong end is som
 cut_ends words asked command before after streams a b c d cut.ReadFailed end is some runs cause silent ends told = read_failed runs.0 ends silent (tells_by words asked texts.DISK_FAILED.now streams.err is told) runs.1
 cut_ends words asked command before after streams a b c d cut.WriteFailed end is some runs cause silent ends told = absurd runs
 cut_ends words asked command before after streams a b c d cut.DiskFailed end is some runs cause silent ends told = disk_failed (cause refl) ends silent (tells_by words asked texts.DISK_FAILED.now streams.err is told)
-cut_ends words asked command before after streams a b c d cut.Memory end is some runs cause silent ends told = no_memory ends silent (passed_by words asked command before after streams.input is some runs)
+cut_ends words asked command before after streams a b c d cut.Memory end is some runs cause silent ends told = no_memory ends silent (inl (tells_by words asked texts.OUT_OF_MEMORY.now streams.err is told)) (passed_by words asked command before after streams.input is some runs)
 
 -- a run that a cut did not end by a disk leaves a store that goes on
 pub ready_by : (short : Cut) (status : ℕ) (failed : Bool) → status ≡ cut_status short → (◌≢◌ {A = Result Report Cut} (Err short) (Err cut.DiskFailed) → failed ≡ false) → status ≢ 5 → failed ≡ false

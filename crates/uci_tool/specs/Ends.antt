@@ -75,6 +75,10 @@ IsPassed words before after stream =
 abbrev pub Tells : List (List ℕ) → List ℕ → Stream → Type 0
 Tells words text stream = IsTold (told_by (asked_of words).options text) stream
 
+-- Want of memory is told so. Where there was none to read the words, it is told also to words that ask for silence.
+abbrev pub TellsMemory : List (List ℕ) → Stream → Type 0
+TellsMemory words stream = Tells words texts.OUT_OF_MEMORY.now stream ⊎ IsTold texts.OUT_OF_MEMORY.now stream
+
 -- A run has an ending. One that is done, refused or asked for nothing leaves what `uci_done` says, output and error text
 -- included. One whose output failed leaves its folder, and a front of its output. One that is cut short writes nothing to
 -- the output: by its input, which leaves the folder; by a disk; or for want of memory, which leaves a folder that the
@@ -99,5 +103,5 @@ pub data Ends (words : List (List ℕ)) (before after : Folder) (streams : Strea
   disk_failed : Rose files_before.faults files_after.faults ⊎ Rose staged_before.faults staged_after.faults
       → end ≡ end_of 5 0 → IsSilent streams.out → Tells words texts.DISK_FAILED.now streams.err
       → Ends words before after streams files_before files_after staged_before staged_after end
-  no_memory : end ≡ end_of 8 0 → IsSilent streams.out → IsPassed words before after streams.input
+  no_memory : end ≡ end_of 8 0 → IsSilent streams.out → TellsMemory words streams.err → IsPassed words before after streams.input
       → Ends words before after streams files_before files_after staged_before staged_after end
