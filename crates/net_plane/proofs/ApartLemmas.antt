@@ -1,8 +1,7 @@
 -- The plane after what happens to a device that is apart.
-use Rattle.std.proofs.Common.{◌≡◌, inl, inr, ℕ, List, [], ◌∷◌, Bool, true, false, cond, Contains, Option, Some, None, Result, Ok, Err, OnOk, OnErr, refl, ap, sym, subst, ◌∙◌}
+use Rattle.std.proofs.Common.{◌≡◌, inl, inr, ℕ, List, [], Bool, true, false, Contains, Option, Some, None, Result, Ok, Err, OnOk, OnErr, refl, ap, sym, subst, ◌∙◌}
 use Rattle.std.specs.Prelude.{not, ◌&&◌, ◌||◌, is_some, bytes_eq}
-use Rattle.std.specs.List.{list_any, find}
-use Rattle.std.specs.Option.{option_map}
+use Rattle.std.specs.List.{list_any}
 use Rattle.kern_model.specs.declared.object.Device.{Device}
 use Rattle.kern_model.specs.declared.object.Object.{Object}
 use Rattle.kern_model.specs.declared.object.DevEvent.{DevEvent}
@@ -22,7 +21,7 @@ use Rattle.net_rules.specs.declared.refusal.Refusal.{Refusal}
 use Rattle.net_rules.specs.declared.refusal.Refusal.TheVariants as refused
 use Rattle.net_rules.specs.Notices.{notices_between}
 use Rattle.net_rules.specs.Inputs.{device_in}
-use Rattle.net_rules.specs.After.{without_device, devices_after, after}
+use Rattle.net_rules.specs.After.{devices_after, after}
 use Rattle.net_rules.specs.Moment.{Moment, devices_of, want_of}
 use Rattle.net_rules.specs.Refusal.{or_else, refused_if, is_held_link, refusal}
 use Rattle.net_rules.specs.Rows.{is_plain}
@@ -37,7 +36,7 @@ use Rattle.net_plane.specs.Kept.{IsKept}
 use Rattle.net_plane.specs.Network.{Network}
 use Rattle.net_plane.specs.NetError.{told_device}
 use Rattle.net_plane.specs.Taken.{IsAfter, AnswersOrFails, TellsOnce}
-use Rattle.net_plane.specs.Apart.{needs_more, is_apart, ComesOrLeaves}
+use Rattle.net_plane.specs.Apart.{needs_more, is_apart, FitsList}
 use Rattle.net_plane.proofs.DeviceLemmas.{wanted_allowed, kept_then, is_after}
 
 -- a device that is apart is not reached, and takes nothing along
@@ -67,20 +66,12 @@ none_there : (o : Option Device) → is_some o ≡ false → o ≡ None
 none_there None h = refl
 none_there (Some d) h = cc h
 
-pub newcomer : (moment : Moment) (held : List Object) (what : DevEvent) → needs_more held what ≡ false → refusal moment (event.Device what) ≡ None → ComesOrLeaves moment.inputs.devices what
-newcomer moment held (device.Add name carrier mtu mac) more free =
+pub fits_list : (moment : Moment) (what : DevEvent) → refusal moment (event.Device what) ≡ None → FitsList moment.inputs.devices what
+fits_list moment (device.Add name carrier mtu mac) free =
     none_there (device_in moment.inputs.devices name)
     (first_false (is_some (device_in moment.inputs.devices name)) (not (is_plain moment.inputs.conf name) || is_held_link moment.held name) (not_refused _ refused.Known _ free))
-newcomer moment held (device.Remove name) more free = tt
-newcomer moment held (device.Carrier name on) more free = cc more
-
-without_step : (name : List ℕ) (e : List ℕ × Device) (es : List (List ℕ × Device)) (b : Bool) → (device_in es name ≡ None → without_device name es ≡ es) → option_map (λ (x : List ℕ × Device). x.1) (cond b (Some e) (find (λ (x : List ℕ × Device). bytes_eq x.0 name) es)) ≡ None → cond (not b) (e ∷ without_device name es) (without_device name es) ≡ e ∷ es
-without_step name e es true rest none = cc none
-without_step name e es false rest none = ap (λ others. e ∷ others) (rest none)
-
-pub without_same : (name : List ℕ) (es : List (List ℕ × Device)) → device_in es name ≡ None → without_device name es ≡ es
-without_same name [] h = refl
-without_same name (e ∷ es) h = without_step name e es (bytes_eq e.0 name) (without_same name es) h
+fits_list moment (device.Remove name) free = tt
+fits_list moment (device.Carrier name on) free = tt
 
 module _ (inputs : Inputs) (before : Course) (what : DevEvent) (kept : IsKept inputs before)
     (free : refusal (record { inputs = inputs; held = set_of before.held }) (event.Device what) ≡ None) (apart : is_reached inputs (name_of what) ≡ false) where

@@ -7,4 +7,5 @@ pub mod AnswerLemmas
 pub mod LoadLemmas
 pub mod StatusLemmas
 pub mod ApartLemmas
+pub mod PresentLemmas
 pub mod ReachedLemmas

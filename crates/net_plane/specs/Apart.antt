@@ -10,20 +10,19 @@ use Rattle.net_rules.specs.Inputs.{device_in}
 use Rattle.net_apart.specs.Reach.{name_of, is_reached}
 use Rattle.net_plane.specs.Network.{Network}
 
--- An event needs more than the list of devices with one more or one less: a device that leaves takes
--- along what is held at its name, and one that tells of its carrier changes in its place.
+-- An event needs more than a change of the list of devices: a device that leaves takes along what is
+-- held at its name.
 abbrev pub needs_more : List Object → DevEvent → Bool
 needs_more held (device.Add name carrier mtu mac) = false
 needs_more held (device.Remove name) = list_any (is_at name) held
-needs_more held (device.Carrier name on) = true
+needs_more held (device.Carrier name on) = false
 
--- no row reaches the name of the device, and the event needs no more than the list of devices
+-- no row reaches the name of the device, and the event needs no more than a change of the list
 abbrev pub is_apart : Network → DevEvent → Bool
 is_apart network what =
     not (is_reached network.inputs (name_of what)) && not (needs_more network.held what)
 
--- a device comes that is none of those that are present, or one leaves
-abbrev pub ComesOrLeaves : List (List ℕ × Device) → DevEvent → Type 0
-ComesOrLeaves devices (device.Add name carrier mtu mac) = device_in devices name ≡ None
-ComesOrLeaves devices (device.Remove name) = ⊤
-ComesOrLeaves devices (device.Carrier name on) = ⊥
+-- a device that comes is none of those that are present
+abbrev pub FitsList : List (List ℕ × Device) → DevEvent → Type 0
+FitsList devices (device.Add name carrier mtu mac) = device_in devices name ≡ None
+FitsList devices _ = ⊤

@@ -24,7 +24,7 @@ use std::alloc::Global;
 use std::mem;
 
 impl Net {
-    /// Whether no row reaches the name of the device and the event needs no more than the list of devices.
+    /// Whether no row reaches the name of the device and the event needs no more than a change of the list of devices.
     pub(crate) fn is_apart(&self, event: &DevEvent) -> bool
         ensures { result ≡ apart.is_apart self.now event.now }
     {
@@ -72,7 +72,7 @@ fn tell_in_place<K: Kernel>(
     kernel: &mut K,
     event: &DevEvent,
 ) -> Result<(), DeviceError>
-    requires kind { apart.ComesOrLeaves devices.old.items event.now }
+    requires fits { apart.FitsList devices.old.items event.now }
     requires of { course.IsOf K.Kernel kernel.old settling.old }
     requires may { MayHappen (course.devices_of settling.old) (course.held_of settling.old)
         event.now }
@@ -131,7 +131,7 @@ fn needs_more(held: &[Object], event: &DevEvent) -> bool
     match event {
         DevEvent::Remove { name } => has_at(held, name),
         DevEvent::Add { .. } => false,
-        DevEvent::Carrier { .. } => true,
+        DevEvent::Carrier { .. } => false,
     }
 }
 

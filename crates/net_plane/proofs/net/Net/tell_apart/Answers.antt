@@ -6,17 +6,15 @@ use Rattle.net_rules.specs.After.{after}
 use Rattle.net_rules.specs.Moment.{devices_of}
 use Rattle.net_plane.specs.Network.{Network, moment_of}
 use Rattle.net_plane.specs.Taken.{IsAfter, AnswersOrFails, TellsOnce}
-use Rattle.net_plane.specs.Apart.{is_apart, ComesOrLeaves}
+use Rattle.net_plane.specs.Apart.{is_apart, FitsList}
 use Rattle.net_plane.proofs.DeviceLemmas.{may}
-use Rattle.net_plane.proofs.ApartLemmas.{not_reached, nothing_along, leaves_all, newcomer, to_allowed, kept_ends, after_ends, same_ends, ok_told, err_told, causes_told, asked_told}
+use Rattle.net_plane.proofs.ApartLemmas.{not_reached, nothing_along, leaves_all, fits_list, to_allowed, kept_ends, after_ends, same_ends, ok_told, err_told, causes_told, asked_told}
 use Rattle.net_plane.proofs.net.Net.tell_apart.Goals as goal
 
-pub tell_in_place-ended-requires-clause-kind : goal.tell_in_place-ended-requires-clause-kind
-tell_in_place-ended-requires-clause-kind g c =
+pub tell_in_place-ended-requires-clause-fits : goal.tell_in_place-ended-requires-clause-fits
+tell_in_place-ended-requires-clause-fits g c =
     let free = subst (λ (n : Network). refusal (moment_of n) (event.Device c.args.event.now) ≡ None) (sym c.self.view_is) c.requires.free in
-    let apart = subst (λ (n : Network). is_apart n c.args.event.now ≡ true) (sym c.self.view_is) c.requires.apart in
-    let no_more = nothing_along (record { inputs = c.self.inside.inputs; held = c.self.inside.settling.held; notices = c.self.inside.notices.items }) c.args.event.now apart in
-    subst (λ ds. ComesOrLeaves ds c.args.event.now) (sym (c.into_vec-devices.ensures ∙ c.replace.ensures.value)) (newcomer (record { inputs = c.self.inside.inputs; held = set_of c.self.inside.settling.held }) c.self.inside.settling.held c.args.event.now no_more free)
+    subst (λ ds. FitsList ds c.args.event.now) (sym (c.into_vec-devices.ensures ∙ c.replace.ensures.value)) (fits_list (record { inputs = c.self.inside.inputs; held = set_of c.self.inside.settling.held }) c.args.event.now free)
 
 pub tell_in_place-ended-requires-clause-of : goal.tell_in_place-ended-requires-clause-of
 tell_in_place-ended-requires-clause-of g c = record {
