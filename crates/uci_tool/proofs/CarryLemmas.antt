@@ -133,7 +133,7 @@ has_fault (text_error.ArgumentCount line) no' e = cc
 has_fault (text_error.BadName line) no' e = cc
 has_fault text_error.Memory no' e = absurd (no' refl)
 
-command_front : (options : Options) (folder : Folder) (asked : Command) → IsAmong folder (command_passes options folder asked)
+pub command_front : (options : Options) (folder : Folder) (asked : Command) → IsAmong folder (command_passes options folder asked)
 command_front options folder (command.Show path) = inl refl
 command_front options folder (command.Get path) = inl refl
 command_front options folder (command.Stage verb word) = inl refl
@@ -158,7 +158,7 @@ lines_front : (options : Options) (folder : Folder) (lines : List Line) → IsAm
 lines_front options folder [] = inl refl
 lines_front options folder (line ∷ lines) = among_front folder (line_passes options folder line.words) (lines_passes options (line_done options folder line.words).after lines) (line_front options folder line.words)
 
-batch_front : (options : Options) (folder : Folder) (found : Result (List Line) TextError) → IsAmong folder (batch_passes options folder found)
+pub batch_front : (options : Options) (folder : Folder) (found : Result (List Line) TextError) → IsAmong folder (batch_passes options folder found)
 batch_front options folder (Ok lines) = lines_front options folder lines
 batch_front options folder (Err error) = inl refl
 

@@ -16,3 +16,4 @@ pub mod ImportLemmas
 pub mod CarryLemmas
 pub mod SilentLemmas
 pub mod StopLemmas
+pub mod AloneLemmas

@@ -26,6 +26,8 @@ pub mod Done
 pub mod Passes
 -- what the functions of the crate answer
 pub mod Answers
+-- a command without an input
+pub mod Alone
 -- what cuts a run short
 pub mod Cut
 -- how a run ends, and what it leaves

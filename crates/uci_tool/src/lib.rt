@@ -2,6 +2,7 @@
 #![tactic(auto)]
 
 mod adding;
+mod alone;
 mod committing;
 mod importing;
 mod line;
@@ -14,6 +15,7 @@ mod stop;
 mod texts;
 mod tool;
 
+pub use alone::carry_words;
 pub use report::Report;
 pub use stop::Stop;
 pub use tool::{UciEnd, uci};

@@ -199,7 +199,7 @@ fn run_on<D: Disk, T: Disk>(
 }
 
 /// Carries any command out, on the input that it read.
-fn carry<D: Disk, T: Disk>(
+pub(crate) fn carry<D: Disk, T: Disk>(
     alloc: Global,
     options: &Options,
     store: &mut Store,
