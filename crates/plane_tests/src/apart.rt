@@ -1,6 +1,8 @@
 use crate::files::{ONE_WAN, TWO_ADDRESSES, WITH_ROUTES};
 use crate::histories::net_behind;
+use crate::shown::assert_text;
 use crate::steps::Step::{Add, Answer, Carrier, Load, Remove};
+use kern_model::read_name;
 use std::test::Fail;
 
 #[test]
@@ -70,4 +72,27 @@ ok
     let net = net_behind(&rt, rt.alloc(), &[4], &steps)?;
     assert_eq!(rt; net.due(), 0);
     Ok(())
+}
+
+#[test]
+fn the_carrier_of_a_device_that_no_row_reaches_is_kept(rt: HostRuntime) -> Result<(), Fail> {
+    let steps = [
+        (Add("eth0", false), "ok\n"),
+        (Add("eth1", true), "ok\n"),
+        (Carrier("eth0", true), "ok\n"),
+        (Carrier("eth1", false), "ok\n"),
+        (
+            Load(TWO_ADDRESSES, ""),
+            "link set dev eth0 up
+addr add 10.0.0.1/24 dev eth0
+addr add 10.0.0.2/24 dev eth0
+ok
+",
+        ),
+    ];
+    let net = net_behind(&rt, rt.alloc(), &[], &steps)?;
+    let name = read_name(b"eth1").expect(&rt, "a device name");
+    let text =
+        "{\"available\":true,\"carrier\":false,\"errors\":[],\"name\":\"eth1\",\"type\":\"Network device\",\"up\":false,\"users\":0}";
+    assert_text(&rt, rt.alloc(), net.device_status(rt.alloc(), &name), text)
 }

@@ -9,7 +9,8 @@ use std::alloc::Global;
 use std::process::Abort;
 use std::test::Fail;
 
-fn assert_text(
+/// What is shown is this text.
+pub(crate) fn assert_text(
     rt: &impl Abort,
     alloc: Global,
     shown: Result<Value, NetError>,
