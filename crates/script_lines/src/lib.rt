@@ -6,7 +6,7 @@ mod keyword;
 mod lines;
 mod script_line;
 
-pub use arguments::USUAL_MTU;
+pub use arguments::{USUAL_MTU, read_long_decimal};
 pub use keyword::Keyword;
 pub use lines::read_line;
 pub use script_line::ScriptLine;

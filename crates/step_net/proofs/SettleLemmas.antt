@@ -1,6 +1,6 @@
 -- Settlings and answers.
 use Rattle.std.proofs.Common.{arith, ℕ, ◌≡◌, ◌<◌, ◌≤◌, List, [], ◌∷◌, ◌++◌, Option, Some, None, Bool, false, true, length, take, drop, map, refl, ap, sym, subst, ◌∙◌, append_assoc, append-nil}
-use Rattle.std.specs.Prelude.{Result, Ok, Err}
+use Rattle.std.specs.Prelude.{Result, Ok, Err, OnOk, OnErr}
 use Rattle.std.proofs.lemmas.Bool.Decides.{Decides-ltb}
 use Rattle.plane_words.specs.Causes.{Rose}
 use Rattle.plane_words.specs.Growth.{Grows, GrowsByFront}
@@ -16,7 +16,7 @@ use Rattle.net_plane.specs.declared.net_error.NetError.TheVariants as error
 use Rattle.net_plane.specs.Network.{Network, moment_of, calls_of}
 use Rattle.net_plane.specs.Settled as plane
 use Rattle.step_net.specs.Moved.{Telling, due, made, is_stopped, failed_at_call, asked_in, settled, last_line, is_fine}
-use Rattle.step_net.specs.Finished.{IsFinished, IsCutShort, IsSettled, IsSettledInPart}
+use Rattle.step_net.specs.Finished.{IsFinished, IsCutShort, IsOpened, IsOpenedInPart, Opens, IsSettled, IsSettledInPart}
 use Rattle.step_net.proofs.GrowthLemmas.{grows_more, grows_to_front, front_of_more}
 
 lines_append : (xs ys : List Call) → lines_of (xs ++ ys) ≡ lines_of xs ++ lines_of ys
@@ -235,6 +235,94 @@ cut_in_settling net telling before after s =
           asked = s.asked;
           logged = s.logged;
           written = text.grows;
+          cause = let later = s.later in omega arith;
+          later = s.out_later;
+        };
+      };
+      objects = s.objects;
+      cause = s.cause;
+    }
+
+-- a settling came to its end, and then a text was written
+module _ (net now : Moment) (text : List ℕ) (before mid after : Outside) (stopped : Bool)
+    (s : IsSettled net now before mid stopped) (asked : after.asked ≡ mid.asked)
+    (calls : after.calls ≡ mid.calls) (objects : after.objects ≡ mid.objects)
+    (faults : after.kernel_faults ≡ mid.kernel_faults) where
+  abbrev opened_done : List Call
+  opened_done = made (due net) s.failed_behind
+
+  pub shown_whole : Grows mid.out after.out text → mid.out_faults ≤ after.out_faults
+      → IsOpened net now text before after
+  shown_whole written later = record {
+    failed_behind = s.failed_behind;
+    next = s.next;
+    left = record {
+      asked = subst (λ x. Records before.asked x (asked_in (due net) s.failed_behind)) (sym asked) s.asked;
+      logged = subst (λ x. Grows before.calls x opened_done) (sym calls) s.logged;
+      written = grows_more before.out mid.out after.out (lines_of opened_done) text s.written written;
+      cause = let c = s.cause in omega arith;
+      later = let l = s.later in omega arith;
+    };
+  }
+
+  pub shown_in_part : GrowsByFront mid.out after.out text → Rose before.out_faults after.out_faults
+      → before.out_faults ≤ after.out_faults → IsOpenedInPart net text before after
+  shown_in_part written rose later =
+      let front = grows_to_front before.out mid.out after.out (lines_of opened_done) text s.written written in
+      record {
+        failed_behind = s.failed_behind;
+        left = record {
+          front = record { asked = asked_in (due net) s.failed_behind; calls = opened_done; text = front.front };
+          back = record { asked = []; calls = []; text = front.back };
+          parts = λ i. record {
+            asked = sym (append-nil (asked_in (due net) s.failed_behind)) i;
+            calls = sym (append-nil opened_done) i;
+            text = front.parts i;
+          };
+          left = record {
+            asked = subst (λ x. Records before.asked x (asked_in (due net) s.failed_behind)) (sym asked) s.asked;
+            logged = subst (λ x. Grows before.calls x opened_done) (sym calls) s.logged;
+            written = front.grows;
+            cause = let c = s.cause in omega arith;
+            later = later;
+          };
+        };
+        objects = objects ∙ s.objects;
+        cause = rose;
+      }
+
+-- a settling came to its end, and then a text was written, or a front of it
+pub opening_ends : {X E : Type 0} (net now : Moment) (text : List ℕ) (before mid after : Outside)
+    (stopped : Bool) → IsSettled net now before mid stopped → after.asked ≡ mid.asked
+    → after.calls ≡ mid.calls → after.objects ≡ mid.objects → after.kernel_faults ≡ mid.kernel_faults
+    → (result : Result X E) → OnOk result (Grows mid.out after.out text)
+    → OnErr result (GrowsByFront mid.out after.out text)
+    → OnErr result (Rose mid.out_faults after.out_faults) → mid.out_faults ≤ after.out_faults
+    → Opens net now text before after result
+opening_ends net now text before mid after stopped s asked calls objects faults (Ok x) whole part rose later =
+    shown_whole net now text before mid after stopped s asked calls objects faults whole later
+opening_ends net now text before mid after stopped s asked calls objects faults (Err e) whole part rose later =
+    let first = s.later in
+    shown_in_part net now text before mid after stopped s asked calls objects faults part
+    (omega (arith, first, rose)) (omega (arith, first, later))
+
+-- the settling in front of a text was cut short
+pub opening_cut : (net : Moment) (text : List ℕ) (before after : Outside)
+    → IsSettledInPart net before after → IsOpenedInPart net text before after
+opening_cut net text before after s =
+    let front = front_of_more before.out after.out (lines_of (due net)) text s.written in
+    let asked = append-nil (map done_call (due net)) ∙ ap (map done_call) s.parts
+    ∙ map_append s.calls s.not_made in
+    record {
+      failed_behind = None;
+      left = record {
+        front = record { asked = map done_call s.calls; calls = s.calls; text = front.front };
+        back = record { asked = map done_call s.not_made; calls = s.not_made; text = front.back };
+        parts = λ i. record { asked = asked i; calls = s.parts i; text = front.parts i };
+        left = record {
+          asked = s.asked;
+          logged = s.logged;
+          written = front.grows;
           cause = let later = s.later in omega arith;
           later = s.out_later;
         };

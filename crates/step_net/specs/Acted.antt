@@ -43,6 +43,11 @@ replied net text = record { net = net; asked = []; asks = []; reply = text; refu
 abbrev pub refused_for : Moment → LineError → Acted
 refused_for net e = record { net = net; asked = []; asks = []; reply = []; refused = Some e }
 
+-- nothing is done, and this is shown, and then told
+abbrev pub told_alone : Moment → List ℕ → Option LineError → Acted
+told_alone net text refusal =
+    record { net = net; asked = []; asks = []; reply = text; refused = refusal }
+
 -- the refusal of an event, as a line tells it
 abbrev pub error_of : Refusal → LineError
 error_of why.NoInterface = error.NoInterface
@@ -117,5 +122,4 @@ acted net (NetLine.interface name) failed =
 acted net (NetLine.device name) failed = shown_or net error.NoDevice (named_device net.inputs name)
 acted net (NetLine.radio name) failed =
     shown_or net error.NoRadio (radio_status net.inputs name)
-acted net (NetLine.refused e) failed = refused_for net e
-acted net NetLine.nothing failed = replied net []
+acted net (NetLine.tells text refusal) failed = told_alone net text refusal

@@ -1,15 +1,16 @@
 -- What a settling and an answer left outside.
-use Rattle.std.specs.Prelude.{ℕ, ◌≡◌, ◌≤◌, List, ◌++◌, Bool, map, Option, Result, Ok, Err, is_some}
+use Rattle.std.specs.Prelude.{ℕ, ◌≡◌, ◌≤◌, ◌⊎◌, List, ◌++◌, Bool, map, Option, Result, Ok, Err, is_some}
 use Rattle.plane_words.specs.Causes.{Rose, RoseBy}
 use Rattle.plane_words.specs.Growth.{Grows, GrowsByFront}
 use Rattle.kern_model.specs.declared.object.Call.{Call}
 use Rattle.kern_model.specs.Kernel.{Records}
+use Rattle.kern_model.specs.ObjectOrder.{Objects}
 use Rattle.kern_model.specs.CallOrder.{after_calls}
 use Rattle.net_rules.specs.Moment.{Moment}
 use Rattle.net_settle.specs.Outside.{Outside}
 use Rattle.net_settle.specs.Settle.{lines_of, done_call}
 use Rattle.step_net.specs.Effects.{Leaves, LeavesInPart}
-use Rattle.step_net.specs.Moved.{Telling, due, made, is_stopped, asked_in, settled, finished, once_if}
+use Rattle.step_net.specs.Moved.{Telling, due, made, is_stopped, asked_in, settled, finished, opening, once_if}
 
 -- a settling and an answer came to their end, with some luck
 pub record IsFinished (net now : Moment) (telling : Telling) (before after : Outside) (is_ok : Bool)
@@ -32,6 +33,26 @@ abbrev pub Finishes : {E : Type 0} → Moment → Moment → Telling → Outside
     → Type 0
 Finishes net now telling before after (Ok is_ok) = IsFinished net now telling before after is_ok
 Finishes net now telling before after (Err failed) = IsCutShort net telling before after
+
+-- a settling and what is shown behind it came to their end, with some luck
+pub record IsOpened (net now : Moment) (text : List ℕ) (before after : Outside) : Type 0 where
+  pub failed_behind : Option ℕ
+  pub next : now ≡ (opening net text failed_behind).net
+  pub left : Leaves (opening net text failed_behind).effects (once_if (is_some failed_behind))
+      before after
+
+-- they were cut short by the output, with some luck
+pub record IsOpenedInPart (net : Moment) (text : List ℕ) (before after : Outside) : Type 0 where
+  pub failed_behind : Option ℕ
+  pub left : LeavesInPart (opening net text failed_behind).effects
+      (once_if (is_some failed_behind)) before after
+  pub objects : after.objects ≡ after_calls before.objects left.front.calls
+  pub cause : Rose before.out_faults after.out_faults
+
+abbrev pub Opens : {X E : Type 0} → Moment → Moment → List ℕ → Outside → Outside → Result X E
+    → Type 0
+Opens net now text before after (Ok done) = IsOpened net now text before after
+Opens net now text before after (Err failed) = IsOpenedInPart net text before after
 
 -- a settling came to its end, or to a call that failed, with some luck
 pub record IsSettled (net now : Moment) (before after : Outside) (stopped : Bool) : Type 0 where
@@ -61,3 +82,7 @@ pub record IsSettledInPart (net : Moment) (before after : Outside) : Type 0 wher
 abbrev pub Settles : {E : Type 0} → Moment → Moment → Outside → Outside → Result Bool E → Type 0
 Settles net now before after (Ok stopped) = IsSettled net now before after stopped
 Settles net now before after (Err failed) = IsSettledInPart net before after
+
+-- the kernel holds what is wanted, or it failed
+abbrev pub HoldsOrFailed : Objects → Objects → ℕ → ℕ → Type 0
+HoldsOrFailed objects wanted faults faults_now = (objects ≡ wanted) ⊎ Rose faults faults_now

@@ -112,6 +112,20 @@ finished net telling failed_behind =
       is_ok = is_fine telling.refusal stopped;
     }
 
+-- a settling, and then what is shown, without an answer
+abbrev pub opening : Moment → List ℕ → Option ℕ → Moved
+opening net text failed_behind =
+    let done = made (due net) failed_behind in
+    record {
+      net = settled net done;
+      effects = record {
+        asked = asked_in (due net) failed_behind;
+        calls = done;
+        text = lines_of done ++ text;
+      };
+      is_ok = not (is_stopped (due net) failed_behind);
+    }
+
 -- the kernel was asked this
 abbrev pub asking : List Asked → Effects
 asking asked = record { asked = asked; calls = []; text = [] }

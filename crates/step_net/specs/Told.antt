@@ -1,5 +1,6 @@
 -- What is to be told of a line, and how errors of the plane are told.
 use Rattle.std.specs.Prelude.{ℕ, List, [], Option, Some, None}
+use Rattle.std.specs.Option.{option_map}
 use Rattle.net_plane.specs.declared.net_error.NetError.{NetError}
 use Rattle.net_plane.specs.declared.net_error.NetError.TheVariants as net_error
 use Rattle.line_texts.specs.declared.line_error.LineError.{LineError}
@@ -10,6 +11,10 @@ use Rattle.step_net.specs.Moved.{Telling}
 -- this is shown
 abbrev pub shown : List ℕ → Telling
 shown text = record { shown = text; refusal = None }
+
+-- this is shown, and then the line may be refused
+abbrev pub telling : List ℕ → Option LineError → Telling
+telling text refusal = record { shown = text; refusal = option_map error_line refusal }
 
 -- the line is refused
 abbrev pub refused : LineError → Telling

@@ -7,7 +7,11 @@ use plane_io::Memory;
 use std::alloc::Global;
 
 /// The lines of what is to be told of asks. All of it is handed out.
-pub(crate) fn lines_of_asks(alloc: Global, net: &mut Net) -> Result<Vec<u8>, Memory>
+///
+/// # Errors
+///
+/// Want of memory.
+pub fn lines_of_asks(alloc: Global, net: &mut Net) -> Result<Vec<u8>, Memory>
     ensures lines { IfOk result (λ lines.
         lines.items ≡ spec.lines_of_asks net.old.inputs.conf net.old.notices) }
     ensures silent { OnOk result (net.new.notices ≡ []) }

@@ -1,11 +1,12 @@
-ghost use Rattle.std.specs.Prelude.{◌≡◌, OnOk, OnErr, IfOk};
+ghost use Rattle.std.specs.Prelude.{◌≡◌, false, OnOk, OnErr, IfOk};
 ghost use Rattle.plane_words.specs.Causes.{HasCause};
 ghost use Rattle.plane_words.specs.Growth.{Grows, GrowsByFront};
+ghost use Rattle.net_rules.specs.Moment.{want_of};
 ghost use Rattle.net_settle.specs.Outside.{outside_of};
 ghost use Rattle.net_plane.specs.Network.{IsOf, moment_of};
 ghost use Rattle.step_net.specs.Moved as spec;
 ghost use Rattle.step_net.specs.Taken.{telling_in};
-ghost use Rattle.step_net.specs.Finished.{Finishes, Settles};
+ghost use Rattle.step_net.specs.Finished.{Finishes, Opens, Settles, HoldsOrFailed};
 
 use crate::told::Told;
 use kern_model::Kernel;
@@ -27,6 +28,8 @@ pub fn finish<K: Kernel, O: Sink>(
     ensures finishes { Finishes (moment_of net.old) (moment_of net.new) (telling_in told.now)
         (outside_of O.Sink K.Kernel out.old kernel.old)
         (outside_of O.Sink K.Kernel out.new kernel.new) result }
+    ensures due { OnOk result (HoldsOrFailed (K.objects kernel.new) (want_of net.new.inputs)
+        (K.faults kernel.old) (K.faults kernel.new)) }
     ensures of { IsOf K.Kernel kernel.new net.new }
     ensures notices { net.new.notices ≡ net.old.notices }
 {
@@ -42,12 +45,40 @@ pub fn finish<K: Kernel, O: Sink>(
     Ok(is_fine(told, stopped))
 }
 
+/// Settles, and shows a text behind the lines of the calls. It takes no memory. A call of the kernel that failed is not told.
+///
+/// # Errors
+///
+/// At the first line that is not written, or not wholly.
+pub fn settle_and_show<K: Kernel, O: Sink>(
+    net: &mut Net,
+    text: &[u8],
+    kernel: &mut K,
+    out: &mut O,
+) -> Result<(), Failed>
+    requires { IsOf K.Kernel kernel.old net.old }
+    ensures opens { Opens (moment_of net.old) (moment_of net.new) text.now
+        (outside_of O.Sink K.Kernel out.old kernel.old)
+        (outside_of O.Sink K.Kernel out.new kernel.new) result }
+    ensures due { OnOk result (HoldsOrFailed (K.objects kernel.new) (want_of net.new.inputs)
+        (K.faults kernel.old) (K.faults kernel.new)) }
+    ensures of { IsOf K.Kernel kernel.new net.new }
+    ensures notices { net.new.notices ≡ net.old.notices }
+{
+    let Ok(_stopped) = settle(net, kernel, out) else {
+        return Err(Failed);
+    };
+    tell(text, out)
+}
+
 // Settles, and answers whether a call of the kernel failed.
 fn settle<K: Kernel, O: Sink>(net: &mut Net, kernel: &mut K, out: &mut O) -> Result<bool, Failed>
     requires { IsOf K.Kernel kernel.old net.old }
     ensures settles { Settles (moment_of net.old) (moment_of net.new)
         (outside_of O.Sink K.Kernel out.old kernel.old)
         (outside_of O.Sink K.Kernel out.new kernel.new) result }
+    ensures holds { IfOk result (λ stopped. stopped ≡ false →
+        K.objects kernel.new ≡ want_of net.new.inputs) }
     ensures of { IsOf K.Kernel kernel.new net.new }
     ensures notices { net.new.notices ≡ net.old.notices }
 {

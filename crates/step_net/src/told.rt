@@ -24,6 +24,28 @@ pub fn tell_nothing(alloc: Global) -> Told
     }
 }
 
+/// This is shown, and then the line may be refused.
+///
+/// # Errors
+///
+/// Want of memory.
+pub fn tell_text(alloc: Global, shown: Text, refusal: Option<LineError>) -> Result<Told, Memory>
+    ensures { IfOk result (λ told. telling_in told ≡ spec.telling shown refusal) }
+{
+    let Some(error) = refusal else {
+        return Ok(Told {
+            shown,
+            refusal: None,
+        });
+    };
+    let mut line = Vec::new(alloc);
+    append_error_line(&error, &mut line)?;
+    Ok(Told {
+        shown,
+        refusal: Some(Text::from_vec(line)),
+    })
+}
+
 /// The line is refused.
 ///
 /// # Errors
