@@ -1,0 +1,331 @@
+-- The whole run.
+use Rattle.std.proofs.Common.{arith, ℕ, ◌≡◌, ◌≤◌, inl, inr, false, List, Some, refl, ap, sym, subst, ◌∙◌}
+use Rattle.std.specs.Prelude.{Ok, Err}
+use Rattle.plane_words.specs.Causes.{Rose, RoseBy}
+use Rattle.plane_disk.specs.Files.{Files}
+use Rattle.plane_disk.specs.View.{View}
+use Rattle.kern_model.specs.ObjectOrder.{Objects}
+use Rattle.snap_disk.specs.Images.{LeavesOnly, SameDisk}
+use Rattle.snap_disk.specs.Opening.{FromImage}
+use Rattle.snap_disk.specs.declared.snap_error.SnapError.TheVariants as snap_error
+use Rattle.snap_disk.proofs.LoadLemmas.{same_join}
+use Rattle.snap_disk.proofs.Moments.{joins}
+use Rattle.uci_text.specs.declared.line.Line.{Line}
+use Rattle.uci_tree.specs.declared.package.Package.{Package}
+use Rattle.uci_staged.specs.Kept.{ReadsOn}
+use Rattle.uci_store.specs.declared.store.Store.{Store}
+use Rattle.uci_store.specs.declared.store_error.StoreError.{StoreError}
+use Rattle.uci_store.specs.declared.store_error.StoreError.TheVariants as store_error
+use Rattle.uci_store.specs.Opening.{OpenRefuses}
+use Rattle.uci_store.specs.Store.{has_failed, IsOnFiles}
+use Rattle.uci_tool.specs.Ends.{Stream}
+use Rattle.uci_tool.specs.Folder.{folder_of}
+use Rattle.uci_tool.specs.Stops.{OpensAmong}
+use Rattle.uci_run.specs.Folders.{IsFound, IsHeld, StopsAsFound}
+use Rattle.net_rules.specs.Moment.{Moment, want_of}
+use Rattle.net_settle.specs.Outside.{Outside}
+use Rattle.step_net.specs.Finished.{HoldsOrFailed}
+use Rattle.plane_step.specs.FilesMoved.{script_passes}
+use Rattle.plane_step.specs.Moved.{Moved}
+use Rattle.plane_step.specs.Loaded.{network_name, wireless_name, IsLoaded}
+use Rattle.plane_step.specs.Ran.{DiskFaults, DiskRose, faults_of}
+use Rattle.plane_step.specs.World.{World}
+use Rattle.plane_run.specs.declared.run_end.RunEnd.{RunEnd}
+use Rattle.plane_run.specs.declared.run_end.RunEnd.TheVariants as end
+use Rattle.plane_run.specs.Opening.{First, start_world}
+use Rattle.plane_run.specs.Run as run
+use Rattle.plane_run.specs.Run.{Stage, Seen, HasEnded, IsAlone, WasCut, HasLacked, StopsInLine, GoesOn, IsKernelFailed, NotOpened, RunEnds, disks_of, stage_of}
+use Rattle.plane_run.specs.Stops.{RunStops, ScriptStops}
+use Rattle.plane_run.specs.Parts as parts
+use Rattle.plane_run.specs.Parts.{OpensNet, RowsRefuse, RunsOver, KeepsDisks, shut_of}
+
+-- ---- over an open store
+
+-- why the plane was not opened on rows that were loaded
+pub net_over : (X : Type 0) (now : ℕ) (store : Store) (input : Stream) (disks : DiskFaults)
+    (files_now staged_now : View) (before after : Outside) (network wireless : Package) (net : Moment)
+    (why : RunEnd) → IsLoaded (folder_of store) network_name network
+    → IsLoaded (folder_of store) wireless_name wireless
+    → OpensNet {X = X} network wireless net before after (Err why)
+    → IsHeld files_now staged_now (folder_of store)
+    → RunsOver now store input disks files_now staged_now before after why
+net_over X now store input disks files_now staged_now before after network wireless net end.WriteFailed one two h held =
+    parts.cut refl network wireless (record { of_network = one; of_wireless = two; within = h.0 }) h.1 held
+net_over X now store input disks files_now staged_now before after network wireless net (end.TooLong limit) one two h held =
+    parts.too_long network wireless one two limit refl h.0 h.1 held
+net_over X now store input disks files_now staged_now before after network wireless net end.OutOfMemory one two h held =
+    parts.no_rows tt h held
+net_over X now store input disks files_now staged_now before after network wireless net end.Done one two h held = absurd h
+net_over X now store input disks files_now staged_now before after network wireless net end.Refused one two h held = absurd h
+net_over X now store input disks files_now staged_now before after network wireless net end.ReadFailed one two h held = absurd h
+net_over X now store input disks files_now staged_now before after network wireless net end.DiskFailed one two h held = absurd h
+net_over X now store input disks files_now staged_now before after network wireless net (end.KernelFailed left) one two h held = absurd h
+net_over X now store input disks files_now staged_now before after network wireless net (end.Unreadable row_package fault) one two h held = absurd h
+net_over X now store input disks files_now staged_now before after network wireless net (end.BadSnapshot byte) one two h held = absurd h
+
+rose_on : (m a b c : ℕ) → RoseBy m a b → Rose b c → Rose a c
+rose_on m a b c first second = omega (arith, first, second)
+
+rose_still : (m a b c : ℕ) → Rose a b → RoseBy m b c → Rose a c
+rose_still m a b c first second = omega (arith, first, second)
+
+-- where objects are due, the kernel failed in the opening or behind it
+due_over : (start : World) (stage : Stage) (ending : RunEnd) (m faults : ℕ) (objects wanted : Objects)
+    → RoseBy m faults stage.between.kernel_faults
+    → HoldsOrFailed objects wanted faults stage.between.kernel_faults
+    → (objects ≡ wanted → IsKernelFailed ending
+    → Rose stage.between.kernel_faults stage.after.kernel_faults)
+    → GoesOn start stage ending → IsKernelFailed ending → Rose faults stage.after.kernel_faults
+due_over start stage ending m faults objects wanted first (inl holds) due goes failed =
+    rose_on m faults stage.between.kernel_faults stage.after.kernel_faults first (due holds failed)
+due_over start stage (end.KernelFailed left) m faults objects wanted first (inr rose) due goes failed =
+    rose_still _ faults stage.between.kernel_faults stage.after.kernel_faults rose goes.left.cause
+due_over start stage end.Done m faults objects wanted first (inr rose) due goes failed = absurd failed
+due_over start stage end.Refused m faults objects wanted first (inr rose) due goes failed = absurd failed
+due_over start stage end.ReadFailed m faults objects wanted first (inr rose) due goes failed = absurd failed
+due_over start stage end.WriteFailed m faults objects wanted first (inr rose) due goes failed = absurd failed
+due_over start stage end.DiskFailed m faults objects wanted first (inr rose) due goes failed = absurd failed
+due_over start stage end.OutOfMemory m faults objects wanted first (inr rose) due goes failed = absurd failed
+due_over start stage (end.Unreadable row_package fault) m faults objects wanted first (inr rose) due goes failed = absurd failed
+due_over start stage (end.TooLong limit) m faults objects wanted first (inr rose) due goes failed = absurd failed
+due_over start stage (end.BadSnapshot byte) m faults objects wanted first (inr rose) due goes failed = absurd failed
+
+-- the plane was opened, and the run went on
+pub went_over : (now : ℕ) (store : Store) (input : Stream) (disks : DiskFaults)
+    (files_now staged_now : View) (before between after : Outside) (network wireless : Package)
+    (net : Moment) (ending : RunEnd) → IsLoaded (folder_of store) network_name network
+    → IsLoaded (folder_of store) wireless_name wireless
+    → OpensNet {X = Unit {0}} network wireless net before between (Ok (tt {0}))
+    → between.objects ≡ net.held
+    → HoldsOrFailed between.objects (want_of net.inputs) before.kernel_faults between.kernel_faults
+    → GoesOn (record { now = now; files = folder_of store; net = net }) (record {
+      input = input;
+      disks = disks;
+      files_now = files_now;
+      staged_now = staged_now;
+      between = between;
+      after = after;
+    }) ending
+    → (between.objects ≡ want_of net.inputs → IsKernelFailed ending
+    → Rose between.kernel_faults after.kernel_faults)
+    → RunsOver now store input disks files_now staged_now before after ending
+went_over now store input disks files_now staged_now before between after network wireless net ending one two opens objects holds goes due =
+    let stage : Stage = record {
+      input = input;
+      disks = disks;
+      files_now = files_now;
+      staged_now = staged_now;
+      between = between;
+      after = after;
+    } in
+    let is = opens.1 in
+    parts.opened between network wireless (record { of_network = one; of_wireless = two; within = opens.0 })
+    is.failed_behind is.left (objects ∙ ap (λ (m : Moment). m.held) is.next)
+    (subst (λ (m : Moment). GoesOn (record { now = now; files = folder_of store; net = m }) stage ending) is.next goes)
+    (due_over (record { now = now; files = folder_of store; net = net }) stage ending _ before.kernel_faults
+    between.objects (want_of net.inputs) is.left.cause holds due goes)
+
+-- ---- the whole run
+
+-- why the store did not open
+pub shut : (seen : Seen) (e : StoreError)
+    → OpenRefuses seen.first.files seen.files_now seen.first.staged seen.staged_now seen.first.now e
+    → NotOpened seen (shut_of e)
+shut seen (store_error.Snap snap_error.DiskFailed) why = why
+shut seen (store_error.Snap (snap_error.BadSnapshot byte)) why = why
+shut seen (store_error.Snap (snap_error.Limit number)) why = run.of_folder why
+shut seen (store_error.Snap snap_error.Memory) why = absurd why
+shut seen (store_error.Snap (snap_error.Waiting deadline)) why = absurd why
+shut seen (store_error.Snap snap_error.NothingWaits) why = absurd why
+shut seen (store_error.Snap snap_error.Reopen) why = absurd why
+shut seen store_error.Memory why = tt
+shut seen store_error.NoPackage why = absurd why
+shut seen (store_error.Parse error) why = absurd why
+shut seen (store_error.Delta error) why = absurd why
+shut seen (store_error.TooLarge bytes) why = absurd why
+shut seen (store_error.NotHolder holder) why = absurd why
+shut seen store_error.NothingStaged why = absurd why
+
+rose_before : (a b c : ℕ) → a ≤ b → Rose b c → Rose a c
+rose_before a b c first rose = omega (arith, first, rose)
+
+disk_before : (f a b s c d : ℕ) → f ≤ a → s ≤ c
+    → DiskRose (record { files = a; files_now = b; staged = c; staged_now = d })
+    → DiskRose (record { files = f; files_now = b; staged = s; staged_now = d })
+disk_before f a b s c d one two (inl rose) = inl (rose_before f a b one rose)
+disk_before f a b s c d one two (inr rose) = inr (rose_before s c d two rose)
+
+-- a disk that failed behind the opening failed in the run
+module _ (start : World) (input : Stream) (f a b s c d : ℕ) (one : f ≤ a) (two : s ≤ c)
+    (files_now staged_now : View) (between after : Outside) where
+  abbrev stage_from : ℕ → ℕ → Stage
+  stage_from x y = record {
+    input = input;
+    disks = record { files = x; files_now = b; staged = y; staged_now = d };
+    files_now = files_now;
+    staged_now = staged_now;
+    between = between;
+    after = after;
+  }
+
+  ended_from : (Ends : Moved → Type 0) → HasEnded start (stage_from a c) Ends
+      → HasEnded start (stage_from f s) Ends
+  ended_from Ends h = record {
+    script = h.script;
+    read = h.read;
+    lucks = h.lucks;
+    last = h.last;
+    gives = h.gives;
+    left = h.left;
+    objects = h.objects;
+    held = h.held;
+    ends = h.ends;
+  }
+
+  alone_from : IsAlone start (stage_from a c) → IsAlone start (stage_from f s)
+  alone_from h = record { same = h.same; held = h.held }
+
+  line_from : (Stops : Line → World → Outside → Outside → Type 0)
+      → StopsInLine start (stage_from a c) Stops → StopsInLine start (stage_from f s) Stops
+  line_from Stops h = record { lines = h.lines; read = h.read; stops = h.stops }
+
+  cut_from : WasCut start (stage_from a c) → WasCut start (stage_from f s)
+  cut_from (run.in_answer line read left objects rose held) =
+      run.in_answer line read left objects rose held
+  cut_from (WasCut.in_line now stops held) = WasCut.in_line now (line_from _ stops) held
+
+  lacked_from : HasLacked start (stage_from a c) → HasLacked start (stage_from f s)
+  lacked_from (run.in_front alone) = run.in_front (alone_from alone)
+  lacked_from (HasLacked.in_line now stops) = HasLacked.in_line now (line_from _ stops)
+
+  pub goes_from : (ending : RunEnd) → GoesOn start (stage_from a c) ending
+      → GoesOn start (stage_from f s) ending
+  goes_from end.Done h = ended_from _ h
+  goes_from end.Refused h = ended_from _ h
+  goes_from (end.KernelFailed left) h = ended_from _ h
+  goes_from end.ReadFailed h = (h.0, alone_from h.1)
+  goes_from end.WriteFailed h = cut_from h
+  goes_from end.DiskFailed h = record {
+    lines = h.lines;
+    read = h.read;
+    stops = record {
+      done = h.stops.done;
+      line = h.stops.line;
+      rest = h.stops.rest;
+      parts = h.stops.parts;
+      world = h.stops.world;
+      is_ok = h.stops.is_ok;
+      between = h.stops.between;
+      ran = h.stops.ran;
+      stops = record {
+        cause = disk_before f a b s c d one two h.stops.stops.cause;
+        tells = h.stops.stops.tells;
+      };
+    };
+  }
+  goes_from end.OutOfMemory h = lacked_from h
+  goes_from (end.TooLong limit) h = (h.0, h.1, alone_from h.2)
+  goes_from (end.Unreadable row_package fault) h = absurd h
+  goes_from (end.BadSnapshot byte) h = absurd h
+
+-- what a run over the store comes to, from the disks as they were found
+module _ (seen : Seen) (files_mid staged_mid : View) (store : Store)
+    (one : seen.first.files.faults ≤ files_mid.faults) (two : seen.first.staged.faults ≤ staged_mid.faults)
+    (found : IsFound seen.first.files seen.first.staged seen.first.now (folder_of store)) where
+  no_rows_end : (ending : RunEnd) → RowsRefuse (folder_of store) ending
+      → IsHeld seen.files_now seen.staged_now (folder_of store) → NotOpened seen ending
+  no_rows_end (end.Unreadable row_package fault) lacks held = (folder_of store, found, lacks, held)
+  no_rows_end end.OutOfMemory lacks held = tt
+  no_rows_end end.Done lacks held = absurd lacks
+  no_rows_end end.Refused lacks held = absurd lacks
+  no_rows_end end.ReadFailed lacks held = absurd lacks
+  no_rows_end end.WriteFailed lacks held = absurd lacks
+  no_rows_end end.DiskFailed lacks held = absurd lacks
+  no_rows_end (end.KernelFailed left) lacks held = absurd lacks
+  no_rows_end (end.TooLong limit) lacks held = absurd lacks
+  no_rows_end (end.BadSnapshot byte) lacks held = absurd lacks
+
+  pub over_ends : (ending : RunEnd)
+      → RunsOver seen.first.now store seen.input
+      (faults_of files_mid seen.files_now staged_mid seen.staged_now) seen.files_now seen.staged_now
+      seen.first.before seen.after ending
+      → RunEnds seen ending
+  over_ends ending (parts.no_rows lacks same held) =
+      run.not_opened (no_rows_end ending lacks held) same
+  over_ends ending (parts.too_long network wireless first second limit is passed same held) =
+      run.not_opened
+      (subst (NotOpened seen) (sym is) (run.of_rows (folder_of store) found network wireless first second passed held))
+      same
+  over_ends ending (parts.cut is network wireless rows cut held) =
+      run.cut_in_opening is (folder_of store) found network wireless rows cut held
+  over_ends ending (parts.opened between network wireless rows failed_behind left objects goes due) =
+      run.opened between
+      (record {
+        folder = folder_of store;
+        found = found;
+        network = network;
+        wireless = wireless;
+        rows = rows;
+        failed_behind = failed_behind;
+        left = left;
+        objects = objects;
+      })
+      (goes_from (start_world seen.first.now (folder_of store) network wireless failed_behind) seen.input
+      seen.first.files.faults files_mid.faults seen.files_now.faults seen.first.staged.faults
+      staged_mid.faults seen.staged_now.faults one two seen.files_now seen.staged_now between seen.after
+      ending goes)
+      due
+
+-- ---- stops
+
+module _ {D : Type 0} (view : D → View) (now : ℕ) (staged : View) (before : Outside) (input : Stream)
+    (store : Store) (old mid new : D)
+    (images : (read : Files) → (view old).seen ≡ Some read
+    → LeavesOnly (view old) (view mid) (FromImage now (view old))) where
+  abbrev first : First
+  first = record { now = now; files = view old; staged = staged; before = before }
+
+  stops_as_found : new ≡ mid → StopsAsFound now (view old) (view new)
+  stops_as_found same read tells =
+      subst (λ (d : D). LeavesOnly (view old) (view d) (FromImage now (view old))) (sym same)
+      (images read tells)
+
+  pub stops_over : SameDisk (view old) (view mid) → IsOnFiles store (view mid)
+      → has_failed store ≡ false → IsFound (view old) staged now (folder_of store)
+      → ScriptStops now store input view mid new → RunStops first input (view new)
+  stops_over same on ready found (inl e) = inl (stops_as_found e)
+  stops_over same on ready found (inr h) = inr (record {
+    folder = folder_of store;
+    found = found;
+    lines = h.0;
+    read = h.1;
+    leaves = λ read tells. let seen = same.tells read tells in
+        joins (view old) (view mid) (view new) (FromImage now (view old))
+        (OpensAmong (view mid).names (script_passes now (folder_of store) h.0)) _
+        (images read tells) (h.2 (on.ready ready) seen.0 seen.1) (λ image from. inl from)
+        (λ image opens. inr (subst (λ (ns : List (List ℕ)). OpensAmong ns (script_passes now (folder_of store) h.0) image)
+        same.names opens));
+  })
+
+pub keeps_both : (a b c d e f : View) → SameDisk a b → ReadsOn d e → KeepsDisks b c e f
+    → KeepsDisks a c d f
+keeps_both a b c d e f same reads keeps = record {
+  same = same_join a b c same keeps.same;
+  follows = record {
+    names = keeps.follows.names ∙ reads.names;
+    tells = λ files seen. keeps.follows.tells files (reads.seen ∙ seen);
+    silent = λ unseen. keeps.follows.silent (reads.seen ∙ unseen);
+    later = let x = reads.later in let y = keeps.follows.later in omega arith;
+  };
+}
+
+pub keeps_read : (a b c d : View) → SameDisk a b → ReadsOn c d → KeepsDisks a b c d
+keeps_read a b c d same reads = record {
+  same = same;
+  follows = record {
+    names = reads.names;
+    tells = λ files seen. (files, reads.seen ∙ seen);
+    silent = λ unseen. reads.seen ∙ unseen;
+    later = reads.later;
+  };
+}

@@ -1,0 +1,48 @@
+use Rattle.uci_tool.specs.Ends.{source_of}
+use Rattle.uci_tool.specs.Folder.{folder_of}
+use Rattle.uci_run.specs.Folders.{IsFound}
+use Rattle.uci_run.proofs.RunLemmas.{found}
+use Rattle.net_settle.specs.Outside.{outside_of}
+use Rattle.plane_run.specs.Run.{Seen}
+use Rattle.plane_run.proofs.RunLemmas.{over_ends, stops_over}
+use Rattle.plane_run.proofs.run.run_script.Goals as goal
+
+pub returns-in-Ok-clause-ended : goal.returns-in-Ok-clause-ended
+returns-in-Ok-clause-ended g c =
+    let files = g.D.Disk.view c.args.files.now in
+    let staged = g.T.Disk.view c.args.staged.now in
+    let mid = g.D.Disk.view c.open.new.files in
+    let staged_mid = g.T.Disk.view c.open.new.staged in
+    let store = c.in-Ok.store in
+    let opening = c.in-Ok.ensures in
+    let seen : Seen = record {
+      first = record {
+        now = c.args.now;
+        files = files;
+        staged = staged;
+        before = outside_of g.O.Sink g.K.Kernel c.args.out.now c.args.kernel.now;
+      };
+      input = source_of g.S.Source c.args.input.now c.run_over.new.input;
+      files_now = g.D.Disk.view c.run_over.new.files;
+      staged_now = g.T.Disk.view c.run_over.new.staged;
+      after = outside_of g.O.Sink g.K.Kernel c.run_over.new.out c.run_over.new.kernel;
+    } in
+    over_ends seen mid staged_mid store opening.same.later opening.reads.later
+    (found files mid staged staged_mid c.args.now store opening.same opening.reads opening.gives opening.files
+    opening.staged opening.own opening.ready)
+    c.run_over.result c.run_over.ensures.runs
+
+pub returns-in-Ok-clause-stops : goal.returns-in-Ok-clause-stops
+returns-in-Ok-clause-stops g c =
+    let files = g.D.Disk.view c.args.files.now in
+    let staged = g.T.Disk.view c.args.staged.now in
+    let mid = g.D.Disk.view c.open.new.files in
+    let staged_mid = g.T.Disk.view c.open.new.staged in
+    let store = c.in-Ok.store in
+    let opening = c.in-Ok.ensures in
+    let is : IsFound files staged c.args.now (folder_of store) =
+    found files mid staged staged_mid c.args.now store opening.same opening.reads opening.gives opening.files
+    opening.staged opening.own opening.ready in
+    stops_over g.D.Disk.view c.args.now staged (outside_of g.O.Sink g.K.Kernel c.args.out.now c.args.kernel.now)
+    (source_of g.S.Source c.args.input.now c.run_over.new.input) store c.args.files.now c.open.new.files
+    c.run_over.new.files opening.images opening.same opening.files opening.ready is c.run_over.ensures.images

@@ -1,0 +1,139 @@
+//! The script of a run, carried out.
+ghost use Rattle.std.specs.Prelude.{◌≡◌, []};
+ghost use Rattle.net_rules.specs.Moment.{want_of};
+ghost use Rattle.net_settle.specs.Outside.{outside_of};
+ghost use Rattle.net_plane.specs.Network.{IsOf, moment_of};
+ghost use Rattle.uci_tool.specs.Answers.{IsOpen};
+ghost use Rattle.uci_tool.specs.Ends.{source_of};
+ghost use Rattle.uci_tool.specs.Folder.{folder_of};
+ghost use Rattle.uci_tool.specs.Stops.{StaysOrStops};
+ghost use Rattle.plane_words.specs.Causes.{Rose};
+ghost use Rattle.plane_step.specs.FilesMoved.{script_passes};
+ghost use Rattle.plane_step.specs.Kept.{StaysOn};
+ghost use Rattle.plane_step.specs.Ran.{faults_of};
+ghost use Rattle.plane_step.specs.World.{world_of};
+ghost use Rattle.plane_run.specs.Run.{GoesOn, IsKernelFailed};
+ghost use Rattle.plane_run.specs.Parts.{AnswersBad, LinesEnd, KeepsDisks};
+ghost use Rattle.plane_run.specs.Stops.{ScriptStops};
+
+use crate::ending::{end_of, end_of_stop};
+use crate::run_end::RunEnd;
+use crate::script::{Script, read_script};
+use kern_model::Kernel;
+use line_texts::{LineError, append_error_line};
+use net_plane::Net;
+use plane_disk::Disk;
+use plane_io::{Sink, Source};
+use plane_step::run_lines;
+use std::alloc::Global;
+use uci_store::Store;
+use uci_text::Line;
+
+/// Reads the script to its end, and then carries it out.
+pub(crate) fn carry_script<S: Source, O: Sink, D: Disk, T: Disk, K: Kernel>(
+    alloc: Global,
+    now: u64,
+    store: &mut Store,
+    net: &mut Net,
+    input: &mut S,
+    out: &mut O,
+    files: &mut D,
+    staged: &mut T,
+    kernel: &mut K,
+) -> RunEnd
+    requires open { IsOpen store.old (D.view files.old) (T.view staged.old) }
+    requires told { net.old.notices ≡ [] }
+    requires of { IsOf K.Kernel kernel.old net.old }
+    ensures goes { GoesOn (world_of now store.old net.old) (record {
+      input = source_of S.Source input.old input.new;
+      disks = faults_of (D.view files.old) (D.view files.new) (T.view staged.old) (T.view staged.new);
+      files_now = D.view files.new;
+      staged_now = T.view staged.new;
+      between = outside_of O.Sink K.Kernel out.old kernel.old;
+      after = outside_of O.Sink K.Kernel out.new kernel.new;
+    }) result }
+    ensures due { K.objects kernel.old ≡ want_of net.old.inputs → IsKernelFailed result →
+        Rose (K.faults kernel.old) (K.faults kernel.new) }
+    ensures disks { KeepsDisks (D.view files.old) (D.view files.new)
+        (T.view staged.old) (T.view staged.new) }
+    ensures images { ScriptStops now store.old (source_of S.Source input.old input.new)
+        D.view files.old files.new }
+{
+    match read_script(alloc, input) {
+        Ok(Script::Lines { lines }) => carry_lines(
+            alloc,
+            now,
+            store,
+            net,
+            lines.as_slice(),
+            out,
+            files,
+            staged,
+            kernel,
+        ),
+        Ok(Script::Bad { line }) => match answer_bad(alloc, line, out) {
+            Ok(()) => end_of(false, net.due()),
+            Err(end) => end,
+        },
+        Err(end) => end,
+    }
+}
+
+// Carries the lines out.
+fn carry_lines<O: Sink, D: Disk, T: Disk, K: Kernel>(
+    alloc: Global,
+    now: u64,
+    store: &mut Store,
+    net: &mut Net,
+    lines: &[Line],
+    out: &mut O,
+    files: &mut D,
+    staged: &mut T,
+    kernel: &mut K,
+) -> RunEnd
+    requires open { IsOpen store.old (D.view files.old) (T.view staged.old) }
+    requires told { net.old.notices ≡ [] }
+    requires of { IsOf K.Kernel kernel.old net.old }
+    ensures ends { LinesEnd (world_of now store.old net.old) lines.now
+        (faults_of (D.view files.old) (D.view files.new) (T.view staged.old) (T.view staged.new))
+        (D.view files.new) (T.view staged.new)
+        (outside_of O.Sink K.Kernel out.old kernel.old)
+        (outside_of O.Sink K.Kernel out.new kernel.new) result }
+    ensures due { K.objects kernel.old ≡ want_of net.old.inputs → IsKernelFailed result →
+        Rose (K.faults kernel.old) (K.faults kernel.new) }
+    ensures disks { KeepsDisks (D.view files.old) (D.view files.new)
+        (T.view staged.old) (T.view staged.new) }
+    ensures images { StaysOrStops store.old D.view files.old files.new
+        (script_passes now (folder_of store.old) lines.now) }
+{
+    let mut moment = now;
+    match run_lines(
+        alloc,
+        &mut moment,
+        store,
+        files,
+        staged,
+        net,
+        lines,
+        kernel,
+        out,
+    ) {
+        Ok(is_ok) => end_of(is_ok, net.due()),
+        Err(stop) => end_of_stop(stop),
+    }
+}
+
+// The one answer to a script that has no lines.
+fn answer_bad<O: Sink>(alloc: Global, line: u32, out: &mut O) -> Result<(), RunEnd>
+    ensures { AnswersBad line (O.held out.old) (O.held out.new)
+        (O.faults out.old) (O.faults out.new) result }
+{
+    let mut text = Vec::new(alloc);
+    let Ok(()) = append_error_line(&LineError::BadLine { line }, &mut text) else {
+        return Err(RunEnd::OutOfMemory);
+    };
+    match out.write(&text) {
+        Ok(()) => Ok(()),
+        Err(_) => Err(RunEnd::WriteFailed),
+    }
+}
