@@ -1,5 +1,5 @@
 -- Where calls lead on, what is held is not what is wanted.
-use Rattle.std.proofs.Common.{◌≡◌, List, [], ◌∷◌, true, sym, subst}
+use Rattle.std.proofs.Common.{◌≡◌, List, ◌∷◌, true, sym, subst}
 use Rattle.kern_model.specs.declared.object.Call.{Call}
 use Rattle.kern_model.specs.declared.object.Call.TheVariants.{Put, Take}
 use Rattle.kern_model.specs.ObjectOrder.{Objects, Has}

@@ -1,4 +1,5 @@
 pub mod WordLemmas
+pub mod RunWordLemmas
 pub mod DistinctLemmas
 pub mod DueLemmas
 pub mod StartLemmas

@@ -1,5 +1,5 @@
 -- How a `start` ends, and when.
-use Rattle.std.proofs.Common.{arith, ℕ, ◌≡◌, ◌<◌, inl, inr, length, List, [], ◌∷◌, Option, Some, None, refl, ap, sym, subst, ◌∙◌}
+use Rattle.std.proofs.Common.{arith, ℕ, ◌≡◌, ◌<◌, inl, inr, length, List, [], Option, Some, None, refl, ap, sym, subst, ◌∙◌}
 use Rattle.std.specs.Prelude.{◌↔◌, IsSomeAnd, Result, Ok, Err}
 use Rattle.std.specs.FinMap as map
 use Rattle.plane_words.specs.Causes.{DidNotRise}
@@ -9,7 +9,7 @@ use Rattle.uci_tree.specs.declared.fault.Fault.{Fault}
 use Rattle.uci_tree.specs.declared.package.Package.{Package}
 use Rattle.uci_tree.specs.declared.tree_error.TreeError.{TreeError}
 use Rattle.uci_tree.specs.Fault.{fault_of}
-use Rattle.uci_tree.specs.Reading.{Reads, HasTreeFault}
+use Rattle.uci_tree.specs.Reading.{HasTreeFault}
 use Rattle.uci_tree.proofs.LawLemmas.{no_package, tree_fault_is_one}
 use Rattle.uci_tree.proofs.ReadingLemmas.{one_tree}
 use Rattle.net_conf.specs.Limits.{passed_limit}
@@ -17,8 +17,7 @@ use Rattle.net_settle.specs.Outside.{Outside}
 use Rattle.net_start.specs.declared.start_error.StartError.{StartError}
 use Rattle.net_start.specs.declared.start_error.StartError.TheVariants as error
 use Rattle.net_start.specs.Inputs.{rows_of, present_of, start_wants}
-use Rattle.net_start.specs.Settling.{Finished, StoppedAtCall}
-use Rattle.net_start.specs.BringUp.{Started, LackedMemory, BringUpEnds}
+use Rattle.net_start.specs.BringUp.{LackedMemory, BringUpEnds}
 use Rattle.net_start.proofs.DeviceLemmas.{came_none}
 use Rattle.net_start.proofs.RecordLemmas.{records_none}
 use Rattle.plane_main.specs.declared.ending.Ending.{Ending}
@@ -55,6 +54,7 @@ module _ (devices : List (List ℕ)) (input : Input) (before after : Outside) wh
   unread_ends (ending.TooLong limit) nothing cause = cause
   unread_ends (ending.Unreadable fault) nothing cause = cause
   unread_ends (ending.OfUci status) nothing cause = absurd cause
+  unread_ends (ending.OfRun end) nothing cause = absurd cause
 
 -- what was read is what was told
 all_told : (left after : Option (List ℕ)) (bytes text : List ℕ) → left ≡ Some text → IsAllThatWasLeft left after bytes → bytes ≡ text
@@ -135,6 +135,7 @@ module _ (devices : List (List ℕ)) (input : Input) (before after : Outside) wh
   calm_start (ending.TooLong limit) cause calm failure = failure
   calm_start (ending.Unreadable fault) cause calm failure = failure
   calm_start (ending.OfUci status) cause calm failure = absurd cause
+  calm_start (ending.OfRun end) cause calm failure = absurd cause
 
   long_start : (end : Ending) → StartEnds devices input before after end → (text : List ℕ) → input.left ≡ Some text → INPUT_LIMIT < length text → DidNotRise input.faults input.faults_now → OrLacksMemory (end ≡ ending.TooLong INPUT_LIMIT) end
   long_start ending.Done cause text told over calm = absurd (not_over input text told cause.read.text cause.read.read over)
@@ -147,6 +148,7 @@ module _ (devices : List (List ℕ)) (input : Input) (before after : Outside) wh
   long_start (ending.TooLong limit) (inr many) text told over calm = absurd (not_over input text told many.text many.read over)
   long_start (ending.Unreadable fault) cause text told over calm = absurd (not_over input text told cause.text cause.read over)
   long_start (ending.OfUci status) cause text told over calm = absurd cause
+  long_start (ending.OfRun end) cause text told over calm = absurd cause
 
   faulty_start : (end : Ending) → StartEnds devices input before after end → (text : List ℕ) (error : TreeError) → IsInput input.left text → DidNotRise input.faults input.faults_now → HasTreeFault text error → OrLacksMemory (Tells error end) end
   faulty_start ending.Done cause text error is calm bad = absurd (network_without_fault text error cause.network (read_network input text is.told cause.network cause.read) bad)
@@ -159,6 +161,7 @@ module _ (devices : List (List ℕ)) (input : Input) (before after : Outside) wh
   faulty_start (ending.TooLong limit) (inr many) text error is calm bad = absurd (passed_without_fault text error limit (read_passed input text is.told limit many) bad)
   faulty_start (ending.Unreadable fault) cause text error is calm bad = inl (tells error cause.error fault (tree_fault_is_one text cause.error error (read_fault input text is.told fault cause) bad) cause.is)
   faulty_start (ending.OfUci status) cause text error is calm bad = absurd cause
+  faulty_start (ending.OfRun end) cause text error is calm bad = absurd cause
 
   many_start : (end : Ending) → StartEnds devices input before after end → (text : List ℕ) (limit : ℕ) → IsInput input.left text → DidNotRise input.faults input.faults_now → PassesLimit text limit → OrLacksMemory (end ≡ ending.TooLong limit) end
   many_start ending.Done cause text limit is calm many = absurd (network_within text limit cause.network (read_network input text is.told cause.network cause.read) many)
@@ -171,6 +174,7 @@ module _ (devices : List (List ℕ)) (input : Input) (before after : Outside) wh
   many_start (ending.TooLong told) (inr other) text limit is calm many = inl (ap ending.TooLong (one_limit text limit told many (read_passed input text is.told told other)))
   many_start (ending.Unreadable fault) cause text limit is calm many = absurd (passed_without_fault text cause.error limit many (read_fault input text is.told fault cause))
   many_start (ending.OfUci status) cause text limit is calm many = absurd cause
+  many_start (ending.OfRun end) cause text limit is calm many = absurd cause
 
   up_start : (end : Ending) → StartEnds devices input before after end → (text : List ℕ) (network : Package) → IsCalm input before after → IsInput input.left text → IsNetwork text network → OrLacksMemory (end ≡ ending.Done) end
   up_start ending.Done cause text network calm is up = inl refl
@@ -183,6 +187,7 @@ module _ (devices : List (List ℕ)) (input : Input) (before after : Outside) wh
   up_start (ending.TooLong limit) (inr many) text network calm is up = absurd (network_within text limit network up (read_passed input text is.told limit many))
   up_start (ending.Unreadable fault) cause text network calm is up = absurd (network_without_fault text cause.error network up (read_fault input text is.told fault cause))
   up_start (ending.OfUci status) cause text network calm is up = absurd cause
+  up_start (ending.OfRun end) cause text network calm is up = absurd cause
 
   -- a run over a network that was not cut short: done, and nothing is due, or stopped at the kernel, and something is
   module _ (text : List ℕ) (network : Package) (is : IsInput input.left text) (up : IsNetwork text network) where
@@ -204,6 +209,7 @@ module _ (devices : List (List ℕ)) (input : Input) (before after : Outside) wh
     due_start (ending.TooLong limit) (inr many) whole = absurd (network_within text limit network up (read_passed input text is.told limit many))
     due_start (ending.Unreadable fault) cause whole = absurd (network_without_fault text cause.error network up (read_fault input text is.told fault cause))
     due_start (ending.OfUci status) cause whole = absurd cause
+    due_start (ending.OfRun end) cause whole = absurd cause
 
     done_start : (end : Ending) → StartEnds devices input before after end → (IsCutShort end → ⊥) → (end ≡ ending.Done) ↔ HoldsWanted devices network after
     done_start ending.Done cause whole = (λ done. cause.did.settled.held ∙ same_wants cause.network cause.did.between cause.read cause.did.settled.reached.devices, λ none. refl)
@@ -216,6 +222,7 @@ module _ (devices : List (List ℕ)) (input : Input) (before after : Outside) wh
     done_start (ending.TooLong limit) (inr many) whole = absurd (network_within text limit network up (read_passed input text is.told limit many))
     done_start (ending.Unreadable fault) cause whole = absurd (network_without_fault text cause.error network up (read_fault input text is.told fault cause))
     done_start (ending.OfUci status) cause whole = absurd cause
+    done_start (ending.OfRun end) cause whole = absurd cause
 
   pub start_comes : (end : Ending) → StartEnds devices input before after end → StartComes devices input before after end
   start_comes end cause = record {

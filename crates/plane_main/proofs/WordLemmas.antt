@@ -1,5 +1,5 @@
 -- The words of commands.
-use Rattle.std.proofs.Common.{arith, ℕ, suc, ◌≡◌, ◌<◌, ◌≤◌, List, [], ◌∷◌, length, Bool, true, refl, ap, sym, ◌∙◌, subst, take, drop, map, slice_index_or, get_or, codes}
+use Rattle.std.proofs.Common.{arith, ℕ, suc, ◌≡◌, ◌<◌, ◌≤◌, List, [], ◌∷◌, length, Bool, true, false, cond, Option, Some, None, refl, ap, sym, ◌∙◌, subst, take, drop, map, slice_index_or, get_or, codes}
 use Rattle.std.specs.Prelude.{Contains, bytes_eq}
 use Rattle.std.proofs.lemmas.Slice.Eq.{bytes_eq-Decides}
 use Rattle.std.specs.List.{AllByRecursion}
@@ -8,7 +8,9 @@ use Rattle.kern_model.specs.VlanName.{IsPlainName}
 use Rattle.plane_main.specs.declared.page.Page.{Page}
 use Rattle.plane_main.specs.declared.page.Page.TheVariants.{Help, Version}
 use Rattle.plane_main.specs.declared.command.Command.{Command}
-use Rattle.plane_main.specs.declared.command.Command.TheVariants.{Start, Uci, Show}
+use Rattle.plane_main.specs.declared.command.Command.TheVariants.{Start, Uci, Run, Show}
+use Rattle.plane_main.specs.declared.run_words.RunAsked.{RunAsked}
+use Rattle.plane_main.specs.RunWords.{run_of}
 use Rattle.plane_main.specs.Command.{AskFor, IsStart, IsCommand, IsPageCommand, page_word}
 use Rattle.plane_main.proofs.DistinctLemmas.{all_at, map_split, distinct_behind}
 
@@ -65,6 +67,36 @@ uci_or_page words rest Version asked is = absurd (cc (asked, is))
 uci_one : (words rest other : List (List ℕ)) → words ≡ codes "uci" ∷ rest → words ≡ codes "uci" ∷ other → other ≡ rest
 uci_one words rest other asked again = cc (asked, again)
 
+-- the first word of a run of a script
+run_by : (word : List ℕ) (b : Bool) (found : Option RunAsked) (asked : RunAsked) → bytes_eq word (codes "run") ≡ b → cond b found None ≡ Some asked → word ≡ codes "run"
+run_by word true found asked is some = (bytes_eq-Decides word (codes "run")).0 is
+run_by word false found asked is some = absurd (cc some)
+
+run_first : (words : List (List ℕ)) (asked : RunAsked) → run_of words ≡ Some asked → (rest : List (List ℕ)) × (words ≡ codes "run" ∷ rest)
+run_first [] asked is = absurd (cc is)
+run_first (word ∷ rest) asked is =
+    let first : word ≡ codes "run" = run_by word (bytes_eq word (codes "run")) _ asked refl is in
+    (rest, ap (λ w. w ∷ rest) first)
+
+run_or_start : (words devices : List (List ℕ)) (asked : RunAsked) → run_of words ≡ Some asked → IsStart words devices → ⊥
+run_or_start words devices asked is start =
+    let first = (run_first words asked is).1 in
+    let spelled = start.spelled in
+    absurd (cc (first, spelled))
+
+run_or_uci : (words rest : List (List ℕ)) (asked : RunAsked) → run_of words ≡ Some asked → words ≡ codes "uci" ∷ rest → ⊥
+run_or_uci words rest asked is uci =
+    let first = (run_first words asked is).1 in
+    let same : true ≡ false = ap (λ ws. bytes_eq (get_or ws 0 []) (codes "run")) (sym first ∙ uci) in
+    absurd (cc same)
+
+run_or_page : (words : List (List ℕ)) (asked : RunAsked) (page : Page) → run_of words ≡ Some asked → words ≡ page_word page ∷ [] → ⊥
+run_or_page words asked Help is page = let first = (run_first words asked is).1 in absurd (cc (first, page))
+run_or_page words asked Version is page = let first = (run_first words asked is).1 in absurd (cc (first, page))
+
+run_one : (words : List (List ℕ)) (asked other : RunAsked) → run_of words ≡ Some asked → run_of words ≡ Some other → other ≡ asked
+run_one words asked other is again = cc (is, again)
+
 -- words ask for one command
 pub command_one : (words : List (List ℕ)) (command other : Command) → AskFor words command → AskFor words other → other ≡ command
 command_one words (Start xs) (Start ys) asked again = ap (λ devices. Start devices) (start_one words xs ys asked again)
@@ -73,15 +105,23 @@ command_one words (Start xs) (Show page) asked again = absurd (not_both words xs
 command_one words (Uci rest) (Start xs) asked again = absurd (uci_or_start words rest xs asked again)
 command_one words (Uci rest) (Uci other) asked again = ap (λ words. Uci words) (uci_one words rest other asked again)
 command_one words (Uci rest) (Show page) asked again = absurd (uci_or_page words rest page asked again)
+command_one words (Start xs) (Run a) asked again = absurd (run_or_start words xs a again asked)
+command_one words (Uci rest) (Run a) asked again = absurd (run_or_uci words rest a again asked)
+command_one words (Run a) (Start xs) asked again = absurd (run_or_start words xs a asked again)
+command_one words (Run a) (Uci rest) asked again = absurd (run_or_uci words rest a asked again)
+command_one words (Run a) (Run b) asked again = ap (λ r. Run r) (run_one words a b asked again)
+command_one words (Run a) (Show page) asked again = absurd (run_or_page words a page asked again)
+command_one words (Show page) (Run a) asked again = absurd (run_or_page words a page again asked)
 command_one words (Show page) (Start xs) asked again = absurd (not_both words xs page asked again)
 command_one words (Show page) (Uci rest) asked again = absurd (uci_or_page words rest page again asked)
 command_one words (Show page) (Show other) asked again = ap (λ p. Show p) (page_one words page other asked again)
 
 pub none_asked : (words : List (List ℕ)) → (IsPageCommand words → ⊥) → ((rest : List (List ℕ)) → words ≡ codes "uci" ∷ rest → ⊥)
-    → ((devices : List (List ℕ)) → IsStart words devices → ⊥) → IsCommand words → ⊥
-none_asked words no_page no_uci no_start (Start devices, asked) = no_start devices asked
-none_asked words no_page no_uci no_start (Uci rest, asked) = no_uci rest asked
-none_asked words no_page no_uci no_start (Show page, asked) = no_page (page, asked)
+    → run_of words ≡ None → ((devices : List (List ℕ)) → IsStart words devices → ⊥) → IsCommand words → ⊥
+none_asked words no_page no_uci no_run no_start (Start devices, asked) = no_start devices asked
+none_asked words no_page no_uci no_run no_start (Uci rest, asked) = no_uci rest asked
+none_asked words no_page no_uci no_run no_start (Run a, asked) = absurd (cc (no_run, asked))
+none_asked words no_page no_uci no_run no_start (Show page, asked) = no_page (page, asked)
 
 -- the words are this one
 pub one_word : {X : Type 0} (f : X → List ℕ) → (words : List X) (word : X) (text : List ℕ) → 1 ≤ length words → length words < 2 → word ≡ get_or words 0 word → f word ≡ text → map f words ≡ text ∷ []

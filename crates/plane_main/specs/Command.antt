@@ -1,5 +1,5 @@
 -- The command line. Words are texts, without the name of the program itself.
-use Rattle.std.specs.Prelude.{ℕ, ◌≡◌, ◌≤◌, List, [], ◌∷◌, length, codes, true, ⊤}
+use Rattle.std.specs.Prelude.{ℕ, ◌≡◌, ◌≤◌, List, [], ◌∷◌, length, codes, Some, true, ⊤}
 use Rattle.std.specs.List.{AllByRecursion}
 use Rattle.plane_words.specs.Distinct.{AreDistinct}
 use Rattle.kern_model.specs.VlanName.{IsPlainName}
@@ -7,9 +7,11 @@ use Rattle.uci_tool.specs.Ends.{reads}
 use Rattle.uci_run.specs.Asking.{asks}
 use Rattle.plane_main.specs.declared.page.Page.{Page}
 use Rattle.plane_main.specs.declared.page.Page.TheVariants.{Help, Version}
+use Rattle.plane_main.specs.declared.run_words.RunAsked.{RunAsked}
 use Rattle.plane_main.specs.declared.command.Command.{Command}
-use Rattle.plane_main.specs.declared.command.Command.TheVariants.{Start, Uci, Show}
+use Rattle.plane_main.specs.declared.command.Command.TheVariants.{Start, Uci, Run, Show}
 use Rattle.plane_main.specs.declared.command.TheConstants.{MOST_DEVICES}
+use Rattle.plane_main.specs.RunWords.{run_of}
 
 -- the words are `start` and names of devices, at least one and not too many, each once and none of the form X.N
 pub record IsStart (words devices : List (List ℕ)) : Type 0 where
@@ -28,11 +30,16 @@ page_word Version = codes "--version"
 abbrev pub AskFor : List (List ℕ) → Command → Type 0
 AskFor words (Start devices) = IsStart words devices
 AskFor words (Uci rest) = words ≡ codes "uci" ∷ rest
+AskFor words (Run asked) = run_of words ≡ Some asked
 AskFor words (Show page) = words ≡ page_word page ∷ []
 
 -- the words ask for a command, perhaps with words behind it that are in no row of its own table
 abbrev pub IsCommand : List (List ℕ) → Type 0
 IsCommand words = (command : Command) × AskFor words command
+
+-- the words ask for a run of a script
+abbrev pub IsRunCommand : List (List ℕ) → Type 0
+IsRunCommand words = (asked : RunAsked) × AskFor words (Run asked)
 
 -- the first word is `uci`
 abbrev pub IsForUci : List (List ℕ) → Type 0
@@ -42,6 +49,7 @@ IsForUci words = (rest : List (List ℕ)) × (words ≡ codes "uci" ∷ rest)
 abbrev pub HasRow : Command → Type 0
 HasRow (Start devices) = ⊤
 HasRow (Uci words) = asks words ≡ true
+HasRow (Run asked) = ⊤
 HasRow (Show page) = ⊤
 
 -- the words are in the table of commands
@@ -56,19 +64,29 @@ IsPageCommand words = (page : Page) × AskFor words (Show page)
 abbrev pub ReadsInput : Command → Type 0
 ReadsInput (Start devices) = ⊤
 ReadsInput (Uci words) = reads words ≡ true
+ReadsInput (Run asked) = ⊤
 ReadsInput (Show page) = ⊥
 
 -- the command calls the kernel
 abbrev pub CallsKernel : Command → Type 0
 CallsKernel (Start devices) = ⊤
 CallsKernel (Uci words) = ⊥
+CallsKernel (Run asked) = ⊤
 CallsKernel (Show page) = ⊥
 
--- the command opens the folders of packages and of staged changes, at the moment of the clock
+-- the command opens the folders of packages and of staged changes
 abbrev pub OpensFolders : Command → Type 0
 OpensFolders (Start devices) = ⊥
 OpensFolders (Uci words) = asks words ≡ true
+OpensFolders (Run asked) = ⊤
 OpensFolders (Show page) = ⊥
+
+-- the command asks the clock for its moment
+abbrev pub AsksClock : Command → Type 0
+AsksClock (Start devices) = ⊥
+AsksClock (Uci words) = asks words ≡ true
+AsksClock (Run asked) = ⊥
+AsksClock (Show page) = ⊥
 
 -- the words ask for no command of this kind
 abbrev pub AskForNone : (Command → Type 0) → List (List ℕ) → Type 0

@@ -2,10 +2,16 @@
 use Rattle.std.specs.Prelude.{ℕ, ◌≡◌, ◌⊎◌, List, [], ◌++◌, decimal, ⊤, IsSomeAnd, Result, Ok, Err}
 use Rattle.plane_words.specs.Causes.{DidNotRise}
 use Rattle.plane_words.specs.Growth.{Grows, GrowsByFront}
+use Rattle.uci_tree.specs.declared.fault.Fault.{Fault}
 use Rattle.uci_tree.specs.declared.tree_error.TreeError.{TreeError}
 use Rattle.uci_tree.specs.Fault.{reason_text, fault_of}
 use Rattle.net_start.specs.declared.start_error.StartError.{StartError}
 use Rattle.net_start.specs.declared.start_error.StartError.TheVariants as error
+use Rattle.plane_run.specs.declared.run_end.RowPackage.{RowPackage}
+use Rattle.plane_run.specs.declared.run_end.RowPackage.TheVariants.{Network, Wireless}
+use Rattle.plane_run.specs.declared.run_end.RunEnd.{RunEnd}
+use Rattle.plane_run.specs.declared.run_end.RunEnd.TheVariants as run_end
+use Rattle.plane_run.specs.RunEnd.{status_of as run_status}
 use Rattle.plane_main.specs.declared.ending.Ending.{Ending}
 use Rattle.plane_main.specs.declared.ending.Ending.TheVariants as ending
 use Rattle.plane_main.specs.declared.texts.TheConstants as texts
@@ -22,6 +28,29 @@ status_of ending.OutOfMemory = 8
 status_of (ending.Unreadable fault) = 9
 status_of (ending.TooLong limit) = 10
 status_of (ending.OfUci status) = status
+status_of (ending.OfRun end) = run_status end
+
+-- the text that tells a fault, behind this front
+abbrev pub fault_text : List ℕ → Fault → List ℕ
+fault_text front fault = front ++ decimal fault.line ++ texts.COLON.now ++ reason_text fault.reason ++ texts.NEWLINE.now
+
+-- the front of the text that tells why a package does not read
+abbrev pub line_of : RowPackage → List ℕ
+line_of Network = texts.NETWORK_LINE.now
+line_of Wireless = texts.WIRELESS_LINE.now
+
+-- the text of a run of a script, nothing where it was carried out to its end and nothing is due
+abbrev pub text_of_run : RunEnd → List ℕ
+text_of_run run_end.Done = []
+text_of_run run_end.Refused = []
+text_of_run run_end.ReadFailed = texts.READ_FAILED.now
+text_of_run run_end.WriteFailed = texts.WRITE_FAILED.now
+text_of_run run_end.DiskFailed = texts.DISK_FAILED.now
+text_of_run (run_end.KernelFailed left) = texts.KERNEL.now ++ decimal left ++ texts.DUE.now
+text_of_run run_end.OutOfMemory = texts.OUT_OF_MEMORY.now
+text_of_run (run_end.Unreadable row_package fault) = fault_text (line_of row_package) fault
+text_of_run (run_end.TooLong limit) = texts.LIMIT.now ++ decimal limit ++ texts.NEWLINE.now
+text_of_run (run_end.BadSnapshot byte) = texts.SNAPSHOT.now ++ decimal byte ++ texts.NEWLINE.now
 
 -- the text, nothing for a good end, and nothing more for `uci`, which has told its own
 abbrev pub text_of : Ending → List ℕ
@@ -31,9 +60,10 @@ text_of ending.ReadFailed = texts.READ_FAILED.now
 text_of ending.WriteFailed = texts.WRITE_FAILED.now
 text_of (ending.KernelFailed left) = texts.KERNEL.now ++ decimal left ++ texts.DUE.now
 text_of ending.OutOfMemory = texts.OUT_OF_MEMORY.now
-text_of (ending.Unreadable fault) = texts.NETWORK_LINE.now ++ decimal fault.line ++ texts.COLON.now ++ reason_text fault.reason ++ texts.NEWLINE.now
+text_of (ending.Unreadable fault) = fault_text texts.NETWORK_LINE.now fault
 text_of (ending.TooLong limit) = texts.LIMIT.now ++ decimal limit ++ texts.NEWLINE.now
 text_of (ending.OfUci status) = []
+text_of (ending.OfRun end) = text_of_run end
 
 -- the text is on the error output, all of it where no fault was counted there, and else a front of it
 pub record IsTold (text : List ℕ) (errors : ErrorOutput) : Type 0 where
@@ -44,6 +74,11 @@ pub record IsTold (text : List ℕ) (errors : ErrorOutput) : Type 0 where
 abbrev pub IsOfUci : Ending → Type 0
 IsOfUci (ending.OfUci status) = ⊤
 IsOfUci _ = ⊥
+
+-- it is that of a run of a script
+abbrev pub IsOfRun : Ending → Type 0
+IsOfRun (ending.OfRun end) = ⊤
+IsOfRun _ = ⊥
 
 -- how a run ends in which bringing up ended so
 abbrev pub ending_of : {X : Type 0} → Result X StartError → Ending

@@ -6,6 +6,10 @@ pub mod Run
 pub mod Outside
 -- which words ask for which command
 pub mod Command
+-- the words of `run`
+pub mod RunWords
+-- how a run of a script ends, and when
+pub mod Script
 -- where the real devices of a command are
 pub mod Locations
 -- endings: status and text, kinds of endings

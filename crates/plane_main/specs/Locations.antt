@@ -1,12 +1,12 @@
 -- Where the real devices of a command are.
 use Rattle.std.specs.Prelude.{ℕ, ◌≡◌, List, [], Option, Some, None, codes, unwrap_or, if◌then◌else◌}
 use Rattle.uci_words.specs.declared.options.Options.{Options}
-use Rattle.uci_words.specs.declared.words.Asked.{Asked}
 use Rattle.uci_words.specs.declared.command.Command.{Command}
 use Rattle.uci_words.specs.Command.{reads_input}
 use Rattle.uci_words.specs.Words.{asked_of}
 use Rattle.plane_main.specs.declared.command.Command.{Command as Asking}
-use Rattle.plane_main.specs.declared.command.Command.TheVariants.{Start, Uci, Show}
+use Rattle.plane_main.specs.declared.command.Command.TheVariants.{Start, Uci, Run, Show}
+use Rattle.plane_main.specs.declared.run_words.RunAsked.{RunAsked}
 use Rattle.plane_main.specs.declared.locations.Locations.{Locations}
 use Rattle.plane_main.specs.Command.{AskFor, HasRow}
 
@@ -30,9 +30,14 @@ folders_of options (Some command) locations = Some (named_by options command loc
 abbrev pub folders : List (List ℕ) → Locations → Option Locations
 folders words locations = let asked = asked_of words in folders_of asked.options asked.command locations
 
+-- the folders of a run of a script
+abbrev pub folders_of_run : RunAsked → Locations → Locations
+folders_of_run asked locations = record locations { files = asked.files; staged = asked.staged }
+
 abbrev pub places_of : Asking → Locations
 places_of (Start devices) = nowhere
 places_of (Uci words) = unwrap_or (folders words nowhere) nowhere
+places_of (Run asked) = folders_of_run asked nowhere
 places_of (Show page) = nowhere
 
 -- the places of the command that the words ask for

@@ -2,20 +2,22 @@
 -- `CommandComes`, and in `Command` a case to the words that ask for it and to what it reads and calls.
 use Rattle.std.specs.Prelude.{ℕ, ◌≡◌, List}
 use Rattle.plane_main.specs.declared.command.Command.{Command}
-use Rattle.plane_main.specs.declared.command.Command.TheVariants.{Start, Uci, Show}
+use Rattle.plane_main.specs.declared.command.Command.TheVariants.{Start, Uci, Run, Show}
 use Rattle.plane_main.specs.declared.ending.Ending.{Ending}
 use Rattle.plane_main.specs.declared.ending.Ending.TheVariants as ending
 use Rattle.plane_main.specs.Outside.{Seen}
-use Rattle.plane_main.specs.Command.{AskFor, IsCommand, IsForUci, IsInTable, IsPageCommand, AskForNone, ReadsInput, CallsKernel, OpensFolders}
-use Rattle.plane_main.specs.Ending.{status_of, text_of, IsTold, IsOfUci, IsEarly, OrLacksMemory}
+use Rattle.plane_main.specs.Command.{AskFor, IsCommand, IsForUci, IsInTable, IsPageCommand, IsRunCommand, AskForNone, ReadsInput, CallsKernel, OpensFolders, AsksClock}
+use Rattle.plane_main.specs.Ending.{status_of, text_of, IsTold, IsOfUci, IsOfRun, IsEarly, OrLacksMemory}
 use Rattle.plane_main.specs.Start.{StartEnds, StartComes}
 use Rattle.plane_main.specs.Uci.{UciEnds, UciComes}
+use Rattle.plane_main.specs.Script.{ScriptEnds, ScriptComes}
 use Rattle.plane_main.specs.Page.{PageEnds, PageComes}
 
 -- why a run of a command ends so, and what it leaves
 abbrev pub CommandEnds : Command → Seen → Ending → Type 0
 CommandEnds (Start devices) seen end = StartEnds devices seen.input seen.before seen.after end
 CommandEnds (Uci words) seen end = UciEnds words seen end
+CommandEnds (Run asked) seen end = ScriptEnds asked.moment seen end
 CommandEnds (Show page) seen end = PageEnds page seen.before seen.after end
 
 -- when a run of a command ends so
@@ -23,6 +25,7 @@ abbrev pub CommandComes : Command → Seen → Ending → Type 0
 CommandComes (Start devices) seen end =
     StartComes devices seen.input seen.before seen.after end
 CommandComes (Uci words) seen end = UciComes words seen end
+CommandComes (Run asked) seen end = OrLacksMemory (ScriptComes asked.moment seen end) end
 CommandComes (Show page) seen end = PageComes seen.before seen.after end
 
 -- why a run ends so, and what it leaves
@@ -59,8 +62,9 @@ pub record Devices (S O K D T C : Type 0) : Type 0 where
 
 -- Which of them a run leaves wholly alone, as the values that they are.
 pub record LeavesAlone {S O K D T C : Type 0} (words : List (List ℕ)) (end : Ending) (before after : Devices S O K D T C) : Type 0 where
-  -- no other run ends as one of `uci` does
+  -- no other run ends as one of `uci` or one of a script does
   pub of_uci : IsOfUci end → IsForUci words
+  pub of_run : IsOfRun end → IsRunCommand words
   pub input : AskForNone ReadsInput words → after.input ≡ before.input
   pub out : IsEarly end → after.out ≡ before.out
   pub out_unfilled : end ≡ ending.OutOfMemory → after.out ≡ before.out
@@ -69,7 +73,7 @@ pub record LeavesAlone {S O K D T C : Type 0} (words : List (List ℕ)) (end : E
   pub kernel_unasked : AskForNone CallsKernel words → after.kernel ≡ before.kernel
   pub files : AskForNone OpensFolders words → after.files ≡ before.files
   pub staged : AskForNone OpensFolders words → after.staged ≡ before.staged
-  pub clock : AskForNone OpensFolders words → after.clock ≡ before.clock
+  pub clock : AskForNone AsksClock words → after.clock ≡ before.clock
 
 -- a run with this answer leaves those devices alone
 pub record LeftAlone {S O K D T C : Type 0} (words : List (List ℕ)) (answer : ℕ) (before after : Devices S O K D T C) : Type 0 where

@@ -1,10 +1,10 @@
 -- How a run of `uci` ends, and when.
-use Rattle.std.specs.Prelude.{ℕ, ◌≡◌, ◌⊎◌, List}
+use Rattle.std.specs.Prelude.{ℕ, List}
 use Rattle.plane_main.specs.declared.ending.Ending.{Ending}
 use Rattle.plane_main.specs.declared.ending.Ending.TheVariants as ending
 use Rattle.uci_run.specs.Run.{RunEnds}
 use Rattle.uci_run.specs.Comes.{RunComes}
-use Rattle.plane_main.specs.Outside.{Folders, Seen, streams_in}
+use Rattle.plane_main.specs.Outside.{Seen, streams_in}
 use Rattle.plane_main.specs.Ending.{status_of}
 
 -- Why it ends so, and what it leaves, its text on the error output included.

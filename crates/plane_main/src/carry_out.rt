@@ -14,6 +14,7 @@ use kern_model::Kernel;
 use plane_disk::Disk;
 use plane_io::{Sink, Source};
 use plane_outside::Clock;
+use plane_run::run_script;
 use std::alloc::Global;
 use uci_run::run_uci;
 
@@ -79,6 +80,10 @@ pub fn carry_out<S: Source, O: Sink, E: Sink, D: Disk, T: Disk, K: Kernel, C: Cl
             let words = words.as_slice();
             let status = run_uci(alloc, words, input, out, err, files, staged, clock);
             Ending::OfUci { status }
+        }
+        Command::Run { asked } => {
+            let end = run_script(alloc, asked.moment, input, out, files, staged, kernel);
+            report(Ending::OfRun { end }, err)
         }
         Command::Show(page) => report(show(page, out), err),
     }

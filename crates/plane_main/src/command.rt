@@ -2,6 +2,7 @@ ghost use Rattle.std.specs.Prelude.{◌≡◌, ◌∷◌, ℕ, List, map, codes,
 ghost use Rattle.plane_main.specs.Command.{AskFor, IsCommand, IsStart, IsPageCommand};
 
 use crate::page::Page;
+use crate::run_words::{RunAsked, read_run};
 use kern_model::{DevName, read_plain_name};
 use plane_io::{Items, Memory, Text};
 use std::alloc::Global;
@@ -17,6 +18,8 @@ pub enum Command {
     Start { devices: Items<DevName> },
     /// Carries OpenWrt's `uci` out with these words.
     Uci { words: Items<Text> },
+    /// Carries a script out over a folder.
+    Run { asked: RunAsked },
     /// Prints a page about the program.
     Show(Page),
 }
@@ -36,6 +39,9 @@ pub fn read_command(alloc: Global, words: &[String]) -> Result<Option<Command>, 
         return Ok(Some(Command::Uci {
             words: Items::from_vec(words),
         }));
+    }
+    if let Some(asked) = read_run(alloc, words)? {
+        return Ok(Some(Command::Run { asked }));
     }
     let Some(names) = start_devices(alloc, words)? else {
         return Ok(None);

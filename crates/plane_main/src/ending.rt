@@ -1,6 +1,7 @@
 ghost use Rattle.std.specs.Prelude.{◌≡◌};
 ghost use Rattle.plane_main.specs.Ending.{status_of};
 
+use plane_run::RunEnd;
 use uci_tree::Fault;
 
 /// How a run ends.
@@ -18,6 +19,8 @@ pub enum Ending {
     TooLong { limit: u64 },
     /// A run of `uci`, which has told its own text.
     OfUci { status: u8 },
+    /// A run of a script.
+    OfRun { end: RunEnd },
 }
 
 impl Ending {
@@ -35,6 +38,7 @@ impl Ending {
             Ending::Unreadable { .. } => 9,
             Ending::TooLong { .. } => 10,
             Ending::OfUci { status } => *status,
+            Ending::OfRun { end } => end.status(),
         }
     }
 }

@@ -9,6 +9,7 @@ mod locations;
 mod page;
 mod program;
 mod report;
+mod run_words;
 mod start;
 mod texts;
 
@@ -17,3 +18,4 @@ pub use laws::{named_numbers, one_command, one_network};
 pub use locations::{Locations, places};
 pub use page::Page;
 pub use program::{lack_memory, plane};
+pub use run_words::{RunAsked, STAGED_FOLDER};

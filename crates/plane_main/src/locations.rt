@@ -4,6 +4,7 @@ ghost use Rattle.plane_main.specs.Locations.{IsPlaced};
 ghost use Rattle.plane_main.specs.Command.{IsInTable};
 
 use crate::command::{Command, read_command};
+use crate::run_words::RunAsked;
 use plane_io::{Memory, Text};
 use std::alloc::Global;
 use uci_words::{Asked, Options, read_words};
@@ -42,6 +43,7 @@ pub fn places(alloc: Global, words: &[String]) -> Result<Option<Locations>, Memo
     let nowhere = nowhere(alloc)?;
     match command {
         Command::Uci { words } => folders(alloc, words.as_slice(), nowhere),
+        Command::Run { asked } => Ok(Some(folders_of(asked, nowhere))),
         Command::Start { .. } | Command::Show(_) => Ok(Some(nowhere)),
     }
 }
@@ -58,6 +60,17 @@ fn nowhere(alloc: Global) -> Result<Locations, Memory>
         user: Text::from_bytes(alloc, b"root")?,
         group: Text::from_bytes(alloc, b"root")?,
     })
+}
+
+// Those of `run`.
+fn folders_of(asked: RunAsked, nowhere: Locations) -> Locations
+    ensures { result ≡ spec.folders_of_run asked nowhere }
+{
+    Locations {
+        files: asked.files,
+        staged: asked.staged,
+        ..nowhere
+    }
 }
 
 // Those of `uci`, where its words ask for a command.

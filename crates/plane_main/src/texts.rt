@@ -5,6 +5,9 @@ pub const HELP: &[u8] = b"plane: the configuration plane of an OpenWrt router as
 
 plane start DEV..   reads a network configuration from the standard input, and prints the kernel calls that bring
                     it up on the devices DEV, as lines for `ip -batch`
+plane run -c DIR    carries a script of the standard input out over the configuration of a folder: commits, reloads,
+                    devices that come and go, commands of an operator and answers of handlers, each line with the
+                    kernel calls that it brings
 plane uci WORDS     carries OpenWrt's `uci` out over a folder of configuration: show, get, set, add, add_list, del_list,
                     delete, rename, reorder, changes, revert, commit, export, import and batch
 plane --help        prints this page
@@ -38,11 +41,23 @@ link set dev eth1 up
 addr add 192.168.1.1/24 dev br-lan
 ask 1 interface wan dhcp eth1 {}
 
+run takes -t DIR, the folder of staged changes, /tmp/.uci where it is not given, and -w N, the moment in seconds, 0 where
+it is not. The lines of its script are
+
+at N                                the moment becomes N; an apply whose time is over is undone
+dev add NAME [CARRIER [MTU MAC]]    a device comes; dev del NAME, it leaves; carrier NAME 0|1
+up NAME, down NAME, reload          an operator's commands
+answer NAME N JSON                  a handler answers the ask N of an interface; radio NAME N JSON, of a radio
+uci WORDS                           a command of uci
+status [interface|device|radio NAME]    what is to be seen, as JSON
+
+Each line is answered by its calls, its asks, what it shows, and ok or error N TEXT.
+
 uci takes the options of OpenWrt's: -c DIR, the folder of packages, is /etc/config where it is not given, and -t DIR, that
 of staged changes, /tmp/.uci; -q is quiet, -n and -N tell whether export names anonymous sections, -X shows them by
 name, -m merges on import, -d STR stands between items, and -f FILE is the input. What it tells is its own.
 
-Status: 0 done, 1 a command of uci was refused, 2 usage, 3 the input failed, 4 a line was not written, 5 a disk failed,
+Status: 0 done, 1 a command of uci or a line was refused, 2 usage, 3 the input failed, 4 a line was not written, 5 a disk failed,
 6 a call of the kernel failed and objects are due, 8 out of memory, 9 the input is no UCI file, 10 the input, a list of
 its rows or a file is too long, 12 what an apply left in the folder has no reading, 13 a place cannot be opened.
 The manual is docs/plane.1.
@@ -74,6 +89,15 @@ pub const LIMIT: &[u8] = b"plane: limit ";
 
 /// Before the number of the line of a fault.
 pub const NETWORK_LINE: &[u8] = b"plane: network: line ";
+
+/// The same where the package is `wireless`.
+pub const WIRELESS_LINE: &[u8] = b"plane: wireless: line ";
+
+/// Before the place at which what an apply left has no reading.
+pub const SNAPSHOT: &[u8] = b"plane: snapshot byte ";
+
+/// A disk failed.
+pub const DISK_FAILED: &[u8] = b"plane: disk failed\n";
 
 /// Between that number and the reason.
 pub const COLON: &[u8] = b": ";

@@ -1,13 +1,14 @@
 use Rattle.std.proofs.Common.{ℕ, List, map, string_bytes, sym, subst}
-use Rattle.plane_main.specs.declared.command.Command.TheVariants.{Start, Uci, Show}
+use Rattle.plane_main.specs.declared.command.Command.TheVariants.{Start, Uci, Run, Show}
 use Rattle.net_settle.specs.Outside.{outside_of}
 use Rattle.uci_run.specs.Run.{RunEnds}
 use Rattle.uci_tool.specs.Ends.{streams_of}
-use Rattle.plane_main.specs.Outside.{input_of}
+use Rattle.plane_main.specs.Outside.{Seen, input_of, errors_of}
 use Rattle.plane_main.specs.Command.{AskFor}
 use Rattle.plane_main.specs.Start.{StartEnds}
 use Rattle.plane_main.specs.Page.{PageEnds}
 use Rattle.plane_main.specs.Run.{of_command}
+use Rattle.plane_main.proofs.RunLemmas.{script_ends}
 use Rattle.plane_main.proofs.carry_out.carry_out.Goals as goal
 
 pub returns-in-Start-clause-cause : goal.returns-in-Start-clause-cause
@@ -28,6 +29,27 @@ returns-in-Uci-clause-cause g c =
     of_command (Uci c.in-Uci.words) (subst (AskFor words) c.in-Uci.is asked)
     (subst (λ ws. RunEnds ws (g.C.Clock.moments c.args.clock.now) streams (g.D.Disk.view c.args.files.now) (g.D.Disk.view c.run_uci-status.new.files) (g.T.Disk.view c.args.staged.now) (g.T.Disk.view c.run_uci-status.new.staged) c.run_uci-status.result)
     c.as_slice-words.ensures c.run_uci-status.ensures.ended)
+
+pub returns-in-Run-clause-cause : goal.returns-in-Run-clause-cause
+returns-in-Run-clause-cause g c =
+    let words : List (List ℕ) = map string_bytes c.args.words.now in
+    let asked : AskFor words c.in-Ok-Some.command = rw c.in-Ok-Some.field-0-is at c.in-Ok-Some.ensures.found in
+    let seen : Seen = record {
+      input = input_of g.S.Source c.args.input.now c.run_script-end.new.input;
+      before = outside_of g.O.Sink g.K.Kernel c.args.out.now c.args.kernel.now;
+      after = outside_of g.O.Sink g.K.Kernel c.run_script-end.new.out c.run_script-end.new.kernel;
+      errors = errors_of g.E.Sink c.args.err.now c.report-in-Run.new.err;
+      folders = record {
+        files = g.D.Disk.view c.args.files.now;
+        files_now = g.D.Disk.view c.run_script-end.new.files;
+        staged = g.T.Disk.view c.args.staged.now;
+        staged_now = g.T.Disk.view c.run_script-end.new.staged;
+        moments = g.C.Clock.moments c.args.clock.now;
+      };
+    } in
+    of_command (Run c.in-Run.asked) (subst (AskFor words) c.in-Run.is asked)
+    (script_ends c.in-Run.asked.moment seen c.run_script-end.result c.report-in-Run.result
+    c.report-in-Run.ensures.same c.run_script-end.ensures.ended c.run_script-end.ensures.stops)
 
 pub returns-in-Show-clause-cause : goal.returns-in-Show-clause-cause
 returns-in-Show-clause-cause g c =

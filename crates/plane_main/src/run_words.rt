@@ -1,0 +1,126 @@
+//! The words of `run`.
+ghost use Rattle.std.specs.Prelude.{◌≡◌, map, string_bytes, IfOk};
+ghost use Rattle.plane_main.specs.RunWords as spec;
+
+use plane_io::{Memory, Text};
+use script_lines::read_long_decimal;
+use std::alloc::Global;
+
+/// The folder of staged changes where no other is named.
+pub const STAGED_FOLDER: &[u8] = b"/tmp/.uci";
+
+/// What `run` is asked for.
+#[derive(Debug, Drop)]
+pub struct RunAsked {
+    /// The folder of the packages.
+    pub files: Text,
+    /// The folder of staged changes.
+    pub staged: Text,
+    /// The moment at which the folders are opened, in seconds.
+    pub moment: u64,
+}
+
+/// The options of `run` that were given so far.
+#[derive(Debug, Drop)]
+struct RunOptions {
+    files: Option<Text>,
+    staged: Option<Text>,
+    moment: Option<u64>,
+}
+
+/// What the words ask `run` for, or `None` where they are none of its own.
+pub(crate) fn read_run(alloc: Global, words: &[String]) -> Result<Option<RunAsked>, Memory>
+    ensures { IfOk result (λ found. found ≡ spec.run_of (map string_bytes words.now)) }
+{
+    let Some((command, rest)) = words.split_first() else {
+        return Ok(None);
+    };
+    if command.as_bytes() != b"run".as_slice() {
+        return Ok(None);
+    }
+    let Some(options) = read_options(alloc, rest)? else {
+        return Ok(None);
+    };
+    asked_by(alloc, options)
+}
+
+fn read_options(alloc: Global, words: &[String]) -> Result<Option<RunOptions>, Memory>
+    ensures { IfOk result (λ found.
+        found ≡ spec.options_of spec.no_options (map string_bytes words.now)) }
+{
+    let mut given = RunOptions {
+        files: None,
+        staged: None,
+        moment: None,
+    };
+    let mut rest = words;
+    while let Some((word, behind)) = rest.split_first() {
+        let Some((value, behind)) = behind.split_first() else {
+            return Ok(None);
+        };
+        let Some(next) = with_option(alloc, given, word.as_bytes(), value.as_bytes())? else {
+            return Ok(None);
+        };
+        given = next;
+        rest = behind;
+    }
+    Ok(Some(given))
+}
+
+// The options with one more, which was not given before.
+fn with_option(
+    alloc: Global,
+    given: RunOptions,
+    word: &[u8],
+    value: &[u8],
+) -> Result<Option<RunOptions>, Memory>
+    ensures { IfOk result (λ found. found ≡ spec.with_option given word.now value.now) }
+{
+    if word == b"-c".as_slice() {
+        if given.files.is_some() {
+            return Ok(None);
+        }
+        let files = Some(Text::from_bytes(alloc, value)?);
+        return Ok(Some(RunOptions { files, ..given }));
+    }
+    if word == b"-t".as_slice() {
+        if given.staged.is_some() {
+            return Ok(None);
+        }
+        let staged = Some(Text::from_bytes(alloc, value)?);
+        return Ok(Some(RunOptions { staged, ..given }));
+    }
+    if word != b"-w".as_slice() || given.moment.is_some() {
+        return Ok(None);
+    }
+    let Some(moment) = read_long_decimal(value) else {
+        return Ok(None);
+    };
+    Ok(Some(RunOptions {
+        moment: Some(moment),
+        ..given
+    }))
+}
+
+// The folder of packages has to be named.
+fn asked_by(alloc: Global, options: RunOptions) -> Result<Option<RunAsked>, Memory>
+    ensures { IfOk result (λ found. found ≡ spec.asked_by options) }
+{
+    let RunOptions {
+        files,
+        staged,
+        moment,
+    } = options;
+    let Some(files) = files else {
+        return Ok(None);
+    };
+    let staged = match staged {
+        Some(staged) => staged,
+        None => Text::from_bytes(alloc, STAGED_FOLDER)?,
+    };
+    Ok(Some(RunAsked {
+        files,
+        staged,
+        moment: moment.unwrap_or(0),
+    }))
+}
