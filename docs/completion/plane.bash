@@ -40,11 +40,28 @@ _plane() {
 	local word=${COMP_WORDS[COMP_CWORD]}
 	COMPREPLY=()
 	if [ "$COMP_CWORD" -eq 1 ]; then
-		COMPREPLY=($(compgen -W 'start uci --help --version' -- "$word"))
+		COMPREPLY=($(compgen -W 'start run uci --help --version' -- "$word"))
 		return
 	fi
 	if [ "${COMP_WORDS[1]}" = uci ]; then
 		_plane_uci
+		return
+	fi
+	# Options of `plane run`, each once; a folder behind -c and -t.
+	if [ "${COMP_WORDS[1]}" = run ]; then
+		case ${COMP_WORDS[COMP_CWORD - 1]} in
+		-c | -t) mapfile -t COMPREPLY < <(compgen -d -- "$word") ;;
+		-w) ;;
+		*)
+			local option place
+			for option in -c -t -w; do
+				for ((place = 2; place < COMP_CWORD; place += 2)); do
+					[ "${COMP_WORDS[place]}" = "$option" ] && continue 2
+				done
+				[[ $option == "$word"* ]] && COMPREPLY+=("$option")
+			done
+			;;
+		esac
 		return
 	fi
 	# Devices of this machine; each is named once.

@@ -8,6 +8,10 @@ mod faults;
 #[cfg(test)]
 mod pages;
 #[cfg(test)]
+mod run;
+#[cfg(test)]
+mod run_rows;
+#[cfg(test)]
 mod session;
 #[cfg(test)]
 mod start;

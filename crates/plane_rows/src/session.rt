@@ -50,26 +50,46 @@ impl Folder {
         passed: Option<u64>,
     ) -> Result<Folder, Fail> {
         Ok(Folder {
-            files: disk(alloc, [gates, snapshot, network], passed)?,
-            staged: disk(alloc, [b"", b"", b""], None)?,
+            files: disk(alloc, &[gates, snapshot, network], &[], passed)?,
+            staged: disk(alloc, &[b"", b"", b""], &[], None)?,
+        })
+    }
+
+    /// A folder with these gates, this snapshot and these files `network` and `wireless`, of which nothing is staged. The calls of
+    /// these numbers fail at its disk, and at that of staged changes.
+    pub fn with_wireless(
+        alloc: Global,
+        contents: [&[u8]; 4],
+        failing: [&[u64]; 2],
+    ) -> Result<Folder, Fail> {
+        let [of_files, of_staged] = failing;
+        Ok(Folder {
+            files: disk(alloc, &contents, of_files, None)?,
+            staged: disk(alloc, &[b"", b"", b"", b""], of_staged, None)?,
         })
     }
 }
 
-/// A disk with one package, `network`.
-fn disk(alloc: Global, contents: [&[u8]; 3], passed: Option<u64>) -> Result<MemDisk, Fail> {
+/// A disk with the package `network`, and with `wireless` where there are contents of it.
+fn disk(
+    alloc: Global,
+    contents: &[&[u8]],
+    failing: &[u64],
+    passed: Option<u64>,
+) -> Result<MemDisk, Fail> {
     let mut files = Vec::new(alloc);
-    let names = [".plane-gates", ".plane-snapshot", "network"];
+    let names = [".plane-gates", ".plane-snapshot", "network", "wireless"];
     for (name, bytes) in names.iter().zip(contents) {
         files.push(MemFile {
             name: Text::from_bytes(alloc, name.as_bytes())?,
             bytes: Text::from_bytes(alloc, bytes)?,
         })?;
     }
-    if files.len() != 3 || !are_disk_names(&file_names(alloc, &files)?) {
+    if files.len() > 4 || !are_disk_names(&file_names(alloc, &files)?) {
         return Err(Fail::from(Memory));
     }
-    Ok(MemDisk::new(alloc, files, Vec::new(alloc), passed)?)
+    let failing = Vec::from_slice(alloc, failing)?;
+    Ok(MemDisk::new(alloc, files, failing, passed)?)
 }
 
 /// Runs the program on these words and this input.
