@@ -19,6 +19,7 @@ use Rattle.plane_run.proofs.ComesLemmas.{run_comes as script_comes}
 use Rattle.plane_run.specs.declared.run_end.RunEnd.{RunEnd}
 use Rattle.plane_run.specs.Run.{RunEnds}
 use Rattle.plane_run.specs.Stops.{RunStops}
+use Rattle.plane_run.specs.Parts.{KeepsDisks}
 use Rattle.plane_main.specs.Script.{first_of, run_seen, ScriptEnds, ScriptComes}
 use Rattle.plane_main.specs.Start.{StartComes}
 use Rattle.plane_main.specs.Run.{CommandEnds, CommandComes, Ends, of_command, of_no_command, of_unread_words, Comes}
@@ -87,8 +88,10 @@ unread_comes words seen no_page (Show page) asked = absurd (no_page (page, asked
 
 -- why a run of a script ends so
 pub script_ends : (moment : ℕ) (seen : Seen) (end : RunEnd) (told : Ending) → told ≡ ending.OfRun end → RunEnds (run_seen moment seen) end
-    → RunStops (first_of moment seen) (stream_of_input seen.input) seen.folders.files_now → ScriptEnds moment seen told
-script_ends moment seen end told is ends stops = subst (ScriptEnds moment seen) (sym is) (ends, stops)
+    → RunStops (first_of moment seen) (stream_of_input seen.input) seen.folders.files_now
+    → KeepsDisks seen.folders.files seen.folders.files_now seen.folders.staged seen.folders.staged_now
+    → ScriptEnds moment seen told
+script_ends moment seen end told is ends stops disks = subst (ScriptEnds moment seen) (sym is) (ends, stops, disks)
 
 pub run_comes : (words : List (List ℕ)) (seen : Seen) (end : Ending) → Ends words seen end → Comes words seen end
 run_comes words seen end (of_command command asked cause) = record {

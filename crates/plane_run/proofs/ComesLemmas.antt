@@ -72,7 +72,7 @@ not_opened_calm seen (end.TooLong limit) why calm failure = failure
 not_opened_calm seen (end.BadSnapshot byte) why calm failure = failure
 
 run_calm : (seen : Seen) (ending : RunEnd) → RunEnds seen ending → IsCalm seen → IsFailure ending → ⊥
-run_calm seen ending (run.not_opened why same) calm failure = not_opened_calm seen ending why calm failure
+run_calm seen ending (run.not_opened why same as_found) calm failure = not_opened_calm seen ending why calm failure
 run_calm seen ending (run.cut_in_opening is folder found network wireless rows cut held) calm failure =
     calm_rose seen.first.before.out_faults seen.after.out_faults cut.cause calm.at_output
 run_calm seen ending (run.opened between opening goes due) calm failure =
@@ -104,7 +104,7 @@ large_shut seen (end.KernelFailed left) read number why calm tells passes = absu
 run_large : (seen : Seen) (ending : RunEnd) → RunEnds seen ending → (read : Files) (number : ℕ)
     → IsCalm seen → seen.first.files.seen ≡ Some read → PassesLimit (drop 2 read) number
     → OrLacksMemory (IsLong ending) ending
-run_large seen ending (run.not_opened why same) read number calm tells passes =
+run_large seen ending (run.not_opened why same as_found) read number calm tells passes =
     large_shut seen ending read number why calm tells passes
 run_large seen ending (run.cut_in_opening is folder found network wireless rows cut held) read number calm tells passes =
     absurd (found_within seen folder read number found tells passes)
@@ -154,7 +154,7 @@ run_wrong : (seen : Seen) (ending : RunEnd) → RunEnds seen ending → (read : 
     → IsCalm seen → seen.first.files.seen ≡ Some read
     → HasNoReading seen.first.files.names read seen.first.now byte
     → OrLacksMemory (ending ≡ end.BadSnapshot byte) ending
-run_wrong seen ending (run.not_opened why same) read byte calm tells none =
+run_wrong seen ending (run.not_opened why same as_found) read byte calm tells none =
     wrong_shut seen ending read byte why calm tells none
 run_wrong seen ending (run.cut_in_opening is folder found network wireless rows cut held) read byte calm tells none =
     absurd (found_reads seen folder read byte found tells none)

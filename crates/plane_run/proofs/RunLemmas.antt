@@ -43,25 +43,25 @@ use Rattle.plane_run.specs.Parts.{OpensNet, RowsRefuse, RunsOver, KeepsDisks, sh
 
 -- why the plane was not opened on rows that were loaded
 pub net_over : (X : Type 0) (now : ℕ) (store : Store) (input : Stream) (disks : DiskFaults)
-    (files_now staged_now : View) (before after : Outside) (network wireless : Package) (net : Moment)
+    (stays : Type 0) (files_now staged_now : View) (before after : Outside) (network wireless : Package) (net : Moment)
     (why : RunEnd) → IsLoaded (folder_of store) network_name network
     → IsLoaded (folder_of store) wireless_name wireless
     → OpensNet {X = X} network wireless net before after (Err why)
-    → IsHeld files_now staged_now (folder_of store)
-    → RunsOver now store input disks files_now staged_now before after why
-net_over X now store input disks files_now staged_now before after network wireless net end.WriteFailed one two h held =
+    → stays → IsHeld files_now staged_now (folder_of store)
+    → RunsOver now store input disks stays files_now staged_now before after why
+net_over X now store input disks stays files_now staged_now before after network wireless net end.WriteFailed one two h still held =
     parts.cut refl network wireless (record { of_network = one; of_wireless = two; within = h.0 }) h.1 held
-net_over X now store input disks files_now staged_now before after network wireless net (end.TooLong limit) one two h held =
-    parts.too_long network wireless one two limit refl h.0 h.1 held
-net_over X now store input disks files_now staged_now before after network wireless net end.OutOfMemory one two h held =
-    parts.no_rows tt h held
-net_over X now store input disks files_now staged_now before after network wireless net end.Done one two h held = absurd h
-net_over X now store input disks files_now staged_now before after network wireless net end.Refused one two h held = absurd h
-net_over X now store input disks files_now staged_now before after network wireless net end.ReadFailed one two h held = absurd h
-net_over X now store input disks files_now staged_now before after network wireless net end.DiskFailed one two h held = absurd h
-net_over X now store input disks files_now staged_now before after network wireless net (end.KernelFailed left) one two h held = absurd h
-net_over X now store input disks files_now staged_now before after network wireless net (end.Unreadable row_package fault) one two h held = absurd h
-net_over X now store input disks files_now staged_now before after network wireless net (end.BadSnapshot byte) one two h held = absurd h
+net_over X now store input disks stays files_now staged_now before after network wireless net (end.TooLong limit) one two h still held =
+    parts.too_long network wireless one two limit refl h.0 h.1 still held
+net_over X now store input disks stays files_now staged_now before after network wireless net end.OutOfMemory one two h still held =
+    parts.no_rows tt h still held
+net_over X now store input disks stays files_now staged_now before after network wireless net end.Done one two h still held = absurd h
+net_over X now store input disks stays files_now staged_now before after network wireless net end.Refused one two h still held = absurd h
+net_over X now store input disks stays files_now staged_now before after network wireless net end.ReadFailed one two h still held = absurd h
+net_over X now store input disks stays files_now staged_now before after network wireless net end.DiskFailed one two h still held = absurd h
+net_over X now store input disks stays files_now staged_now before after network wireless net (end.KernelFailed left) one two h still held = absurd h
+net_over X now store input disks stays files_now staged_now before after network wireless net (end.Unreadable row_package fault) one two h still held = absurd h
+net_over X now store input disks stays files_now staged_now before after network wireless net (end.BadSnapshot byte) one two h still held = absurd h
 
 rose_on : (m a b c : ℕ) → RoseBy m a b → Rose b c → Rose a c
 rose_on m a b c first second = omega (arith, first, second)
@@ -92,7 +92,7 @@ due_over start stage (end.BadSnapshot byte) m faults objects wanted first (inr r
 
 -- the plane was opened, and the run went on
 pub went_over : (now : ℕ) (store : Store) (input : Stream) (disks : DiskFaults)
-    (files_now staged_now : View) (before between after : Outside) (network wireless : Package)
+    (stays : Type 0) (files_now staged_now : View) (before between after : Outside) (network wireless : Package)
     (net : Moment) (ending : RunEnd) → IsLoaded (folder_of store) network_name network
     → IsLoaded (folder_of store) wireless_name wireless
     → OpensNet {X = Unit {0}} network wireless net before between (Ok (tt {0}))
@@ -108,8 +108,8 @@ pub went_over : (now : ℕ) (store : Store) (input : Stream) (disks : DiskFaults
     }) ending
     → (between.objects ≡ want_of net.inputs → IsKernelFailed ending
     → Rose between.kernel_faults after.kernel_faults)
-    → RunsOver now store input disks files_now staged_now before after ending
-went_over now store input disks files_now staged_now before between after network wireless net ending one two opens objects holds goes due =
+    → RunsOver now store input disks stays files_now staged_now before after ending
+went_over now store input disks stays files_now staged_now before between after network wireless net ending one two opens objects holds goes due =
     let stage : Stage = record {
       input = input;
       disks = disks;
@@ -231,7 +231,8 @@ module _ (start : World) (input : Stream) (f a b s c d : ℕ) (one : f ≤ a) (t
 -- what a run over the store comes to, from the disks as they were found
 module _ (seen : Seen) (files_mid staged_mid : View) (store : Store)
     (one : seen.first.files.faults ≤ files_mid.faults) (two : seen.first.staged.faults ≤ staged_mid.faults)
-    (found : IsFound seen.first.files seen.first.staged seen.first.now (folder_of store)) where
+    (found : IsFound seen.first.files seen.first.staged seen.first.now (folder_of store))
+    (stays : Type 0) (as_found : stays → StopsAsFound seen.first.now seen.first.files seen.files_now) where
   no_rows_end : (ending : RunEnd) → RowsRefuse (folder_of store) ending
       → IsHeld seen.files_now seen.staged_now (folder_of store) → NotOpened seen ending
   no_rows_end (end.Unreadable row_package fault) lacks held = (folder_of store, found, lacks, held)
@@ -247,15 +248,15 @@ module _ (seen : Seen) (files_mid staged_mid : View) (store : Store)
 
   pub over_ends : (ending : RunEnd)
       → RunsOver seen.first.now store seen.input
-      (faults_of files_mid seen.files_now staged_mid seen.staged_now) seen.files_now seen.staged_now
+      (faults_of files_mid seen.files_now staged_mid seen.staged_now) stays seen.files_now seen.staged_now
       seen.first.before seen.after ending
       → RunEnds seen ending
-  over_ends ending (parts.no_rows lacks same held) =
-      run.not_opened (no_rows_end ending lacks held) same
-  over_ends ending (parts.too_long network wireless first second limit is passed same held) =
+  over_ends ending (parts.no_rows lacks same still held) =
+      run.not_opened (no_rows_end ending lacks held) same (as_found still)
+  over_ends ending (parts.too_long network wireless first second limit is passed same still held) =
       run.not_opened
       (subst (NotOpened seen) (sym is) (run.of_rows (folder_of store) found network wireless first second passed held))
-      same
+      same (as_found still)
   over_ends ending (parts.cut is network wireless rows cut held) =
       run.cut_in_opening is (folder_of store) found network wireless rows cut held
   over_ends ending (parts.opened between network wireless rows failed_behind left objects goes due) =
@@ -285,7 +286,7 @@ module _ {D : Type 0} (view : D → View) (now : ℕ) (staged : View) (before : 
   abbrev first : First
   first = record { now = now; files = view old; staged = staged; before = before }
 
-  stops_as_found : new ≡ mid → StopsAsFound now (view old) (view new)
+  pub stops_as_found : new ≡ mid → StopsAsFound now (view old) (view new)
   stops_as_found same read tells =
       subst (λ (d : D). LeavesOnly (view old) (view d) (FromImage now (view old))) (sym same)
       (images read tells)

@@ -153,23 +153,23 @@ LinesEnd start lines disks files_now staged_now between after end.OutOfMemory = 
     × StopsIn (λ line world b a. LackedMemory line world now b a) start lines between after
 LinesEnd start lines disks files_now staged_now between after _ = ⊥
 
--- How a run over an open store ends. The rows do not load, or pass a limit; or the output failed in the opening; or the plane was
+-- How a run over an open store ends, where `stays` says that the disk of packages is the value that it was. The rows do not load, or pass a limit; or the output failed in the opening; or the plane was
 -- opened, and the run went on.
 pub data RunsOver (now : ℕ) (store : Store) (input : Stream) (disks : DiskFaults)
-    (files_now staged_now : View) (before after : Outside) (ending : RunEnd) : Type 0 where
-  no_rows : RowsRefuse (folder_of store) ending → after ≡ before
+    (stays : Type 0) (files_now staged_now : View) (before after : Outside) (ending : RunEnd) : Type 0 where
+  no_rows : RowsRefuse (folder_of store) ending → after ≡ before → stays
       → IsHeld files_now staged_now (folder_of store)
-      → RunsOver now store input disks files_now staged_now before after ending
+      → RunsOver now store input disks stays files_now staged_now before after ending
   too_long : (network wireless : Package) → IsLoaded (folder_of store) network_name network
       → IsLoaded (folder_of store) wireless_name wireless → (limit : ℕ) → ending ≡ end.TooLong limit
       → passed_limit (conf network wireless) ≡ Some limit → after ≡ before
-      → IsHeld files_now staged_now (folder_of store)
-      → RunsOver now store input disks files_now staged_now before after ending
+      → stays → IsHeld files_now staged_now (folder_of store)
+      → RunsOver now store input disks stays files_now staged_now before after ending
   cut : ending ≡ end.WriteFailed → (network wireless : Package)
       → HasRows (folder_of store) network wireless
       → IsOpenedInPart (loaded_net network wireless) (opening_asks network wireless) before after
       → IsHeld files_now staged_now (folder_of store)
-      → RunsOver now store input disks files_now staged_now before after ending
+      → RunsOver now store input disks stays files_now staged_now before after ending
   opened : (between : Outside) (network wireless : Package)
       → HasRows (folder_of store) network wireless → (failed_behind : Option ℕ)
       → Leaves (rows_opened network wireless failed_behind).effects (once_if (is_some failed_behind))
@@ -184,4 +184,4 @@ pub data RunsOver (now : ℕ) (store : Store) (input : Stream) (disks : DiskFaul
         after = after;
       }) ending
       → (IsKernelFailed ending → Rose before.kernel_faults after.kernel_faults)
-      → RunsOver now store input disks files_now staged_now before after ending
+      → RunsOver now store input disks stays files_now staged_now before after ending

@@ -11,7 +11,7 @@ use Rattle.uci_text.specs.declared.line.Line.{Line}
 use Rattle.uci_tree.specs.declared.package.Package.{Package}
 use Rattle.uci_tool.specs.Ends.{Stream}
 use Rattle.uci_tool.specs.Folder.{Folder}
-use Rattle.uci_run.specs.Folders.{IsFound, IsHeld}
+use Rattle.uci_run.specs.Folders.{IsFound, IsHeld, StopsAsFound}
 use Rattle.net_conf.specs.Conf.{conf}
 use Rattle.net_conf.specs.Limits.{passed_limit}
 use Rattle.net_rules.specs.Moment.{Moment, want_of}
@@ -179,7 +179,8 @@ IsKernelFailed _ = ⊥
 -- had left of the files. Or the output failed in the opening. Or the plane was opened, and the run went on; where objects are due, the
 -- kernel failed in the run.
 pub data RunEnds (seen : Seen) (ending : RunEnd) : Type 0 where
-  not_opened : NotOpened seen ending → seen.after ≡ seen.first.before → RunEnds seen ending
+  not_opened : NotOpened seen ending → seen.after ≡ seen.first.before
+      → StopsAsFound seen.first.now seen.first.files seen.files_now → RunEnds seen ending
   cut_in_opening : ending ≡ end.WriteFailed → (folder : Folder) → Finds seen folder
       → (network wireless : Package) → HasRows folder network wireless
       → IsOpenedInPart (loaded_net network wireless) (opening_asks network wireless)

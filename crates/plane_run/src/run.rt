@@ -88,7 +88,7 @@ fn run_over<S: Source, O: Sink, D: Disk, T: Disk, K: Kernel>(
     requires open { IsOpen store.old (D.view files.old) (T.view staged.old) }
     ensures runs { RunsOver now store.old (source_of S.Source input.old input.new)
         (faults_of (D.view files.old) (D.view files.new) (T.view staged.old) (T.view staged.new))
-        (D.view files.new) (T.view staged.new)
+        (files.new ≡ files.old) (D.view files.new) (T.view staged.new)
         (outside_of O.Sink K.Kernel out.old kernel.old)
         (outside_of O.Sink K.Kernel out.new kernel.new) result }
     ensures disks { KeepsDisks (D.view files.old) (D.view files.new)

@@ -49,7 +49,7 @@ returns-in-Run-clause-cause g c =
     } in
     of_command (Run c.in-Run.asked) (subst (AskFor words) c.in-Run.is asked)
     (script_ends c.in-Run.asked.moment seen c.run_script-end.result c.report-in-Run.result
-    c.report-in-Run.ensures.same c.run_script-end.ensures.ended c.run_script-end.ensures.stops)
+    c.report-in-Run.ensures.same c.run_script-end.ensures.ended c.run_script-end.ensures.stops c.run_script-end.ensures.disks)
 
 pub returns-in-Show-clause-cause : goal.returns-in-Show-clause-cause
 returns-in-Show-clause-cause g c =
