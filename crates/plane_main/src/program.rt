@@ -20,8 +20,8 @@ use std::alloc::Global;
 /// carries OpenWrt's `uci` out over the packages of `files`, with the command line's changes in `staged`, at the moment of `clock`.
 /// `run -c DIR` carries the script of the input out over the packages of `files`, on a kernel that begins without devices.
 /// `--help` and `--version` print a page about the program. The words are without the name of the program. A device that the kernel
-/// does not take is absent. Status 8 is want of memory: then no object was put and nothing was written to the output, but devices
-/// may have been added, and of a `uci` that takes several steps the first ones may be done.
+/// does not take is absent. Status 8 is want of memory: then a `start` put no object and wrote nothing to the output, but may have added
+/// devices; of a `uci` that takes several steps the first ones may be done, and of a `run` the lines before the one that it came in.
 pub fn plane<S: Source, O: Sink, E: Sink, D: Disk, T: Disk, K: Kernel, H: Hub, C: Clock, R: Random>(
     alloc: Global,
     words: &[String],
