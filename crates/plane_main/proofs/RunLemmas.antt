@@ -39,7 +39,7 @@ page_comes page before after (ending.OfUci status) cause calm = absurd cause
 page_comes page before after (ending.OfRun end) cause calm = absurd cause
 
 of_uci_comes : (words : List (List ℕ)) (seen : Seen) (end : Ending) → UciEnds words seen end → UciComes words seen end
-of_uci_comes words seen (ending.OfUci status) cause = uci_comes _ _ _ _ _ _ _ _ cause
+of_uci_comes words seen (ending.OfUci status) cause = uci_comes _ _ _ _ _ _ _ _ cause.0
 of_uci_comes words seen ending.Done cause = absurd cause
 of_uci_comes words seen ending.WriteFailed cause = absurd cause
 of_uci_comes words seen ending.Usage cause = absurd cause

@@ -29,34 +29,35 @@ calm_disks seen calm (inl rose) = calm_rose seen.first.files.faults seen.files_n
 calm_disks seen calm (inr rose) = calm_rose seen.first.staged.faults seen.staged_now.faults rose calm.at_staged
 
 -- the output that failed behind the opening was not calm
-cut_calm : (seen : Seen) (start : World) (between : Outside)
-    → seen.first.before.out_faults ≤ between.out_faults → WasCut start (stage_of seen between)
+cut_calm : (seen : Seen) (start : World) (folder : Folder) (between : Outside)
+    → seen.first.before.out_faults ≤ between.out_faults → WasCut start (stage_of seen folder between)
     → IsCalm seen → ⊥
-cut_calm seen start between first (run.in_answer line read left objects rose held) calm =
+cut_calm seen start folder between first (run.in_answer line read left objects rose held) calm =
     still_rose seen.first.before.out_faults between.out_faults seen.after.out_faults first rose calm.at_output
-cut_calm seen start between first (WasCut.in_line now stops held) calm =
+cut_calm seen start folder between first (WasCut.in_line now stops held) calm =
     let later = stops.stops.ran.left.later in
     still_rose seen.first.before.out_faults stops.stops.between.out_faults seen.after.out_faults
     (omega (arith, first, later)) stops.stops.stops.cause calm.at_output
 
-goes_calm : (seen : Seen) (start : World) (between : Outside) (ending : RunEnd)
-    → seen.first.before.out_faults ≤ between.out_faults → GoesOn start (stage_of seen between) ending
+goes_calm : (seen : Seen) (start : World) (folder : Folder) (between : Outside) (ending : RunEnd)
+    → seen.first.before.out_faults ≤ between.out_faults
+    → GoesOn start (stage_of seen folder between) ending
     → (run.IsKernelFailed ending → Rose seen.first.before.kernel_faults seen.after.kernel_faults)
     → IsCalm seen → IsFailure ending → ⊥
-goes_calm seen start between end.ReadFailed first goes due calm failure =
+goes_calm seen start folder between end.ReadFailed first goes due calm failure =
     calm_rose seen.input.faults seen.input.faults_now goes.0 calm.at_input
-goes_calm seen start between end.WriteFailed first goes due calm failure =
-    cut_calm seen start between first goes calm
-goes_calm seen start between end.DiskFailed first goes due calm failure =
+goes_calm seen start folder between end.WriteFailed first goes due calm failure =
+    cut_calm seen start folder between first goes calm
+goes_calm seen start folder between end.DiskFailed first goes due calm failure =
     calm_disks seen calm goes.stops.stops.cause
-goes_calm seen start between (end.KernelFailed left) first goes due calm failure =
+goes_calm seen start folder between (end.KernelFailed left) first goes due calm failure =
     calm_rose seen.first.before.kernel_faults seen.after.kernel_faults (due tt) calm.at_kernel
-goes_calm seen start between end.Done first goes due calm failure = failure
-goes_calm seen start between end.Refused first goes due calm failure = failure
-goes_calm seen start between end.OutOfMemory first goes due calm failure = failure
-goes_calm seen start between (end.Unreadable row_package fault) first goes due calm failure = failure
-goes_calm seen start between (end.TooLong limit) first goes due calm failure = failure
-goes_calm seen start between (end.BadSnapshot byte) first goes due calm failure = failure
+goes_calm seen start folder between end.Done first goes due calm failure = failure
+goes_calm seen start folder between end.Refused first goes due calm failure = failure
+goes_calm seen start folder between end.OutOfMemory first goes due calm failure = failure
+goes_calm seen start folder between (end.Unreadable row_package fault) first goes due calm failure = failure
+goes_calm seen start folder between (end.TooLong limit) first goes due calm failure = failure
+goes_calm seen start folder between (end.BadSnapshot byte) first goes due calm failure = failure
 
 not_opened_calm : (seen : Seen) (ending : RunEnd) → NotOpened seen ending → IsCalm seen
     → IsFailure ending → ⊥
@@ -76,7 +77,7 @@ run_calm seen ending (run.not_opened why same as_found) calm failure = not_opene
 run_calm seen ending (run.cut_in_opening is folder found network wireless rows cut held) calm failure =
     calm_rose seen.first.before.out_faults seen.after.out_faults cut.cause calm.at_output
 run_calm seen ending (run.opened between opening goes due) calm failure =
-    goes_calm seen _ between ending opening.left.later goes due calm failure
+    goes_calm seen _ opening.folder between ending opening.left.later goes due calm failure
 
 -- ---- files that pass a limit
 

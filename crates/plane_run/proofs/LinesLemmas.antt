@@ -1,6 +1,6 @@
 -- Lines that are carried out, and how a run ends by them.
 use Rattle.std.proofs.Common.{arith, ℕ, zero, suc, ◌≡◌, ◌≤◌, inl, inr, Bool, true, false, cond, List, [], Option, refl, ap, sym, subst, ◌∙◌}
-use Rattle.std.specs.Prelude.{Err, nat_lt}
+use Rattle.std.specs.Prelude.{◌≢◌, Err, nat_lt}
 use Rattle.std.proofs.lemmas.Bool.Decides.{nat_tests}
 use Rattle.plane_words.specs.Causes.{Rose}
 use Rattle.plane_words.specs.Growth.{Grows, GrowsByFront}
@@ -12,7 +12,7 @@ use Rattle.kern_calls.proofs.KeptLemmas.{same_if_none_due, none_due_if_same}
 use Rattle.uci_text.specs.declared.line.Line.{Line}
 use Rattle.uci_tool.specs.Ends.{Stream}
 use Rattle.uci_run.specs.Folders.{IsHeld}
-use Rattle.net_rules.specs.Moment.{want_of}
+use Rattle.net_rules.specs.Moment.{want_of, devices_of}
 use Rattle.net_settle.specs.Outside.{Outside}
 use Rattle.step_net.specs.Effects.{Leaves}
 use Rattle.step_net.specs.Finished.{HoldsOrFailed}
@@ -48,60 +48,52 @@ by_due P is_ok (suc due) held wanted is some none =
 -- ---- lines
 
 -- the lines ran to their end
-pub lines_ended : (start : World) (lines : List Line) (disks : DiskFaults) (files_now staged_now : View)
-    (between after : Outside) (now : World) (is_ok : Bool) (due : ℕ)
+pub lines_ended : (start : World) (lines : List Line) (disks : DiskFaults) (Images : List Line → Type 0)
+    (files_now staged_now : View) (between after : Outside) (now : World) (is_ok : Bool) (due : ℕ)
     → Ran start lines now between after is_ok → after.objects ≡ now.net.held
-    → IsHeld files_now staged_now now.files
+    → after.devices ≡ devices_of now.net.inputs → IsHeld files_now staged_now now.files
     → due ≡ due_count now.net.held (want_of now.net.inputs)
-    → LinesEnd start lines disks files_now staged_now between after (end_of is_ok due)
-lines_ended start lines disks files_now staged_now between after now is_ok due ran objects held is =
-    by_due (LinesEnd start lines disks files_now staged_now between after) is_ok due now.net.held
+    → LinesEnd start lines disks Images files_now staged_now between after (end_of is_ok due)
+lines_ended start lines disks Images files_now staged_now between after now is_ok due ran objects devices held is =
+    by_due (LinesEnd start lines disks Images files_now staged_now between after) is_ok due now.net.held
     (want_of now.net.inputs) is
-    (λ left count some. record {
-      lucks = ran.lucks;
-      last = ran.end;
-      folds = ran.folds;
-      left = ran.left;
-      objects = objects ∙ ap (λ (w : World). w.net.held) ran.next;
-      held = subst (λ (w : World). IsHeld files_now staged_now w.files) ran.next held;
-      ends = (
-        subst (λ (w : World). due_count w.net.held (want_of w.net.inputs) ≡ left) ran.next (sym count),
-        λ settled. some (subst (λ (w : World). w.net.held ≡ want_of w.net.inputs) (sym ran.next) settled),
-      );
-    })
+    (λ left count some. ended is_ok ran (IsDue left) (
+      subst (λ (w : World). due_count w.net.held (want_of w.net.inputs) ≡ left) ran.next (sym count),
+      λ settled. some (subst (λ (w : World). w.net.held ≡ want_of w.net.inputs) (sym ran.next) settled),
+    ))
     (λ same. by_ok is_ok ran same)
   where
-    ended : (b : Bool) (r : Ran start lines now between after b) → now.net.held ≡ want_of now.net.inputs
-        → (Ends : Moved → Type 0) → Ends r.end
+    ended : (b : Bool) (r : Ran start lines now between after b) (Ends : Moved → Type 0) → Ends r.end
         → LinesEnded start lines files_now staged_now between after Ends
-    ended b r same Ends ends = record {
+    ended b r Ends ends = record {
       lucks = r.lucks;
       last = r.end;
       folds = r.folds;
       left = r.left;
       objects = objects ∙ ap (λ (w : World). w.net.held) r.next;
+      devices = devices ∙ ap (λ (w : World). devices_of w.net.inputs) r.next;
       held = subst (λ (w : World). IsHeld files_now staged_now w.files) r.next held;
       ends = ends;
     }
 
     by_ok : (b : Bool) (r : Ran start lines now between after b) → now.net.held ≡ want_of now.net.inputs
-        → LinesEnd start lines disks files_now staged_now between after (cond b end.Done end.Refused)
-    by_ok true r same = ended true r same IsDone
+        → LinesEnd start lines disks Images files_now staged_now between after (cond b end.Done end.Refused)
+    by_ok true r same = ended true r IsDone
         (sym r.answer, subst (λ (w : World). w.net.held ≡ want_of w.net.inputs) r.next same)
-    by_ok false r same = ended false r same IsRefused
+    by_ok false r same = ended false r IsRefused
         (sym r.answer, subst (λ (w : World). w.net.held ≡ want_of w.net.inputs) r.next same)
 
 -- the lines stopped in one of them
-pub lines_stopped : (start : World) (lines : List Line) (disks : DiskFaults) (files_now staged_now : View)
-    (between after : Outside) (now : World) (why : Stop)
-    → ScriptEnds start lines now disks between after (Err why)
-    → (why ≡ stop.WriteFailed → IsHeld files_now staged_now now.files)
-    → LinesEnd start lines disks files_now staged_now between after (end_of_stop why)
-lines_stopped start lines disks files_now staged_now between after now stop.WriteFailed ends held =
-    (now, ends, held refl)
-lines_stopped start lines disks files_now staged_now between after now stop.DiskFailed ends held = ends
-lines_stopped start lines disks files_now staged_now between after now stop.Memory ends held =
-    (now, ends)
+pub lines_stopped : (start : World) (lines : List Line) (disks : DiskFaults) (Images : List Line → Type 0)
+    (files_now staged_now : View) (between after : Outside) (now : World) (why : Stop)
+    → ScriptEnds start lines now disks Images between after (Err why)
+    → (why ≢ stop.DiskFailed → IsHeld files_now staged_now now.files)
+    → LinesEnd start lines disks Images files_now staged_now between after (end_of_stop why)
+lines_stopped start lines disks Images files_now staged_now between after now stop.WriteFailed ends held =
+    (now, ends, held (λ e. cc e))
+lines_stopped start lines disks Images files_now staged_now between after now stop.DiskFailed ends held = ends
+lines_stopped start lines disks Images files_now staged_now between after now stop.Memory ends held =
+    (now, ends, held (λ e. cc e))
 
 -- only objects that are due tell that the kernel failed
 pub due_ended : (is_ok : Bool) (due : ℕ) (held wanted objects : Objects) (faults faults_now : ℕ)
@@ -129,7 +121,8 @@ due_stopped stop.Memory faults faults_now h = absurd h
 -- the lines of a script that was read
 pub lines_go_on : (start : World) (stage : Stage) (lines : List Line) (ending : RunEnd)
     → HasRead stage.input (Lines lines)
-    → LinesEnd start lines stage.disks stage.files_now stage.staged_now stage.between stage.after ending
+    → LinesEnd start lines stage.disks stage.images stage.files_now stage.staged_now stage.between stage.after
+    ending
     → GoesOn start stage ending
 lines_go_on start stage lines end.Done read h = record {
   script = Lines lines;
@@ -139,6 +132,7 @@ lines_go_on start stage lines end.Done read h = record {
   gives = carried_out lines h.lucks h.last h.folds;
   left = h.left;
   objects = h.objects;
+  devices = h.devices;
   held = h.held;
   ends = h.ends;
 }
@@ -150,6 +144,7 @@ lines_go_on start stage lines end.Refused read h = record {
   gives = carried_out lines h.lucks h.last h.folds;
   left = h.left;
   objects = h.objects;
+  devices = h.devices;
   held = h.held;
   ends = h.ends;
 }
@@ -161,6 +156,7 @@ lines_go_on start stage lines (end.KernelFailed left) read h = record {
   gives = carried_out lines h.lucks h.last h.folds;
   left = h.left;
   objects = h.objects;
+  devices = h.devices;
   held = h.held;
   ends = h.ends;
 }
@@ -169,7 +165,7 @@ lines_go_on start stage lines end.WriteFailed read h =
 lines_go_on start stage lines end.DiskFailed read h =
     record { lines = lines; read = read; stops = h }
 lines_go_on start stage lines end.OutOfMemory read h =
-    HasLacked.in_line h.0 (record { lines = lines; read = read; stops = h.1 })
+    HasLacked.in_line h.0 (record { lines = lines; read = read; stops = h.1 }) h.2
 lines_go_on start stage lines end.ReadFailed read h = absurd h
 lines_go_on start stage lines (end.Unreadable row_package fault) read h = absurd h
 lines_go_on start stage lines (end.TooLong limit) read h = absurd h
@@ -209,6 +205,8 @@ due_unread input (end.BadSnapshot byte) faults faults_now h failed = absurd fail
 
 module _ (start : World) (stage : Stage) (line : ℕ) (read : HasRead stage.input (Bad line))
     (held : Holds stage start.files) (net : stage.between.objects ≡ start.net.held)
+    (present : stage.between.devices ≡ devices_of start.net.inputs)
+    (devices : stage.after.devices ≡ stage.between.devices)
     (asked : stage.after.asked ≡ stage.between.asked) (calls : stage.after.calls ≡ stage.between.calls)
     (objects : stage.after.objects ≡ stage.between.objects)
     (faults : stage.after.kernel_faults ≡ stage.between.kernel_faults)
@@ -233,6 +231,7 @@ module _ (start : World) (stage : Stage) (line : ℕ) (read : HasRead stage.inpu
     gives = refused line;
     left = sees (bad_answer line) written;
     objects = objects ∙ net;
+    devices = devices ∙ present;
     held = held;
     ends = ends;
   }
@@ -259,6 +258,8 @@ module _ (start : World) (stage : Stage) (line : ℕ) (read : HasRead stage.inpu
 pub bad_goes_on : (X : Type 0) (start : World) (stage : Stage) (line : ℕ) (why : RunEnd)
     → HasRead stage.input (Bad line) → Holds stage start.files
     → stage.between.objects ≡ start.net.held
+    → stage.between.devices ≡ devices_of start.net.inputs
+    → stage.after.devices ≡ stage.between.devices
     → stage.after.asked ≡ stage.between.asked → stage.after.calls ≡ stage.between.calls
     → stage.after.objects ≡ stage.between.objects
     → stage.after.kernel_faults ≡ stage.between.kernel_faults
@@ -267,18 +268,18 @@ pub bad_goes_on : (X : Type 0) (start : World) (stage : Stage) (line : ℕ) (why
     → AnswersBad {X = X} line stage.between.out stage.after.out stage.between.out_faults
     stage.after.out_faults (Err why)
     → GoesOn start stage why
-bad_goes_on X start stage line end.WriteFailed read held net asked calls objects faults same h =
-    bad_cut start stage line read held net asked calls objects faults h.2 h.0 h.1
-bad_goes_on X start stage line end.OutOfMemory read held net asked calls objects faults same h =
+bad_goes_on X start stage line end.WriteFailed read held net present devices asked calls objects faults same h =
+    bad_cut start stage line read held net present devices asked calls objects faults h.2 h.0 h.1
+bad_goes_on X start stage line end.OutOfMemory read held net present devices asked calls objects faults same h =
     HasLacked.in_front (record { same = same h.0 h.1; held = held })
-bad_goes_on X start stage line end.Done read held net asked calls objects faults same h = absurd h
-bad_goes_on X start stage line end.Refused read held net asked calls objects faults same h = absurd h
-bad_goes_on X start stage line end.ReadFailed read held net asked calls objects faults same h = absurd h
-bad_goes_on X start stage line end.DiskFailed read held net asked calls objects faults same h = absurd h
-bad_goes_on X start stage line (end.KernelFailed left) read held net asked calls objects faults same h = absurd h
-bad_goes_on X start stage line (end.Unreadable row_package fault) read held net asked calls objects faults same h = absurd h
-bad_goes_on X start stage line (end.TooLong limit) read held net asked calls objects faults same h = absurd h
-bad_goes_on X start stage line (end.BadSnapshot byte) read held net asked calls objects faults same h = absurd h
+bad_goes_on X start stage line end.Done read held net present devices asked calls objects faults same h = absurd h
+bad_goes_on X start stage line end.Refused read held net present devices asked calls objects faults same h = absurd h
+bad_goes_on X start stage line end.ReadFailed read held net present devices asked calls objects faults same h = absurd h
+bad_goes_on X start stage line end.DiskFailed read held net present devices asked calls objects faults same h = absurd h
+bad_goes_on X start stage line (end.KernelFailed left) read held net present devices asked calls objects faults same h = absurd h
+bad_goes_on X start stage line (end.Unreadable row_package fault) read held net present devices asked calls objects faults same h = absurd h
+bad_goes_on X start stage line (end.TooLong limit) read held net present devices asked calls objects faults same h = absurd h
+bad_goes_on X start stage line (end.BadSnapshot byte) read held net present devices asked calls objects faults same h = absurd h
 
 pub due_bad : (X : Type 0) (line : ℕ) (old new : Option (List ℕ)) (a b : ℕ) (why : RunEnd)
     (faults faults_now : ℕ) → AnswersBad {X = X} line old new a b (Err why) → IsKernelFailed why

@@ -1,5 +1,5 @@
 -- The whole run.
-use Rattle.std.proofs.Common.{arith, ℕ, ◌≡◌, ◌≤◌, inl, inr, false, List, Some, refl, ap, sym, subst, ◌∙◌}
+use Rattle.std.proofs.Common.{arith, ℕ, ◌≡◌, ◌≤◌, inl, inr, false, List, [], ◌∷◌, ◌++◌, Some, refl, ap, sym, subst, ◌∙◌}
 use Rattle.std.specs.Prelude.{Ok, Err}
 use Rattle.plane_words.specs.Causes.{Rose, RoseBy}
 use Rattle.plane_disk.specs.Files.{Files}
@@ -9,7 +9,7 @@ use Rattle.snap_disk.specs.Images.{LeavesOnly, SameDisk}
 use Rattle.snap_disk.specs.Opening.{FromImage}
 use Rattle.snap_disk.specs.declared.snap_error.SnapError.TheVariants as snap_error
 use Rattle.snap_disk.proofs.LoadLemmas.{same_join}
-use Rattle.snap_disk.proofs.Moments.{joins}
+use Rattle.snap_disk.proofs.Moments.{joins, widens}
 use Rattle.uci_text.specs.declared.line.Line.{Line}
 use Rattle.uci_tree.specs.declared.package.Package.{Package}
 use Rattle.uci_staged.specs.Kept.{ReadsOn}
@@ -20,7 +20,7 @@ use Rattle.uci_store.specs.Opening.{OpenRefuses}
 use Rattle.uci_store.specs.Store.{has_failed, IsOnFiles}
 use Rattle.uci_tool.specs.Ends.{Stream}
 use Rattle.uci_tool.specs.Folder.{folder_of}
-use Rattle.uci_tool.specs.Stops.{OpensAmong}
+use Rattle.uci_tool.specs.Stops.{OpensAmong, StaysOrStops}
 use Rattle.uci_run.specs.Folders.{IsFound, IsHeld, StopsAsFound}
 use Rattle.net_rules.specs.Moment.{Moment, want_of}
 use Rattle.net_settle.specs.Outside.{Outside}
@@ -35,7 +35,7 @@ use Rattle.plane_run.specs.declared.run_end.RunEnd.TheVariants as end
 use Rattle.plane_run.specs.Opening.{First, start_world}
 use Rattle.plane_run.specs.Run as run
 use Rattle.plane_run.specs.Run.{Stage, Seen, HasEnded, IsAlone, WasCut, HasLacked, StopsInLine, GoesOn, IsKernelFailed, NotOpened, RunEnds, disks_of, stage_of}
-use Rattle.plane_run.specs.Stops.{RunStops, ScriptStops}
+use Rattle.plane_run.specs.Stops.{ImagesOf, RunStops, ScriptStops}
 use Rattle.plane_run.specs.Parts as parts
 use Rattle.plane_run.specs.Parts.{OpensNet, RowsRefuse, RunsOver, KeepsDisks, shut_of}
 
@@ -43,25 +43,25 @@ use Rattle.plane_run.specs.Parts.{OpensNet, RowsRefuse, RunsOver, KeepsDisks, sh
 
 -- why the plane was not opened on rows that were loaded
 pub net_over : (X : Type 0) (now : ℕ) (store : Store) (input : Stream) (disks : DiskFaults)
-    (stays : Type 0) (files_now staged_now : View) (before after : Outside) (network wireless : Package) (net : Moment)
+    (stays : Type 0) (Images : List Line → Type 0) (files_now staged_now : View) (before after : Outside) (network wireless : Package) (net : Moment)
     (why : RunEnd) → IsLoaded (folder_of store) network_name network
     → IsLoaded (folder_of store) wireless_name wireless
     → OpensNet {X = X} network wireless net before after (Err why)
     → stays → IsHeld files_now staged_now (folder_of store)
-    → RunsOver now store input disks stays files_now staged_now before after why
-net_over X now store input disks stays files_now staged_now before after network wireless net end.WriteFailed one two h still held =
+    → RunsOver now store input disks stays Images files_now staged_now before after why
+net_over X now store input disks stays Images files_now staged_now before after network wireless net end.WriteFailed one two h still held =
     parts.cut refl network wireless (record { of_network = one; of_wireless = two; within = h.0 }) h.1 held
-net_over X now store input disks stays files_now staged_now before after network wireless net (end.TooLong limit) one two h still held =
+net_over X now store input disks stays Images files_now staged_now before after network wireless net (end.TooLong limit) one two h still held =
     parts.too_long network wireless one two limit refl h.0 h.1 still held
-net_over X now store input disks stays files_now staged_now before after network wireless net end.OutOfMemory one two h still held =
+net_over X now store input disks stays Images files_now staged_now before after network wireless net end.OutOfMemory one two h still held =
     parts.no_rows tt h still held
-net_over X now store input disks stays files_now staged_now before after network wireless net end.Done one two h still held = absurd h
-net_over X now store input disks stays files_now staged_now before after network wireless net end.Refused one two h still held = absurd h
-net_over X now store input disks stays files_now staged_now before after network wireless net end.ReadFailed one two h still held = absurd h
-net_over X now store input disks stays files_now staged_now before after network wireless net end.DiskFailed one two h still held = absurd h
-net_over X now store input disks stays files_now staged_now before after network wireless net (end.KernelFailed left) one two h still held = absurd h
-net_over X now store input disks stays files_now staged_now before after network wireless net (end.Unreadable row_package fault) one two h still held = absurd h
-net_over X now store input disks stays files_now staged_now before after network wireless net (end.BadSnapshot byte) one two h still held = absurd h
+net_over X now store input disks stays Images files_now staged_now before after network wireless net end.Done one two h still held = absurd h
+net_over X now store input disks stays Images files_now staged_now before after network wireless net end.Refused one two h still held = absurd h
+net_over X now store input disks stays Images files_now staged_now before after network wireless net end.ReadFailed one two h still held = absurd h
+net_over X now store input disks stays Images files_now staged_now before after network wireless net end.DiskFailed one two h still held = absurd h
+net_over X now store input disks stays Images files_now staged_now before after network wireless net (end.KernelFailed left) one two h still held = absurd h
+net_over X now store input disks stays Images files_now staged_now before after network wireless net (end.Unreadable row_package fault) one two h still held = absurd h
+net_over X now store input disks stays Images files_now staged_now before after network wireless net (end.BadSnapshot byte) one two h still held = absurd h
 
 rose_on : (m a b c : ℕ) → RoseBy m a b → Rose b c → Rose a c
 rose_on m a b c first second = omega (arith, first, second)
@@ -92,7 +92,7 @@ due_over start stage (end.BadSnapshot byte) m faults objects wanted first (inr r
 
 -- the plane was opened, and the run went on
 pub went_over : (now : ℕ) (store : Store) (input : Stream) (disks : DiskFaults)
-    (stays : Type 0) (files_now staged_now : View) (before between after : Outside) (network wireless : Package)
+    (stays : Type 0) (Images : List Line → Type 0) (files_now staged_now : View) (before between after : Outside) (network wireless : Package)
     (net : Moment) (ending : RunEnd) → IsLoaded (folder_of store) network_name network
     → IsLoaded (folder_of store) wireless_name wireless
     → OpensNet {X = Unit {0}} network wireless net before between (Ok (tt {0}))
@@ -103,18 +103,20 @@ pub went_over : (now : ℕ) (store : Store) (input : Stream) (disks : DiskFaults
       disks = disks;
       files_now = files_now;
       staged_now = staged_now;
+      images = Images;
       between = between;
       after = after;
     }) ending
     → (between.objects ≡ want_of net.inputs → IsKernelFailed ending
     → Rose between.kernel_faults after.kernel_faults)
-    → RunsOver now store input disks stays files_now staged_now before after ending
-went_over now store input disks stays files_now staged_now before between after network wireless net ending one two opens objects holds goes due =
+    → RunsOver now store input disks stays Images files_now staged_now before after ending
+went_over now store input disks stays Images files_now staged_now before between after network wireless net ending one two opens objects holds goes due =
     let stage : Stage = record {
       input = input;
       disks = disks;
       files_now = files_now;
       staged_now = staged_now;
+      images = Images;
       between = between;
       after = after;
     } in
@@ -155,21 +157,28 @@ disk_before : (f a b s c d : ℕ) → f ≤ a → s ≤ c
 disk_before f a b s c d one two (inl rose) = inl (rose_before f a b one rose)
 disk_before f a b s c d one two (inr rose) = inr (rose_before s c d two rose)
 
--- a disk that failed behind the opening failed in the run
+-- a disk that failed behind the opening failed in the run, and its images are those since the start
 module _ (start : World) (input : Stream) (f a b s c d : ℕ) (one : f ≤ a) (two : s ≤ c)
-    (files_now staged_now : View) (between after : Outside) where
-  abbrev stage_from : ℕ → ℕ → Stage
-  stage_from x y = record {
+    (files_now staged_now : View) (Mid First : List Line → Type 0)
+    (carry : (lines : List Line) → Mid lines → First lines) (between after : Outside) where
+  abbrev stage_from : (List Line → Type 0) → ℕ → ℕ → Stage
+  stage_from Images x y = record {
     input = input;
     disks = record { files = x; files_now = b; staged = y; staged_now = d };
     files_now = files_now;
     staged_now = staged_now;
+    images = Images;
     between = between;
     after = after;
   }
 
-  ended_from : (Ends : Moved → Type 0) → HasEnded start (stage_from a c) Ends
-      → HasEnded start (stage_from f s) Ends
+  abbrev mid : Stage
+  mid = stage_from Mid a c
+
+  abbrev first_on : Stage
+  first_on = stage_from First f s
+
+  ended_from : (Ends : Moved → Type 0) → HasEnded start mid Ends → HasEnded start first_on Ends
   ended_from Ends h = record {
     script = h.script;
     read = h.read;
@@ -178,34 +187,18 @@ module _ (start : World) (input : Stream) (f a b s c d : ℕ) (one : f ≤ a) (t
     gives = h.gives;
     left = h.left;
     objects = h.objects;
+    devices = h.devices;
     held = h.held;
     ends = h.ends;
   }
 
-  alone_from : IsAlone start (stage_from a c) → IsAlone start (stage_from f s)
+  alone_from : IsAlone start mid → IsAlone start first_on
   alone_from h = record { same = h.same; held = h.held }
 
-  line_from : (Stops : Line → World → Outside → Outside → Type 0)
-      → StopsInLine start (stage_from a c) Stops → StopsInLine start (stage_from f s) Stops
-  line_from Stops h = record { lines = h.lines; read = h.read; stops = h.stops }
-
-  cut_from : WasCut start (stage_from a c) → WasCut start (stage_from f s)
-  cut_from (run.in_answer line read left objects rose held) =
-      run.in_answer line read left objects rose held
-  cut_from (WasCut.in_line now stops held) = WasCut.in_line now (line_from _ stops) held
-
-  lacked_from : HasLacked start (stage_from a c) → HasLacked start (stage_from f s)
-  lacked_from (run.in_front alone) = run.in_front (alone_from alone)
-  lacked_from (HasLacked.in_line now stops) = HasLacked.in_line now (line_from _ stops)
-
-  pub goes_from : (ending : RunEnd) → GoesOn start (stage_from a c) ending
-      → GoesOn start (stage_from f s) ending
-  goes_from end.Done h = ended_from _ h
-  goes_from end.Refused h = ended_from _ h
-  goes_from (end.KernelFailed left) h = ended_from _ h
-  goes_from end.ReadFailed h = (h.0, alone_from h.1)
-  goes_from end.WriteFailed h = cut_from h
-  goes_from end.DiskFailed h = record {
+  line_from : (One Other : Line → World → Outside → Outside → Type 0)
+      → ((line : Line) (world : World) (x y : Outside) → One line world x y → Other line world x y)
+      → StopsInLine start mid One → StopsInLine start first_on Other
+  line_from One Other go h = record {
     lines = h.lines;
     read = h.read;
     stops = record {
@@ -217,12 +210,33 @@ module _ (start : World) (input : Stream) (f a b s c d : ℕ) (one : f ≤ a) (t
       is_ok = h.stops.is_ok;
       between = h.stops.between;
       ran = h.stops.ran;
-      stops = record {
-        cause = disk_before f a b s c d one two h.stops.stops.cause;
-        tells = h.stops.stops.tells;
-      };
+      stops = go h.stops.line h.stops.world h.stops.between after h.stops.stops;
+      images = carry (h.stops.done ++ h.stops.line ∷ []) h.stops.images;
     };
   }
+
+  cut_from : WasCut start mid → WasCut start first_on
+  cut_from (run.in_answer line read left objects rose held) =
+      run.in_answer line read left objects rose held
+  cut_from (WasCut.in_line now stops held) =
+      WasCut.in_line now (line_from _ _ (λ line world x y h. h) stops) held
+
+  lacked_from : HasLacked start mid → HasLacked start first_on
+  lacked_from (run.in_front alone) = run.in_front (alone_from alone)
+  lacked_from (HasLacked.in_line now stops held) =
+      HasLacked.in_line now (line_from _ _ (λ line world x y h. h) stops) held
+
+  pub goes_from : (ending : RunEnd) → GoesOn start mid ending → GoesOn start first_on ending
+  goes_from end.Done h = ended_from _ h
+  goes_from end.Refused h = ended_from _ h
+  goes_from (end.KernelFailed left) h = ended_from _ h
+  goes_from end.ReadFailed h = (h.0, alone_from h.1)
+  goes_from end.WriteFailed h = cut_from h
+  goes_from end.DiskFailed h = line_from _ _
+      (λ line world x y fails. record {
+        cause = disk_before f a b s c d one two fails.cause;
+        tells = fails.tells;
+      }) h
   goes_from end.OutOfMemory h = lacked_from h
   goes_from (end.TooLong limit) h = (h.0, h.1, alone_from h.2)
   goes_from (end.Unreadable row_package fault) h = absurd h
@@ -232,7 +246,9 @@ module _ (start : World) (input : Stream) (f a b s c d : ℕ) (one : f ≤ a) (t
 module _ (seen : Seen) (files_mid staged_mid : View) (store : Store)
     (one : seen.first.files.faults ≤ files_mid.faults) (two : seen.first.staged.faults ≤ staged_mid.faults)
     (found : IsFound seen.first.files seen.first.staged seen.first.now (folder_of store))
-    (stays : Type 0) (as_found : stays → StopsAsFound seen.first.now seen.first.files seen.files_now) where
+    (stays : Type 0) (as_found : stays → StopsAsFound seen.first.now seen.first.files seen.files_now)
+    (Images : List Line → Type 0)
+    (carry : (lines : List Line) → Images lines → ImagesOf seen.first seen.files_now (folder_of store) lines) where
   no_rows_end : (ending : RunEnd) → RowsRefuse (folder_of store) ending
       → IsHeld seen.files_now seen.staged_now (folder_of store) → NotOpened seen ending
   no_rows_end (end.Unreadable row_package fault) lacks held = (folder_of store, found, lacks, held)
@@ -248,8 +264,8 @@ module _ (seen : Seen) (files_mid staged_mid : View) (store : Store)
 
   pub over_ends : (ending : RunEnd)
       → RunsOver seen.first.now store seen.input
-      (faults_of files_mid seen.files_now staged_mid seen.staged_now) stays seen.files_now seen.staged_now
-      seen.first.before seen.after ending
+      (faults_of files_mid seen.files_now staged_mid seen.staged_now) stays Images seen.files_now
+      seen.staged_now seen.first.before seen.after ending
       → RunEnds seen ending
   over_ends ending (parts.no_rows lacks same still held) =
       run.not_opened (no_rows_end ending lacks held) same (as_found still)
@@ -273,7 +289,8 @@ module _ (seen : Seen) (files_mid staged_mid : View) (store : Store)
       })
       (goes_from (start_world seen.first.now (folder_of store) network wireless failed_behind) seen.input
       seen.first.files.faults files_mid.faults seen.files_now.faults seen.first.staged.faults
-      staged_mid.faults seen.staged_now.faults one two seen.files_now seen.staged_now between seen.after
+      staged_mid.faults seen.staged_now.faults one two seen.files_now seen.staged_now Images
+      (ImagesOf seen.first seen.files_now (folder_of store)) carry between seen.after
       ending goes)
       due
 
@@ -291,6 +308,21 @@ module _ {D : Type 0} (view : D → View) (now : ℕ) (staged : View) (before : 
       subst (λ (d : D). LeavesOnly (view old) (view d) (FromImage now (view old))) (sym same)
       (images read tells)
 
+  pub images_over : SameDisk (view old) (view mid) → IsOnFiles store (view mid)
+      → has_failed store ≡ false → (lines : List Line)
+      → StaysOrStops store view mid new (script_passes now (folder_of store) lines)
+      → ImagesOf first (view new) (folder_of store) lines
+  images_over same on ready lines (inl e) read tells =
+      widens (view old) (view new) (FromImage now (view old)) _ (stops_as_found e read tells)
+      (λ image from. inl from)
+  images_over same on ready lines (inr stops) read tells =
+      let seen = same.tells read tells in
+      joins (view old) (view mid) (view new) (FromImage now (view old))
+      (OpensAmong (view mid).names (script_passes now (folder_of store) lines)) _
+      (images read tells) (stops (on.ready ready) seen.0 seen.1) (λ image from. inl from)
+      (λ image opens. inr (subst (λ (ns : List (List ℕ)). OpensAmong ns (script_passes now (folder_of store) lines) image)
+      same.names opens))
+
   pub stops_over : SameDisk (view old) (view mid) → IsOnFiles store (view mid)
       → has_failed store ≡ false → IsFound (view old) staged now (folder_of store)
       → ScriptStops now store input view mid new → RunStops first input (view new)
@@ -300,12 +332,7 @@ module _ {D : Type 0} (view : D → View) (now : ℕ) (staged : View) (before : 
     found = found;
     lines = h.0;
     read = h.1;
-    leaves = λ read tells. let seen = same.tells read tells in
-        joins (view old) (view mid) (view new) (FromImage now (view old))
-        (OpensAmong (view mid).names (script_passes now (folder_of store) h.0)) _
-        (images read tells) (h.2 (on.ready ready) seen.0 seen.1) (λ image from. inl from)
-        (λ image opens. inr (subst (λ (ns : List (List ℕ)). OpensAmong ns (script_passes now (folder_of store) h.0) image)
-        same.names opens));
+    images = images_over same on ready h.0 (inr h.2);
   })
 
 pub keeps_both : (a b c d e f : View) → SameDisk a b → ReadsOn d e → KeepsDisks b c e f

@@ -19,7 +19,7 @@ use Rattle.uci_tool.specs.Folder.{Folder, folder_of}
 use Rattle.uci_run.specs.Folders.{IsHeld}
 use Rattle.net_conf.specs.Conf.{conf}
 use Rattle.net_conf.specs.Limits.{passed_limit}
-use Rattle.net_rules.specs.Moment.{Moment}
+use Rattle.net_rules.specs.Moment.{Moment, devices_of}
 use Rattle.net_settle.specs.Outside.{Outside}
 use Rattle.step_net.specs.Effects.{Leaves}
 use Rattle.step_net.specs.Finished.{IsOpened, IsOpenedInPart}
@@ -133,43 +133,48 @@ pub record LinesEnded (start : World) (lines : List Line) (files_now staged_now 
   pub folds : Folds start lines lucks last
   pub left : Leaves last.effects (failures lucks) between after
   pub objects : after.objects ≡ last.world.net.held
+  pub devices : after.devices ≡ devices_of last.world.net.inputs
   pub held : IsHeld files_now staged_now last.world.files
   pub ends : Ends last
 
 -- how a run ends in which lines were carried out
-abbrev pub LinesEnd : World → List Line → DiskFaults → View → View → Outside → Outside → RunEnd → Type 0
-LinesEnd start lines disks files_now staged_now between after end.Done =
+abbrev pub LinesEnd : World → List Line → DiskFaults → (List Line → Type 0) → View → View → Outside
+    → Outside → RunEnd → Type 0
+LinesEnd start lines disks Images files_now staged_now between after end.Done =
     LinesEnded start lines files_now staged_now between after IsDone
-LinesEnd start lines disks files_now staged_now between after end.Refused =
+LinesEnd start lines disks Images files_now staged_now between after end.Refused =
     LinesEnded start lines files_now staged_now between after IsRefused
-LinesEnd start lines disks files_now staged_now between after (end.KernelFailed left) =
+LinesEnd start lines disks Images files_now staged_now between after (end.KernelFailed left) =
     LinesEnded start lines files_now staged_now between after (IsDue left)
-LinesEnd start lines disks files_now staged_now between after end.WriteFailed = (now : World)
-    × StopsIn (λ line world b a. CutShort line world now b a) start lines between after
+LinesEnd start lines disks Images files_now staged_now between after end.WriteFailed = (now : World)
+    × StopsIn (λ line world b a. CutShort line world now b a) Images start lines between after
     × IsHeld files_now staged_now now.files
-LinesEnd start lines disks files_now staged_now between after end.DiskFailed =
-    StopsIn (λ line world b a. FailedOnDisk line world disks b a) start lines between after
-LinesEnd start lines disks files_now staged_now between after end.OutOfMemory = (now : World)
-    × StopsIn (λ line world b a. LackedMemory line world now b a) start lines between after
-LinesEnd start lines disks files_now staged_now between after _ = ⊥
+LinesEnd start lines disks Images files_now staged_now between after end.DiskFailed =
+    StopsIn (λ line world b a. FailedOnDisk line world disks b a) Images start lines between after
+LinesEnd start lines disks Images files_now staged_now between after end.OutOfMemory = (now : World)
+    × StopsIn (λ line world b a. LackedMemory line world now b a) Images start lines between after
+    × IsHeld files_now staged_now now.files
+LinesEnd start lines disks Images files_now staged_now between after _ = ⊥
 
--- How a run over an open store ends, where `stays` says that the disk of packages is the value that it was. The rows do not load, or pass a limit; or the output failed in the opening; or the plane was
--- opened, and the run went on.
+-- How a run over an open store ends, where `stays` says that the disk of packages is the value that it
+-- was, and `Images` what its images are where so many lines were begun. The rows do not load, or pass a
+-- limit; or the output failed in the opening; or the plane was opened, and the run went on.
 pub data RunsOver (now : ℕ) (store : Store) (input : Stream) (disks : DiskFaults)
-    (stays : Type 0) (files_now staged_now : View) (before after : Outside) (ending : RunEnd) : Type 0 where
+    (stays : Type 0) (Images : List Line → Type 0) (files_now staged_now : View)
+    (before after : Outside) (ending : RunEnd) : Type 0 where
   no_rows : RowsRefuse (folder_of store) ending → after ≡ before → stays
       → IsHeld files_now staged_now (folder_of store)
-      → RunsOver now store input disks stays files_now staged_now before after ending
+      → RunsOver now store input disks stays Images files_now staged_now before after ending
   too_long : (network wireless : Package) → IsLoaded (folder_of store) network_name network
       → IsLoaded (folder_of store) wireless_name wireless → (limit : ℕ) → ending ≡ end.TooLong limit
       → passed_limit (conf network wireless) ≡ Some limit → after ≡ before
       → stays → IsHeld files_now staged_now (folder_of store)
-      → RunsOver now store input disks stays files_now staged_now before after ending
+      → RunsOver now store input disks stays Images files_now staged_now before after ending
   cut : ending ≡ end.WriteFailed → (network wireless : Package)
       → HasRows (folder_of store) network wireless
       → IsOpenedInPart (loaded_net network wireless) (opening_asks network wireless) before after
       → IsHeld files_now staged_now (folder_of store)
-      → RunsOver now store input disks stays files_now staged_now before after ending
+      → RunsOver now store input disks stays Images files_now staged_now before after ending
   opened : (between : Outside) (network wireless : Package)
       → HasRows (folder_of store) network wireless → (failed_behind : Option ℕ)
       → Leaves (rows_opened network wireless failed_behind).effects (once_if (is_some failed_behind))
@@ -180,8 +185,9 @@ pub data RunsOver (now : ℕ) (store : Store) (input : Stream) (disks : DiskFaul
         disks = disks;
         files_now = files_now;
         staged_now = staged_now;
+        images = Images;
         between = between;
         after = after;
       }) ending
       → (IsKernelFailed ending → Rose before.kernel_faults after.kernel_faults)
-      → RunsOver now store input disks stays files_now staged_now before after ending
+      → RunsOver now store input disks stays Images files_now staged_now before after ending

@@ -14,7 +14,7 @@ use Rattle.uci_tool.specs.Folder.{Folder}
 use Rattle.uci_run.specs.Folders.{IsFound, IsHeld, StopsAsFound}
 use Rattle.net_conf.specs.Conf.{conf}
 use Rattle.net_conf.specs.Limits.{passed_limit}
-use Rattle.net_rules.specs.Moment.{Moment, want_of}
+use Rattle.net_rules.specs.Moment.{Moment, want_of, devices_of}
 use Rattle.net_settle.specs.Outside.{Outside}
 use Rattle.step_net.specs.Effects.{Leaves, LeavesInPart}
 use Rattle.step_net.specs.Finished.{IsOpenedInPart}
@@ -30,15 +30,18 @@ use Rattle.plane_run.specs.declared.script.Script.TheVariants.{Lines, Bad}
 use Rattle.plane_run.specs.declared.script.TheConstants.{SCRIPT_LIMIT}
 use Rattle.plane_run.specs.Opening.{First, HasRows, HasOpened, LacksRows, world_of, loaded_net, opening_asks}
 use Rattle.plane_run.specs.Script.{HasRead, Gives, answered}
+use Rattle.plane_run.specs.Stops.{ImagesOf}
 
 -- ---- behind the opening
 
--- the input, the counts of the disks, what the disks hold now, and the output and the kernel then and now
+-- the input, the counts of the disks, what the disks hold now, what is said of the images of the files
+-- where so many lines were begun, and the output and the kernel then and now
 pub record Stage : Type 1 where
   pub input : Stream
   pub disks : DiskFaults
   pub files_now : View
   pub staged_now : View
+  pub images : List Line → Type 0
   pub between : Outside
   pub after : Outside
 
@@ -55,6 +58,7 @@ pub record HasEnded (start : World) (stage : Stage) (Ends : Moved → Type 0) : 
   pub gives : Gives start script lucks last
   pub left : Leaves last.effects (failures lucks) stage.between stage.after
   pub objects : stage.after.objects ≡ last.world.net.held
+  pub devices : stage.after.devices ≡ devices_of last.world.net.inputs
   pub held : Holds stage last.world.files
   pub ends : Ends last
 
@@ -85,7 +89,7 @@ pub record StopsInLine (start : World) (stage : Stage)
     (Stops : Line → World → Outside → Outside → Type 0) : Type 0 where
   pub lines : List Line
   pub read : HasRead stage.input (Lines lines)
-  pub stops : StopsIn Stops start lines stage.between stage.after
+  pub stops : StopsIn Stops stage.images start lines stage.between stage.after
 
 -- The output failed, at the one answer to a script without lines or in a line.
 pub data WasCut (start : World) (stage : Stage) : Type 0 where
@@ -103,7 +107,7 @@ pub data HasLacked (start : World) (stage : Stage) : Type 0 where
   in_front : IsAlone start stage → HasLacked start stage
   in_line : (now : World)
       → StopsInLine start stage (λ line world before after. LackedMemory line world now before after)
-      → HasLacked start stage
+      → Holds stage now.files → HasLacked start stage
 
 -- how a run goes on behind its opening, and why it ends so
 abbrev pub GoesOn : World → Stage → RunEnd → Type 0
@@ -133,12 +137,14 @@ pub record Seen : Type 1 where
 abbrev pub disks_of : Seen → DiskFaults
 disks_of seen = faults_of seen.first.files seen.files_now seen.first.staged seen.staged_now
 
-abbrev pub stage_of : Seen → Outside → Stage
-stage_of seen between = record {
+-- behind the opening of this folder
+abbrev pub stage_of : Seen → Folder → Outside → Stage
+stage_of seen folder between = record {
   input = seen.input;
   disks = disks_of seen;
   files_now = seen.files_now;
   staged_now = seen.staged_now;
+  images = ImagesOf seen.first seen.files_now folder;
   between = between;
   after = seen.after;
 }
@@ -187,6 +193,6 @@ pub data RunEnds (seen : Seen) (ending : RunEnd) : Type 0 where
       seen.first.before seen.after
       → StillHolds seen folder → RunEnds seen ending
   opened : (between : Outside) (opening : HasOpened seen.first between)
-      → GoesOn (world_of seen.first between opening) (stage_of seen between) ending
+      → GoesOn (world_of seen.first between opening) (stage_of seen opening.folder between) ending
       → (IsKernelFailed ending → Rose seen.first.before.kernel_faults seen.after.kernel_faults)
       → RunEnds seen ending

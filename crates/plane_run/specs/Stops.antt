@@ -15,16 +15,20 @@ use Rattle.plane_run.specs.declared.script.Script.TheVariants.{Lines}
 use Rattle.plane_run.specs.Opening.{First}
 use Rattle.plane_run.specs.Script.{HasRead}
 
--- The folder was opened and the script read. Each image of the files since the start gives, from the moment of the run on, what an
--- image at the start gives, or it opens at any moment as a folder that the script passes through.
+-- Each image of the files since the start gives, from the moment of the run on, what an image at the
+-- start gives, or it opens at any moment as a folder that these lines pass through.
+abbrev pub ImagesOf : First → View → Folder → List Line → Type 0
+ImagesOf first files_now folder lines = (read : Files) → first.files.seen ≡ Some read
+    → LeavesOnly first.files files_now (λ image. FromImage first.now first.files image
+    ⊎ OpensAmong first.files.names (script_passes first.now folder lines) image)
+
+-- The folder was opened and the script read, and the images are those of its lines.
 pub record StopsOver (first : First) (input : Stream) (files_now : View) : Type 0 where
   pub folder : Folder
   pub found : IsFound first.files first.staged first.now folder
   pub lines : List Line
   pub read : HasRead input (Lines lines)
-  pub leaves : (read : Files) → first.files.seen ≡ Some read
-      → LeavesOnly first.files files_now (λ image. FromImage first.now first.files image
-      ⊎ OpensAmong first.files.names (script_passes first.now folder lines) image)
+  pub images : ImagesOf first files_now folder lines
 
 abbrev pub RunStops : First → Stream → View → Type 0
 RunStops first input files_now =

@@ -49,6 +49,8 @@ pub(crate) fn carry_script<S: Source, O: Sink, D: Disk, T: Disk, K: Kernel>(
       disks = faults_of (D.view files.old) (D.view files.new) (T.view staged.old) (T.view staged.new);
       files_now = D.view files.new;
       staged_now = T.view staged.new;
+      images = λ lines. StaysOrStops store.old D.view files.old files.new
+          (script_passes now (folder_of store.old) lines);
       between = outside_of O.Sink K.Kernel out.old kernel.old;
       after = outside_of O.Sink K.Kernel out.new kernel.new;
     }) result }
@@ -96,6 +98,8 @@ fn carry_lines<O: Sink, D: Disk, T: Disk, K: Kernel>(
     requires of { IsOf K.Kernel kernel.old net.old }
     ensures ends { LinesEnd (world_of now store.old net.old) lines.now
         (faults_of (D.view files.old) (D.view files.new) (T.view staged.old) (T.view staged.new))
+        (λ front. StaysOrStops store.old D.view files.old files.new
+        (script_passes now (folder_of store.old) front))
         (D.view files.new) (T.view staged.new)
         (outside_of O.Sink K.Kernel out.old kernel.old)
         (outside_of O.Sink K.Kernel out.new kernel.new) result }

@@ -7,6 +7,8 @@ ghost use Rattle.uci_staged.specs.Kept.{Follows};
 ghost use Rattle.uci_tool.specs.Answers.{IsOpen};
 ghost use Rattle.uci_tool.specs.Ends.{source_of};
 ghost use Rattle.uci_tool.specs.Folder.{folder_of};
+ghost use Rattle.uci_tool.specs.Stops.{StaysOrStops};
+ghost use Rattle.plane_step.specs.FilesMoved.{script_passes};
 ghost use Rattle.plane_step.specs.Ran.{faults_of};
 ghost use Rattle.plane_run.specs.Run.{RunEnds};
 ghost use Rattle.plane_run.specs.Parts as spec;
@@ -88,7 +90,10 @@ fn run_over<S: Source, O: Sink, D: Disk, T: Disk, K: Kernel>(
     requires open { IsOpen store.old (D.view files.old) (T.view staged.old) }
     ensures runs { RunsOver now store.old (source_of S.Source input.old input.new)
         (faults_of (D.view files.old) (D.view files.new) (T.view staged.old) (T.view staged.new))
-        (files.new ≡ files.old) (D.view files.new) (T.view staged.new)
+        (files.new ≡ files.old)
+        (λ lines. StaysOrStops store.old D.view files.old files.new
+        (script_passes now (folder_of store.old) lines))
+        (D.view files.new) (T.view staged.new)
         (outside_of O.Sink K.Kernel out.old kernel.old)
         (outside_of O.Sink K.Kernel out.new kernel.new) result }
     ensures disks { KeepsDisks (D.view files.old) (D.view files.new)

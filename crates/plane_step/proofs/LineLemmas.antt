@@ -1,7 +1,7 @@
 -- Lines that are carried out.
-use Rattle.std.proofs.Common.{arith, ℕ, ◌≡◌, ◌≤◌, ◌+◌, List, [], ◌∷◌, ◌++◌, Option, Bool, false, ap, sym, subst, ◌∙◌, append_assoc, refl}
-use Rattle.std.specs.Prelude.{Err, is_some}
-use Rattle.plane_words.specs.Causes.{Rose, RoseBy}
+use Rattle.std.proofs.Common.{arith, ℕ, ◌≡◌, ◌≤◌, ◌+◌, List, [], ◌∷◌, ◌++◌, Option, Bool, false, ap, sym, subst, ◌∙◌, append_assoc, append-nil, refl}
+use Rattle.std.specs.Prelude.{Result, Ok, Err, OnOk, OnErr, is_some}
+use Rattle.plane_words.specs.Causes.{Rose, RoseBy, HasCause}
 use Rattle.plane_words.specs.Growth.{Grows, GrowsByFront}
 use Rattle.kern_model.specs.ObjectOrder.{set_of}
 use Rattle.kern_model.specs.CallOrder.{after_calls}
@@ -22,7 +22,7 @@ use Rattle.step_net.proofs.GrowthLemmas.{grows_none, records_more}
 use Rattle.plane_step.specs.World.{world_of}
 use Rattle.uci_store.specs.declared.store.Store.{Store}
 use Rattle.plane_step.specs.Done.{Front, world_at, IsDone, IsUndone, IsNetUndone, IsFailed, Does}
-use Rattle.plane_step.specs.Ran.{CarriedOut, CutShort, LacksFor, LackedMemory, FailedOnDisk, TellsAlone, TellsHalt, LineEnds, DiskFaults, memory_line, disk_line, IsFront}
+use Rattle.plane_step.specs.Ran.{CarriedOut, CutShort, LacksFor, LackedMemory, FailedOnDisk, TellsAlone, Tells, TellsHalt, LineEnds, DiskFaults, memory_line, disk_line, IsWritten}
 use Rattle.plane_step.specs.declared.stop.Stop.{Stop}
 use Rattle.plane_step.specs.declared.stop.Stop.TheVariants as stop
 
@@ -121,6 +121,7 @@ module _ (front : Front) (line : Line) (now : ℕ) (store : Store) (mid : Networ
               });
           left = leaves f.left.front (once_if (is_some f.failed_behind)) after f.left.left;
         };
+        pace = f.pace;
         objects = f.objects
             ∙ ap (λ o. after_calls o f.left.front.calls) (held ∙ ap (λ (m : Moment). m.held) acted_net);
         cause = subst (λ x. Rose x after.out_faults) out_faults f.cause;
@@ -132,8 +133,11 @@ module _ (front : Front) (line : Line) (now : ℕ) (store : Store) (new : Networ
     (before after : Outside) (text : List ℕ) (asked : kernel.asked ≡ before.asked)
     (asked_now : kernel.asked_now ≡ after.asked) (faults : kernel.faults ≡ before.kernel_faults)
     (faults_now : kernel.faults_now ≡ after.kernel_faults) (calls : after.calls ≡ before.calls)
-    (held : after.objects ≡ set_of new.held) (written : GrowsByFront before.out after.out text)
-    (later : before.out_faults ≤ after.out_faults) where
+    (held : after.objects ≡ set_of new.held)
+    (tells : Tells text before.out after.out before.out_faults after.out_faults) where
+  abbrev written : GrowsByFront before.out after.out text
+  written = tells.written
+
   sees : (b : Bool) (what : List Asked) → Asks what b kernel
       → Leaves (record { asked = what; calls = []; text = written.front }) (once_if b) before after
   sees b what asks = record {
@@ -143,16 +147,16 @@ module _ (front : Front) (line : Line) (now : ℕ) (store : Store) (new : Networ
     written = written.grows;
     cause = subst (λ x. RoseBy (once_if b) before.kernel_faults x) faults_now
         (subst (λ x. RoseBy (once_if b) x kernel.faults_now) faults asks.cause);
-    later = later;
+    later = tells.later;
   }
 
-  is_front : IsFront written.front text
-  is_front = record { back = written.back; parts = written.parts }
+  is_written : IsWritten written.front text before after
+  is_written = record { back = written.back; parts = written.parts; whole = tells.whole }
 
   pub told_alone : new ≡ front.net → Asks [] false kernel → TellsAlone text (world_at front) before after
   told_alone same asks = record {
     text = written.front;
-    front = is_front;
+    written = is_written;
     left = sees false [] asks;
     objects = held ∙ ap (λ (n : Network). set_of n.held) same;
   }
@@ -174,7 +178,8 @@ module _ (front : Front) (line : Line) (now : ℕ) (store : Store) (new : Networ
   lacks_for is (IsNetUndone.asked asked_line means (IsLeft.in_front same asks)) =
       LacksFor.in_front (subst (λ t. TellsAlone t (world_at front) before after) is (told_alone same asks))
   lacks_for is (IsNetUndone.asked asked_line means (IsLeft.behind b net asks)) =
-      LacksFor.behind asked_line means b written.front (subst (IsFront written.front) is is_front)
+      LacksFor.behind asked_line means b written.front
+      (subst (λ t. IsWritten written.front t before after) is is_written)
       (sees b (acted (moment_of front.net) asked_line b).asked asks)
       (held ∙ ap (λ (m : Moment). m.held) net)
 
@@ -198,7 +203,22 @@ halted front line now store new kernel before after disks stop.WriteFailed asked
     absurd does
 halted front line now store new kernel before after disks stop.DiskFailed asked asked_now faults faults_now calls held does tells =
     failed_on_disk front line now store new kernel before after disk_line asked asked_now faults faults_now
-    calls held tells.0 tells.1 disks refl does
+    calls held tells disks refl does
 halted front line now store new kernel before after disks stop.Memory asked asked_now faults faults_now calls held does tells =
     lacked front line now store new kernel before after memory_line asked asked_now faults faults_now calls
-    held tells.0 tells.1 refl does
+    held tells refl does
+
+-- a line was written, or a front of it
+pub tells_line : {X E : Type 0} (line : List ℕ) (old new : Option (List ℕ)) (faults faults_now : ℕ)
+    (result : Result X E) → OnOk result (Grows old new line) → OnErr result (GrowsByFront old new line)
+    → HasCause faults faults_now result → Tells line old new faults faults_now
+tells_line line old new faults faults_now (Ok done) whole part cause = record {
+  written = record { front = line; back = []; parts = sym (append-nil line); grows = whole };
+  later = cause.later;
+  whole = λ calm. refl;
+}
+tells_line line old new faults faults_now (Err failed) whole part cause = record {
+  written = part;
+  later = cause.later;
+  whole = λ calm. let rose = cause.failed in absurd (omega (arith, calm, rose));
+}

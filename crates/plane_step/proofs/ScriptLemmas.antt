@@ -90,9 +90,10 @@ disk_rose f s a b c d files staged (inr rose) = inr (rose_behind s c d staged ro
 -- a script stops in a line
 module _ (start : World) (lines done : List Line) (line : Line) (rest : List Line)
     (parts : lines ≡ done ++ line ∷ rest) (world now : World) (before between after : Outside)
-    (is_ok : Bool) (ran : Ran start done world before between is_ok) where
+    (is_ok : Bool) (ran : Ran start done world before between is_ok) (Images : List Line → Type 0)
+    (images : Images (done ++ line ∷ [])) where
   stops : (Stops : Line → World → Outside → Outside → Type 0) → Stops line world between after
-      → StopsIn Stops start lines before after
+      → StopsIn Stops Images start lines before after
   stops Stops is = record {
     done = done;
     line = line;
@@ -103,13 +104,14 @@ module _ (start : World) (lines done : List Line) (line : Line) (rest : List Lin
     between = between;
     ran = ran;
     stops = is;
+    images = images;
   }
 
   pub stops_in : (f s a b c d : ℕ) → f ≤ a → s ≤ c → (why : Stop)
       → LineEnds line world now (record { files = a; files_now = b; staged = c; staged_now = d }) between
       after (Err why)
       → ScriptEnds start lines now (record { files = f; files_now = b; staged = s; staged_now = d })
-      before after (Err why)
+      Images before after (Err why)
   stops_in f s a b c d files staged stop.WriteFailed ends =
       stops (λ l w m e. CutShort l w now m e) ends
   stops_in f s a b c d files staged stop.Memory ends =

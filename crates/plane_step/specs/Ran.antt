@@ -1,6 +1,6 @@
 -- What a line and a script left outside.
 use Rattle.std.specs.Prelude.{ℕ, ◌≡◌, ◌≤◌, ◌⊎◌, List, [], ◌∷◌, ◌++◌, Bool, codes, Option, Result, Ok, Err, ⊤}
-use Rattle.plane_words.specs.Causes.{Rose}
+use Rattle.plane_words.specs.Causes.{Rose, DidNotRise}
 use Rattle.plane_words.specs.Growth.{GrowsByFront}
 use Rattle.plane_disk.specs.View.{View}
 use Rattle.kern_model.specs.CallOrder.{after_calls}
@@ -10,6 +10,7 @@ use Rattle.net_settle.specs.Outside.{Outside}
 use Rattle.step_net.specs.NetLine.{NetLine}
 use Rattle.step_net.specs.Acted.{acted}
 use Rattle.step_net.specs.Effects.{Leaves, LeavesInPart}
+use Rattle.step_net.specs.Finished.{KeepsPace}
 use Rattle.step_net.specs.Moved.{Luck, fails_first, failures_of, once_if}
 use Rattle.plane_step.specs.declared.stop.Stop.{Stop}
 use Rattle.plane_step.specs.declared.stop.Stop.TheVariants as stop
@@ -40,27 +41,30 @@ pub record CarriedOut (line : Line) (world now : World) (before after : Outside)
   pub answer : is_ok ≡ (moved_by world line act luck).is_ok
   pub left : Leaves (moved_by world line act luck).effects (failures_of luck) before after
 
--- The output failed in a line: a front of what is seen of it outside was seen, the kernel holds what
--- it held behind the event of the line and that front of the calls, and the files are those behind it.
+-- The output failed in a line: a front of what is seen of it outside was seen, the lines of its calls
+-- with them. The kernel holds what it held behind the event of the line and that front of the calls,
+-- and the files are those behind it.
 pub record CutShort (line : Line) (world now : World) (before after : Outside) : Type 0 where
   pub act : NetLine
   pub means : LineMeans world line act
   pub luck : Luck
   pub left : LeavesInPart (moved_by world line act luck).effects (failures_of luck) before after
+  pub pace : KeepsPace left.front.calls left.front.text
   pub objects : after.objects ≡ after_calls
       (acted world.net act (fails_first luck.events)).net.held left.front.calls
   pub cause : Rose before.out_faults after.out_faults
   pub files : now.files ≡ (line_moved world line).after
 
--- a front of a text
-pub record IsFront (text whole : List ℕ) : Type 0 where
+-- this was written of a line: all of it, or a front where the output failed
+pub record IsWritten (text line : List ℕ) (before after : Outside) : Type 0 where
   pub back : List ℕ
-  pub parts : whole ≡ text ++ back
+  pub parts : line ≡ text ++ back
+  pub whole : DidNotRise before.out_faults after.out_faults → back ≡ []
 
--- a front of this line alone was written, and the kernel was asked nothing
+-- this line alone was written, and the kernel was asked nothing
 pub record TellsAlone (line : List ℕ) (world : World) (before after : Outside) : Type 0 where
   pub text : List ℕ
-  pub front : IsFront text line
+  pub written : IsWritten text line before after
   pub left : Leaves (record { asked = []; calls = []; text = text }) 0 before after
   pub objects : after.objects ≡ world.net.held
 
@@ -71,21 +75,25 @@ memory_line = codes "error 8 memory\n"
 abbrev pub disk_line : List ℕ
 disk_line = codes "error 30 disk\n"
 
--- what is told where a script ends in a line that is not carried out: why, or a front of that
+-- an output grew by a line, or by a front of it where it failed
+pub record Tells (line : List ℕ) (old new : Option (List ℕ)) (faults faults_now : ℕ)
+    : Type 0 where
+  pub written : GrowsByFront old new line
+  pub later : faults ≤ faults_now
+  pub whole : DidNotRise faults faults_now → written.back ≡ []
+
+-- what is told where a script ends in a line that is not carried out
 abbrev pub TellsHalt : Stop → Option (List ℕ) → Option (List ℕ) → ℕ → ℕ → Type 0
-TellsHalt stop.DiskFailed old new faults faults_now =
-    GrowsByFront old new disk_line × (faults ≤ faults_now)
-TellsHalt stop.Memory old new faults faults_now =
-    GrowsByFront old new memory_line × (faults ≤ faults_now)
+TellsHalt stop.DiskFailed old new faults faults_now = Tells disk_line old new faults faults_now
+TellsHalt stop.Memory old new faults faults_now = Tells memory_line old new faults faults_now
 TellsHalt stop.WriteFailed old new faults faults_now = ⊤
 
 -- There was no memory for a line. Nothing was done in it for the plane of interfaces, or it was acted
--- on. No call was made and nothing of its text was written. That there is no memory stands behind the
--- others, or a front of that.
+-- on. No call was made and nothing of its text was written, but that there is no memory.
 pub data LacksFor (line : Line) (world : World) (before after : Outside) : Type 0 where
   in_front : TellsAlone memory_line world before after → LacksFor line world before after
   behind : (act : NetLine) → LineMeans world line act → (failed : Bool) (text : List ℕ)
-      → IsFront text memory_line
+      → IsWritten text memory_line before after
       → Leaves (record {
         asked = (acted world.net act failed).asked;
         calls = [];
@@ -118,7 +126,7 @@ faults_of files files_now staged staged_now = record {
 abbrev pub DiskRose : DiskFaults → Type 0
 DiskRose disks = Rose disks.files disks.files_now ⊎ Rose disks.staged disks.staged_now
 
--- A disk failed in a line. That stands behind the others, or a front of it.
+-- A disk failed in a line, and that was written.
 pub record FailedOnDisk (line : Line) (world : World) (disks : DiskFaults) (before after : Outside)
     : Type 0 where
   pub cause : DiskRose disks
@@ -144,9 +152,11 @@ pub record Ran (start : World) (lines : List Line) (now : World) (before after :
   pub answer : is_ok ≡ end.is_ok
   pub left : Leaves end.effects (failures lucks) before after
 
--- the lines in front of one were carried out to their end, and the script stopped in it so
-pub record StopsIn (Stops : Line → World → Outside → Outside → Type 0) (start : World)
-    (lines : List Line) (before after : Outside) : Type 0 where
+-- The lines in front of one were carried out to their end, and the script stopped in it so. What is
+-- said of the images of the files holds for the lines up to this one.
+pub record StopsIn (Stops : Line → World → Outside → Outside → Type 0)
+    (Images : List Line → Type 0) (start : World) (lines : List Line) (before after : Outside)
+    : Type 0 where
   pub done : List Line
   pub line : Line
   pub rest : List Line
@@ -156,16 +166,19 @@ pub record StopsIn (Stops : Line → World → Outside → Outside → Type 0) (
   pub between : Outside
   pub ran : Ran start done world before between is_ok
   pub stops : Stops line world between after
+  pub images : Images (done ++ line ∷ [])
 
 -- how a script ends
-abbrev pub ScriptEnds : World → List Line → World → DiskFaults → Outside → Outside
-    → Result Bool Stop → Type 0
-ScriptEnds start lines now disks before after (Ok is_ok) = Ran start lines now before after is_ok
-ScriptEnds start lines now disks before after (Err stop.WriteFailed) =
-    StopsIn (λ line world between end. CutShort line world now between end) start lines before after
-ScriptEnds start lines now disks before after (Err stop.DiskFailed) =
-    StopsIn (λ line world between end. FailedOnDisk line world disks between end) start lines before
-    after
-ScriptEnds start lines now disks before after (Err stop.Memory) =
-    StopsIn (λ line world between end. LackedMemory line world now between end) start lines before
-    after
+abbrev pub ScriptEnds : World → List Line → World → DiskFaults → (List Line → Type 0) → Outside
+    → Outside → Result Bool Stop → Type 0
+ScriptEnds start lines now disks Images before after (Ok is_ok) =
+    Ran start lines now before after is_ok × Images lines
+ScriptEnds start lines now disks Images before after (Err stop.WriteFailed) =
+    StopsIn (λ line world between end. CutShort line world now between end) Images start lines
+    before after
+ScriptEnds start lines now disks Images before after (Err stop.DiskFailed) =
+    StopsIn (λ line world between end. FailedOnDisk line world disks between end) Images start
+    lines before after
+ScriptEnds start lines now disks Images before after (Err stop.Memory) =
+    StopsIn (λ line world between end. LackedMemory line world now between end) Images start lines
+    before after

@@ -43,6 +43,8 @@ pub fn run_lines<K: Kernel, O: Sink, D: Disk, T: Disk>(
     ensures ends { ScriptEnds (world_of moment.old store.old net.old) lines.now
         (world_of moment.new store.new net.new)
         (faults_of (D.view files.old) (D.view files.new) (T.view staged.old) (T.view staged.new))
+        (λ front. StaysOrStops store.old D.view files.old files.new
+        (script_passes moment.old (folder_of store.old) front))
         (outside_of O.Sink K.Kernel out.old kernel.old)
         (outside_of O.Sink K.Kernel out.new kernel.new) result }
     ensures disks { StaysOn result store.old store.new

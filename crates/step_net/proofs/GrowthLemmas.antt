@@ -18,7 +18,7 @@ grows_more (Some o) (Some l) new xs ys p q =
     q ∙ ap (λ x. Some (x ++ ys)) same ∙ ap Some (append_assoc o xs ys)
 
 -- a front behind a whole part is a front of both
-pub grows_to_front : {X : Type 0} → (old between new : Option (List X)) (xs ys : List X)
+unfoldable pub grows_to_front : {X : Type 0} → (old between new : Option (List X)) (xs ys : List X)
     → Grows old between xs → GrowsByFront between new ys → GrowsByFront old new (xs ++ ys)
 grows_to_front old between new xs ys p q = record {
   front = xs ++ q.front;
@@ -28,7 +28,7 @@ grows_to_front old between new xs ys p q = record {
 }
 
 -- a front of the first part is a front of both
-pub front_of_more : {X : Type 0} → (old new : Option (List X)) (xs ys : List X)
+unfoldable pub front_of_more : {X : Type 0} → (old new : Option (List X)) (xs ys : List X)
     → GrowsByFront old new xs → GrowsByFront old new (xs ++ ys)
 front_of_more old new xs ys q = record {
   front = q.front;

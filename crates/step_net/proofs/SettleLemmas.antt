@@ -16,7 +16,7 @@ use Rattle.net_plane.specs.declared.net_error.NetError.TheVariants as error
 use Rattle.net_plane.specs.Network.{Network, moment_of, calls_of}
 use Rattle.net_plane.specs.Settled as plane
 use Rattle.step_net.specs.Moved.{Telling, due, made, is_stopped, failed_at_call, asked_in, settled, last_line, is_fine}
-use Rattle.step_net.specs.Finished.{IsFinished, IsCutShort, IsOpened, IsOpenedInPart, Opens, IsSettled, IsSettledInPart}
+use Rattle.step_net.specs.Finished.{KeepsPace, IsFinished, IsCutShort, IsOpened, IsOpenedInPart, Opens, IsSettled, IsSettledInPart}
 use Rattle.step_net.proofs.GrowthLemmas.{grows_more, grows_to_front, front_of_more}
 
 lines_append : (xs ys : List Call) → lines_of (xs ++ ys) ≡ lines_of xs ++ lines_of ys
@@ -118,6 +118,7 @@ module _ (old new : Network) (before after : Outside) (held : before.objects ≡
               ∙ sym (append_assoc (lines_of s.earlier) s.front (s.back ++ lines_of left));
           grows = s.printed;
         };
+        pace = KeepsPace.within s.earlier s.last s.front s.back refl s.line refl;
         later = kernel_later;
         out_later = out_later;
         cause = s.cause;
@@ -176,6 +177,7 @@ module _ (net now : Moment) (telling : Telling) (before mid after : Outside) (st
 
   cut_at : GrowsByFront mid.out after.out (telling.shown ++ last) → Rose before.out_faults after.out_faults
       → before.out_faults ≤ after.out_faults → IsCutShort net telling before after
+  unfolding grows_to_front
   cut_at written rose later =
       let text = grows_to_front before.out mid.out after.out (lines_of done) (telling.shown ++ last) s.written written in
       record {
@@ -196,6 +198,7 @@ module _ (net now : Moment) (telling : Telling) (before mid after : Outside) (st
             later = later;
           };
         };
+        pace = KeepsPace.behind written.front refl;
         objects = objects ∙ s.objects;
         cause = rose;
       }
@@ -220,6 +223,7 @@ map_append (x ∷ xs) ys = ap (λ z. done_call x ∷ z) (map_append xs ys)
 -- a settling was cut short
 pub cut_in_settling : (net : Moment) (telling : Telling) (before after : Outside)
     → IsSettledInPart net before after → IsCutShort net telling before after
+unfolding front_of_more
 cut_in_settling net telling before after s =
     let text = front_of_more before.out after.out (lines_of (due net))
     (telling.shown ++ last_line telling.refusal false) s.written in
@@ -239,6 +243,7 @@ cut_in_settling net telling before after s =
           later = s.out_later;
         };
       };
+      pace = s.pace;
       objects = s.objects;
       cause = s.cause;
     }
@@ -267,6 +272,7 @@ module _ (net now : Moment) (text : List ℕ) (before mid after : Outside) (stop
 
   pub shown_in_part : GrowsByFront mid.out after.out text → Rose before.out_faults after.out_faults
       → before.out_faults ≤ after.out_faults → IsOpenedInPart net text before after
+  unfolding grows_to_front
   shown_in_part written rose later =
       let front = grows_to_front before.out mid.out after.out (lines_of opened_done) text s.written written in
       record {
@@ -287,6 +293,7 @@ module _ (net now : Moment) (text : List ℕ) (before mid after : Outside) (stop
             later = later;
           };
         };
+        pace = KeepsPace.behind written.front refl;
         objects = objects ∙ s.objects;
         cause = rose;
       }
@@ -309,6 +316,7 @@ opening_ends net now text before mid after stopped s asked calls objects faults 
 -- the settling in front of a text was cut short
 pub opening_cut : (net : Moment) (text : List ℕ) (before after : Outside)
     → IsSettledInPart net before after → IsOpenedInPart net text before after
+unfolding front_of_more
 opening_cut net text before after s =
     let front = front_of_more before.out after.out (lines_of (due net)) text s.written in
     let asked = append-nil (map done_call (due net)) ∙ ap (map done_call) s.parts
@@ -327,6 +335,7 @@ opening_cut net text before after s =
           later = s.out_later;
         };
       };
+      pace = s.pace;
       objects = s.objects;
       cause = s.cause;
     }

@@ -1,5 +1,5 @@
 -- What a settling and an answer left outside.
-use Rattle.std.specs.Prelude.{ℕ, ◌≡◌, ◌≤◌, ◌⊎◌, List, ◌++◌, Bool, map, Option, Result, Ok, Err, is_some}
+use Rattle.std.specs.Prelude.{ℕ, ◌≡◌, ◌≤◌, ◌⊎◌, List, [], ◌∷◌, ◌++◌, Bool, map, Option, Result, Ok, Err, is_some}
 use Rattle.plane_words.specs.Causes.{Rose, RoseBy}
 use Rattle.plane_words.specs.Growth.{Grows, GrowsByFront}
 use Rattle.kern_model.specs.declared.object.Call.{Call}
@@ -8,7 +8,7 @@ use Rattle.kern_model.specs.ObjectOrder.{Objects}
 use Rattle.kern_model.specs.CallOrder.{after_calls}
 use Rattle.net_rules.specs.Moment.{Moment}
 use Rattle.net_settle.specs.Outside.{Outside}
-use Rattle.net_settle.specs.Settle.{lines_of, done_call}
+use Rattle.net_settle.specs.Settle.{lines_of, whole_line, done_call}
 use Rattle.step_net.specs.Effects.{Leaves, LeavesInPart}
 use Rattle.step_net.specs.Moved.{Telling, due, made, is_stopped, asked_in, settled, finished, opening, once_if}
 
@@ -21,11 +21,20 @@ pub record IsFinished (net now : Moment) (telling : Telling) (before after : Out
   pub left : Leaves (finished net telling failed_behind).effects (once_if (is_some failed_behind))
       before after
 
+-- The text has the line of each call, and then something perhaps. Or the line of the last call is
+-- missing, in part or whole, and nothing stands behind it.
+pub data KeepsPace (calls : List Call) (text : List ℕ) : Type 0 where
+  behind : (shown : List ℕ) → text ≡ lines_of calls ++ shown → KeepsPace calls text
+  within : (earlier : List Call) (last : Call) (front back : List ℕ)
+      → calls ≡ earlier ++ last ∷ [] → whole_line last ≡ front ++ back
+      → text ≡ lines_of earlier ++ front → KeepsPace calls text
+
 -- they were cut short by the output, with some luck
 pub record IsCutShort (net : Moment) (telling : Telling) (before after : Outside) : Type 0 where
   pub failed_behind : Option ℕ
   pub left : LeavesInPart (finished net telling failed_behind).effects
       (once_if (is_some failed_behind)) before after
+  pub pace : KeepsPace left.front.calls left.front.text
   pub objects : after.objects ≡ after_calls before.objects left.front.calls
   pub cause : Rose before.out_faults after.out_faults
 
@@ -46,6 +55,7 @@ pub record IsOpenedInPart (net : Moment) (text : List ℕ) (before after : Outsi
   pub failed_behind : Option ℕ
   pub left : LeavesInPart (opening net text failed_behind).effects
       (once_if (is_some failed_behind)) before after
+  pub pace : KeepsPace left.front.calls left.front.text
   pub objects : after.objects ≡ after_calls before.objects left.front.calls
   pub cause : Rose before.out_faults after.out_faults
 
@@ -75,6 +85,7 @@ pub record IsSettledInPart (net : Moment) (before after : Outside) : Type 0 wher
   pub logged : Grows before.calls after.calls calls
   pub objects : after.objects ≡ after_calls before.objects calls
   pub written : GrowsByFront before.out after.out (lines_of (due net))
+  pub pace : KeepsPace calls written.front
   pub later : before.kernel_faults ≤ after.kernel_faults
   pub out_later : before.out_faults ≤ after.out_faults
   pub cause : Rose before.out_faults after.out_faults

@@ -1,8 +1,12 @@
-use Rattle.std.proofs.Common.{sym, subst}
+use Rattle.std.proofs.Common.{List, sym, subst}
 use Rattle.kern_model.specs.ObjectOrder.{set_of}
 use Rattle.net_rules.specs.Moment.{want_of}
 use Rattle.net_settle.specs.Outside.{outside_of}
+use Rattle.uci_text.specs.declared.line.Line.{Line}
+use Rattle.uci_tool.specs.Folder.{folder_of}
+use Rattle.uci_tool.specs.Stops.{StaysOrStops}
 use Rattle.uci_run.proofs.RunLemmas.{held}
+use Rattle.plane_step.specs.FilesMoved.{script_passes}
 use Rattle.plane_step.specs.Ran.{faults_of}
 use Rattle.plane_step.specs.World.{world_of}
 use Rattle.plane_run.specs.Run.{IsKernelFailed}
@@ -19,10 +23,12 @@ returns-in-Ok-clause-ends g c =
     let before = outside_of g.O.Sink g.K.Kernel c.args.out.now c.args.kernel.now in
     let after = outside_of g.O.Sink g.K.Kernel c.run_lines.new.out c.run_lines.new.kernel in
     let stays = c.in-Ok.ensures.disks in
-    subst (LinesEnd start c.args.lines.now disks files staged before after) (sym c.end_of.ensures)
-    (lines_ended start c.args.lines.now disks files staged before after
+    let Images : List Line → Type 0 = λ front. StaysOrStops c.args.store.now g.D.Disk.view c.args.files.now
+    c.run_lines.new.files (script_passes c.args.now (folder_of c.args.store.now) front) in
+    subst (LinesEnd start c.args.lines.now disks Images files staged before after) (sym c.end_of.ensures)
+    (lines_ended start c.args.lines.now disks Images files staged before after
     (world_of c.run_lines.new.moment c.run_lines.new.store c.run_lines.new.net) c.in-Ok.is_ok c.due.result
-    c.in-Ok.ensures.ends c.run_lines.ensures.of.objects
+    c.in-Ok.ensures.ends.0 c.run_lines.ensures.of.objects c.run_lines.ensures.of.devices
     (held files staged c.run_lines.new.store stays.files stays.staged (stays.ready (λ e. cc e)))
     c.due.ensures)
 
@@ -42,8 +48,11 @@ returns-in-Err-clause-ends g c =
     let before = outside_of g.O.Sink g.K.Kernel c.args.out.now c.args.kernel.now in
     let after = outside_of g.O.Sink g.K.Kernel c.run_lines.new.out c.run_lines.new.kernel in
     let stays = c.in-Err.ensures.disks in
-    subst (LinesEnd start c.args.lines.now disks files staged before after) (sym c.end_of_stop.ensures)
-    (lines_stopped start c.args.lines.now disks files staged before after
+    let Images : List Line → Type 0 = λ front. StaysOrStops c.args.store.now g.D.Disk.view c.args.files.now
+    c.run_lines.new.files (script_passes c.args.now (folder_of c.args.store.now) front) in
+    subst (LinesEnd start c.args.lines.now disks Images files staged before after) (sym c.end_of_stop.ensures)
+    (lines_stopped start c.args.lines.now disks Images files staged before after
     (world_of c.run_lines.new.moment c.run_lines.new.store c.run_lines.new.net) c.in-Err.stop
     c.in-Err.ensures.ends
-    (λ is. held files staged c.run_lines.new.store stays.files stays.staged (stays.ready (λ e. cc (is, e)))))
+    (λ other. held files staged c.run_lines.new.store stays.files stays.staged
+    (stays.ready (λ e. other (cc e)))))

@@ -1,7 +1,10 @@
 use Rattle.std.proofs.Common.{inl, false, refl, sym, subst}
 use Rattle.kern_model.specs.ObjectOrder.{set_of}
 use Rattle.uci_tool.specs.Ends.{source_of}
+use Rattle.uci_tool.specs.Folder.{folder_of}
+use Rattle.uci_tool.specs.Stops.{StaysOrStops}
 use Rattle.uci_run.proofs.RunLemmas.{held}
+use Rattle.plane_step.specs.FilesMoved.{script_passes}
 use Rattle.net_rules.specs.Moment.{want_of}
 use Rattle.net_settle.specs.Outside.{outside_of}
 use Rattle.plane_step.specs.Ran.{faults_of}
@@ -22,6 +25,8 @@ returns-in-Ok-Lines-clause-goes g c =
       disks = faults_of (g.D.Disk.view c.args.files.now) files (g.T.Disk.view c.args.staged.now) staged;
       files_now = files;
       staged_now = staged;
+      images = λ lines. StaysOrStops c.args.store.now g.D.Disk.view c.args.files.now c.carry_lines.new.files
+          (script_passes c.args.now (folder_of c.args.store.now) lines);
       between = outside_of g.O.Sink g.K.Kernel c.args.out.now c.args.kernel.now;
       after = outside_of g.O.Sink g.K.Kernel c.carry_lines.new.out c.carry_lines.new.kernel;
     } in
@@ -41,6 +46,8 @@ returns-in-Ok-clause-goes g c =
       disks = faults_of files files staged staged;
       files_now = files;
       staged_now = staged;
+      images = λ lines. StaysOrStops c.args.store.now g.D.Disk.view c.args.files.now c.args.files.now
+          (script_passes c.args.now (folder_of c.args.store.now) lines);
       between = outside_of g.O.Sink g.K.Kernel c.args.out.now c.args.kernel.now;
       after = outside_of g.O.Sink g.K.Kernel c.answer_bad.new.out c.args.kernel.now;
     } in
@@ -48,7 +55,8 @@ returns-in-Ok-clause-goes g c =
     subst (GoesOn start stage) (sym c.end_of.ensures)
     (bad_ended start stage c.in-Ok-Bad.line
     (subst (HasRead stage.input) c.in-Ok-Bad.field-0-is c.in-Ok-Bad.ensures.read)
-    (held files staged c.args.store.now opening.files opening.staged opening.ready) c.requires.of.objects refl refl refl refl
+    (held files staged c.args.store.now opening.files opening.staged opening.ready) c.requires.of.objects
+    c.requires.of.devices refl refl refl refl refl
     c.in-Ok.ensures.1 c.due.result c.in-Ok.ensures.0 c.due.ensures)
 
 pub returns-in-Ok-clause-due : goal.returns-in-Ok-clause-due
@@ -68,6 +76,8 @@ returns-in-Err-answer_bad-clause-goes g c =
       disks = faults_of files files staged staged;
       files_now = files;
       staged_now = staged;
+      images = λ lines. StaysOrStops c.args.store.now g.D.Disk.view c.args.files.now c.args.files.now
+          (script_passes c.args.now (folder_of c.args.store.now) lines);
       between = before;
       after = outside_of g.O.Sink g.K.Kernel c.answer_bad.new.out c.args.kernel.now;
     } in
@@ -75,7 +85,8 @@ returns-in-Err-answer_bad-clause-goes g c =
     bad_goes_on (Unit {0}) (world_of c.args.now c.args.store.now c.args.net.now) stage c.in-Ok-Bad.line
     c.in-Err-answer_bad.end
     (subst (HasRead stage.input) c.in-Ok-Bad.field-0-is c.in-Ok-Bad.ensures.read)
-    (held files staged c.args.store.now opening.files opening.staged opening.ready) c.requires.of.objects refl refl refl refl
+    (held files staged c.args.store.now opening.files opening.staged opening.ready) c.requires.of.objects
+    c.requires.of.devices refl refl refl refl refl
     (λ out faults i. record {
       out = out i;
       asked = before.asked;

@@ -1,11 +1,13 @@
 use Rattle.std.proofs.Common.{◌≡◌}
 use Rattle.uci_tool.specs.Ends.{source_of}
 use Rattle.uci_tool.specs.Folder.{folder_of}
+use Rattle.uci_tool.specs.Stops.{StaysOrStops}
 use Rattle.uci_run.specs.Folders.{IsFound}
 use Rattle.uci_run.proofs.RunLemmas.{found}
 use Rattle.net_settle.specs.Outside.{outside_of}
+use Rattle.plane_step.specs.FilesMoved.{script_passes}
 use Rattle.plane_run.specs.Run.{Seen}
-use Rattle.plane_run.proofs.RunLemmas.{over_ends, stops_as_found, stops_over}
+use Rattle.plane_run.proofs.RunLemmas.{over_ends, stops_as_found, images_over, stops_over}
 use Rattle.plane_run.proofs.run.run_script.Goals as goal
 
 pub returns-in-Ok-clause-ended : goal.returns-in-Ok-clause-ended
@@ -34,6 +36,10 @@ returns-in-Ok-clause-ended g c =
     (c.run_over.new.files ≡ c.open.new.files)
     (stops_as_found g.D.Disk.view c.args.now staged seen.first.before seen.input store c.args.files.now c.open.new.files
     c.run_over.new.files opening.images)
+    (λ lines. StaysOrStops store g.D.Disk.view c.open.new.files c.run_over.new.files
+    (script_passes c.args.now (folder_of store) lines))
+    (images_over g.D.Disk.view c.args.now staged seen.first.before seen.input store c.args.files.now c.open.new.files
+    c.run_over.new.files opening.images opening.same opening.files opening.ready)
     c.run_over.result c.run_over.ensures.runs
 
 pub returns-in-Ok-clause-stops : goal.returns-in-Ok-clause-stops

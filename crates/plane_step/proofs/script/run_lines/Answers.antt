@@ -1,16 +1,15 @@
-use Rattle.std.proofs.Common.{◌≡◌, inl, List, [], ◌∷◌, ◌++◌, refl, ap, sym, subst, ◌∙◌, append_assoc}
+use Rattle.std.proofs.Common.{◌≡◌, inl, [], ◌∷◌, ◌++◌, refl, ap, sym, subst, ◌∙◌, append_assoc}
 use Rattle.std.specs.Prelude.{Ok, Err}
-use Rattle.uci_text.specs.declared.line.Line.{Line}
-use Rattle.uci_tool.specs.Answers.{IsAmong}
 use Rattle.uci_tool.specs.Folder.{folder_of}
-use Rattle.uci_tool.proofs.StopLemmas.{AreAmong, images_join}
+use Rattle.uci_tool.specs.Stops.{StaysOrStops}
+use Rattle.uci_tool.proofs.StopLemmas.{images_join}
 use Rattle.script_lines.specs.Lines.{line_of}
 use Rattle.net_settle.specs.Outside.{outside_of}
-use Rattle.plane_step.specs.World.{World, world_of}
+use Rattle.plane_step.specs.World.{world_of}
 use Rattle.plane_step.specs.FilesMoved.{files_moved, script_passes}
 use Rattle.plane_step.specs.Ran.{Ran}
 use Rattle.plane_step.proofs.StoreLemmas.{stays_itself, stays_both, stays_as}
-use Rattle.plane_step.proofs.PassLemmas.{line_among, rest_among}
+use Rattle.plane_step.proofs.PassLemmas.{front_among, reached, line_follows}
 use Rattle.plane_step.proofs.ScriptLemmas.{none_ran, ran_more, stops_in, all_done, due_more}
 use Rattle.plane_step.proofs.script.run_lines.Goals as goal
 
@@ -21,13 +20,12 @@ loop-line-init g c = record {
     refl,
     none_ran (world_of c.args.moment.now c.args.store.now c.args.net.now)
         (outside_of g.O.Sink g.K.Kernel c.args.out.now c.args.kernel.now),
+    inl refl,
   );
   told = c.requires.told;
   of = c.requires.of;
   stays = stays_itself (Ok (tt {0})) c.args.store.now (g.D.Disk.view c.args.files.now) (g.T.Disk.view c.args.staged.now) c.requires.open;
-  among = λ found h. h;
   due = λ holds. inl holds;
-  images = inl refl;
 }
 
 pub loop-line-preserved : goal.loop-line-preserved
@@ -35,26 +33,30 @@ loop-line-preserved g c =
     let so_far = c.loop-line.invariant.ran in
     let line = c.in-Some.line.now in
     let others = c.in-Some.others.now in
+    let start = world_of c.args.moment.now c.args.store.now c.args.net.now in
+    let world = world_of c.loop-line.moment c.loop-line.store c.loop-line.net in
+    let before = outside_of g.O.Sink g.K.Kernel c.args.out.now c.args.kernel.now in
+    let between = outside_of g.O.Sink g.K.Kernel c.loop-line.out c.loop-line.kernel in
     let parts : c.args.lines.now ≡ so_far.0 ++ line ∷ others =
     so_far.1 ∙ ap (λ rest. so_far.0 ++ rest) c.in-Some.ensures.cases.0 in
-    let all = script_passes c.args.moment.now (folder_of c.args.store.now) c.args.lines.now in
     let folder = folder_of c.loop-line.store in
-    let here : AreAmong (script_passes c.loop-line.moment folder (line ∷ others)) all =
-    λ found h. c.loop-line.invariant.among found
-    (subst (λ (z : List Line). IsAmong found (script_passes c.loop-line.moment folder z)) (sym c.in-Some.ensures.cases.0) h) in
-    let next = c.in-Ok.ensures.ends.next in
     let stays = c.loop-line.invariant.stays in
     record {
       ran = (
         so_far.0 ++ line ∷ [],
         parts ∙ sym (append_assoc so_far.0 (line ∷ []) others),
-        ran_more (world_of c.args.moment.now c.args.store.now c.args.net.now) so_far.0 line
-            (world_of c.loop-line.moment c.loop-line.store c.loop-line.net)
-            (world_of c.carry_out.new.moment c.carry_out.new.store c.carry_out.new.net)
-            (outside_of g.O.Sink g.K.Kernel c.args.out.now c.args.kernel.now)
-            (outside_of g.O.Sink g.K.Kernel c.loop-line.out c.loop-line.kernel)
+        ran_more start so_far.0 line world
+            (world_of c.carry_out.new.moment c.carry_out.new.store c.carry_out.new.net) before between
             (outside_of g.O.Sink g.K.Kernel c.carry_out.new.out c.carry_out.new.kernel)
             c.loop-line.is_ok c.in-Ok.fine so_far.2 c.in-Ok.ensures.ends,
+        images_join g.D.Disk.view c.args.store.now c.loop-line.store c.args.files.now c.loop-line.files
+            c.carry_out.new.files (script_passes c.args.moment.now (folder_of c.args.store.now) so_far.0)
+            (files_moved c.loop-line.moment folder (line_of line.words)).passes
+            (script_passes c.args.moment.now (folder_of c.args.store.now) (so_far.0 ++ line ∷ []))
+            stays.same (stays.files.ready (stays.ready (λ e. cc e)))
+            (front_among c.args.moment.now (folder_of c.args.store.now) so_far.0 (line ∷ []))
+            (line_follows start world so_far.0 before between c.loop-line.is_ok so_far.2 line)
+            so_far.3 c.in-Ok.ensures.images,
       );
       told = c.in-Ok.ensures.told;
       of = c.carry_out.ensures.of;
@@ -65,32 +67,36 @@ loop-line-preserved g c =
           (stays_as c.in-Ok.fine (Ok (tt {0})) c.loop-line.store c.carry_out.new.store
           (g.D.Disk.view c.loop-line.files) (g.D.Disk.view c.carry_out.new.files)
           (g.T.Disk.view c.loop-line.staged) (g.T.Disk.view c.carry_out.new.staged) c.in-Ok.ensures.disks);
-      among = λ found h. here found
-          (rest_among c.loop-line.moment folder line others c.carry_out.new.moment (folder_of c.carry_out.new.store)
-          (ap (λ (w : World). w.now) next) (ap (λ (w : World). w.files) next) found h);
       due = λ holds. due_more _ (g.K.Kernel.faults c.args.kernel.now) (g.K.Kernel.faults c.loop-line.kernel)
           (g.K.Kernel.faults c.carry_out.new.kernel) _ _ so_far.2.left.cause c.in-Ok.ensures.due;
-      images = images_join g.D.Disk.view c.args.store.now c.loop-line.store c.args.files.now c.loop-line.files
-          c.carry_out.new.files all (files_moved c.loop-line.moment folder (line_of line.words)).passes all
-          stays.same (stays.files.ready (stays.ready (λ e. cc e))) (λ found h. h)
-          (λ found h. here found (line_among c.loop-line.moment folder line others found h))
-          c.loop-line.invariant.images c.in-Ok.ensures.images;
     }
 
 pub returns-in-Err-clause-ends : goal.returns-in-Err-clause-ends
 returns-in-Err-clause-ends g c =
     let so_far = c.loop-line.invariant.ran in
     let line = c.in-Some.line.now in
+    let start = world_of c.args.moment.now c.args.store.now c.args.net.now in
+    let world = world_of c.loop-line.moment c.loop-line.store c.loop-line.net in
+    let before = outside_of g.O.Sink g.K.Kernel c.args.out.now c.args.kernel.now in
+    let between = outside_of g.O.Sink g.K.Kernel c.loop-line.out c.loop-line.kernel in
     let parts : c.args.lines.now ≡ so_far.0 ++ line ∷ c.in-Some.others.now =
     so_far.1 ∙ ap (λ rest. so_far.0 ++ rest) c.in-Some.ensures.cases.0 in
+    let folder = folder_of c.loop-line.store in
     let stays = c.loop-line.invariant.stays in
-    stops_in (world_of c.args.moment.now c.args.store.now c.args.net.now) c.args.lines.now so_far.0 line
-    c.in-Some.others.now parts (world_of c.loop-line.moment c.loop-line.store c.loop-line.net)
-    (world_of c.carry_out.new.moment c.carry_out.new.store c.carry_out.new.net)
-    (outside_of g.O.Sink g.K.Kernel c.args.out.now c.args.kernel.now)
-    (outside_of g.O.Sink g.K.Kernel c.loop-line.out c.loop-line.kernel)
+    stops_in start c.args.lines.now so_far.0 line c.in-Some.others.now parts world
+    (world_of c.carry_out.new.moment c.carry_out.new.store c.carry_out.new.net) before between
     (outside_of g.O.Sink g.K.Kernel c.carry_out.new.out c.carry_out.new.kernel)
     c.loop-line.is_ok so_far.2
+    (λ front. StaysOrStops c.args.store.now g.D.Disk.view c.args.files.now c.carry_out.new.files
+    (script_passes c.args.moment.now (folder_of c.args.store.now) front))
+    (images_join g.D.Disk.view c.args.store.now c.loop-line.store c.args.files.now c.loop-line.files
+    c.carry_out.new.files (script_passes c.args.moment.now (folder_of c.args.store.now) so_far.0)
+    (files_moved c.loop-line.moment folder (line_of line.words)).passes
+    (script_passes c.args.moment.now (folder_of c.args.store.now) (so_far.0 ++ line ∷ []))
+    stays.same (stays.files.ready (stays.ready (λ e. cc e)))
+    (front_among c.args.moment.now (folder_of c.args.store.now) so_far.0 (line ∷ []))
+    (line_follows start world so_far.0 before between c.loop-line.is_ok so_far.2 line)
+    so_far.3 c.in-Err.ensures.images)
     (g.D.Disk.view c.args.files.now).faults (g.T.Disk.view c.args.staged.now).faults
     (g.D.Disk.view c.loop-line.files).faults (g.D.Disk.view c.carry_out.new.files).faults
     (g.T.Disk.view c.loop-line.staged).faults (g.T.Disk.view c.carry_out.new.staged).faults
@@ -105,32 +111,51 @@ returns-in-Err-clause-disks g c =
 
 pub returns-in-Err-clause-images : goal.returns-in-Err-clause-images
 returns-in-Err-clause-images g c =
+    let so_far = c.loop-line.invariant.ran in
     let line = c.in-Some.line.now in
     let others = c.in-Some.others.now in
-    let all = script_passes c.args.moment.now (folder_of c.args.store.now) c.args.lines.now in
-    let folder = folder_of c.loop-line.store in
-    let here : AreAmong (script_passes c.loop-line.moment folder (line ∷ others)) all =
-    λ found h. c.loop-line.invariant.among found
-    (subst (λ (z : List Line). IsAmong found (script_passes c.loop-line.moment folder z)) (sym c.in-Some.ensures.cases.0) h) in
+    let start = world_of c.args.moment.now c.args.store.now c.args.net.now in
+    let world = world_of c.loop-line.moment c.loop-line.store c.loop-line.net in
+    let before = outside_of g.O.Sink g.K.Kernel c.args.out.now c.args.kernel.now in
+    let between = outside_of g.O.Sink g.K.Kernel c.loop-line.out c.loop-line.kernel in
+    let now = c.args.moment.now in
+    let first = folder_of c.args.store.now in
+    let all : (so_far.0 ++ line ∷ []) ++ others ≡ c.args.lines.now =
+    append_assoc so_far.0 (line ∷ []) others
+    ∙ sym (so_far.1 ∙ ap (λ rest. so_far.0 ++ rest) c.in-Some.ensures.cases.0) in
     let stays = c.loop-line.invariant.stays in
     images_join g.D.Disk.view c.args.store.now c.loop-line.store c.args.files.now c.loop-line.files
-    c.carry_out.new.files all (files_moved c.loop-line.moment folder (line_of line.words)).passes all
-    stays.same (stays.files.ready (stays.ready (λ e. cc e))) (λ found h. h)
-    (λ found h. here found (line_among c.loop-line.moment folder line others found h))
-    c.loop-line.invariant.images c.in-Err.ensures.images
+    c.carry_out.new.files (script_passes now first so_far.0)
+    (files_moved c.loop-line.moment (folder_of c.loop-line.store) (line_of line.words)).passes
+    (script_passes now first c.args.lines.now) stays.same (stays.files.ready (stays.ready (λ e. cc e)))
+    (λ found h. reached now first (so_far.0 ++ line ∷ []) others c.args.lines.now all found
+    (front_among now first so_far.0 (line ∷ []) found h))
+    (λ found h. reached now first (so_far.0 ++ line ∷ []) others c.args.lines.now all found
+    (line_follows start world so_far.0 before between c.loop-line.is_ok so_far.2 line found h))
+    so_far.3 c.in-Err.ensures.images
 
 pub returns-clause-ends : goal.returns-clause-ends
 returns-clause-ends g c =
     let so_far = c.loop-line.invariant.ran in
-    subst (λ lines. Ran (world_of c.args.moment.now c.args.store.now c.args.net.now) lines
-    (world_of c.loop-line.moment c.loop-line.store c.loop-line.net)
-    (outside_of g.O.Sink g.K.Kernel c.args.out.now c.args.kernel.now)
-    (outside_of g.O.Sink g.K.Kernel c.loop-line.out c.loop-line.kernel) c.loop-line.is_ok)
-    (all_done c.args.lines.now so_far.0 c.loop-line.rest.now so_far.1 c.in_default.ensures.cases)
-    so_far.2
+    let all = all_done c.args.lines.now so_far.0 c.loop-line.rest.now so_far.1 c.in_default.ensures.cases in (
+      subst (λ lines. Ran (world_of c.args.moment.now c.args.store.now c.args.net.now) lines
+          (world_of c.loop-line.moment c.loop-line.store c.loop-line.net)
+          (outside_of g.O.Sink g.K.Kernel c.args.out.now c.args.kernel.now)
+          (outside_of g.O.Sink g.K.Kernel c.loop-line.out c.loop-line.kernel) c.loop-line.is_ok)
+          all so_far.2,
+      subst (λ lines. StaysOrStops c.args.store.now g.D.Disk.view c.args.files.now c.loop-line.files
+          (script_passes c.args.moment.now (folder_of c.args.store.now) lines)) all so_far.3,
+    )
 
 pub returns-clause-disks : goal.returns-clause-disks
 returns-clause-disks g c =
     stays_as (tt {0}) (Ok c.loop-line.is_ok) c.args.store.now c.loop-line.store
     (g.D.Disk.view c.args.files.now) (g.D.Disk.view c.loop-line.files)
     (g.T.Disk.view c.args.staged.now) (g.T.Disk.view c.loop-line.staged) c.loop-line.invariant.stays
+
+pub returns-clause-images : goal.returns-clause-images
+returns-clause-images g c =
+    let so_far = c.loop-line.invariant.ran in
+    subst (λ lines. StaysOrStops c.args.store.now g.D.Disk.view c.args.files.now c.loop-line.files
+    (script_passes c.args.moment.now (folder_of c.args.store.now) lines))
+    (all_done c.args.lines.now so_far.0 c.loop-line.rest.now so_far.1 c.in_default.ensures.cases) so_far.3

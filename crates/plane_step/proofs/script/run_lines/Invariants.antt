@@ -3,7 +3,6 @@ use Rattle.std.specs.Prelude.{Ok}
 use Rattle.uci_text.specs.declared.line.Line.{Line}
 use Rattle.uci_tool.specs.Folder.{folder_of}
 use Rattle.uci_tool.specs.Stops.{StaysOrStops}
-use Rattle.uci_tool.proofs.StopLemmas.{AreAmong}
 use Rattle.net_rules.specs.Moment.{want_of}
 use Rattle.net_settle.specs.Outside.{outside_of}
 use Rattle.step_net.specs.Finished.{HoldsOrFailed}
@@ -20,18 +19,16 @@ invariant-loop-line g l = record {
   ran : (done : List Line) × (l.fn.lines ≡ done ++ l.rest)
       × Ran (world_of l.fn.moment l.fn.store l.fn.net) done (world_of l.moment l.store l.net)
       (outside_of g.O.Sink g.K.Kernel l.fn.out l.fn.kernel)
-      (outside_of g.O.Sink g.K.Kernel l.out l.kernel) l.is_ok;
+      (outside_of g.O.Sink g.K.Kernel l.out l.kernel) l.is_ok
+      × StaysOrStops l.fn.store g.D.Disk.view l.fn.files l.files
+      (script_passes l.fn.moment (folder_of l.fn.store) done);
   told : l.net.notices ≡ [];
   of : IsOf g.K.Kernel l.kernel l.net;
   stays : StaysOn {X = Unit {0}} (Ok (tt {0})) l.fn.store l.store (g.D.Disk.view l.fn.files)
       (g.D.Disk.view l.files) (g.T.Disk.view l.fn.staged) (g.T.Disk.view l.staged);
-  among : AreAmong (script_passes l.moment (folder_of l.store) l.rest)
-      (script_passes l.fn.moment (folder_of l.fn.store) l.fn.lines);
   due : g.K.Kernel.objects l.fn.kernel ≡ want_of l.fn.net.inputs
       → HoldsOrFailed (g.K.Kernel.objects l.kernel) (want_of l.net.inputs)
       (g.K.Kernel.faults l.fn.kernel) (g.K.Kernel.faults l.kernel);
-  images : StaysOrStops l.fn.store g.D.Disk.view l.fn.files l.files
-      (script_passes l.fn.moment (folder_of l.fn.store) l.fn.lines);
 }
 
 abbrev pub decreases-loop-line : goal.decreases-loop-line

@@ -1,0 +1,2 @@
+-- stretches of planes that are settled at their end
+pub mod StretchLemmas
