@@ -93,16 +93,16 @@ pub script_ends : (moment : ℕ) (seen : Seen) (end : RunEnd) (told : Ending) �
     → ScriptEnds moment seen told
 script_ends moment seen end told is ends stops disks = subst (ScriptEnds moment seen) (sym is) (ends, stops, disks)
 
-pub run_comes : (words : List (List ℕ)) (seen : Seen) (end : Ending) → Ends words seen end → Comes words seen end
-run_comes words seen end (of_command command asked cause) = record {
+pub run_comes : (words : List (List ℕ)) (seen : Seen) (rests : Type 0) (end : Ending) → Ends words seen rests end → Comes words seen end
+run_comes words seen rests end (of_command command asked cause) = record {
   command = λ other asks. subst (λ c. CommandComes c seen end) (sym (command_one words command other asked asks)) (command_comes command seen end cause);
   no_command = λ none. absurd (none (command, asked));
 }
-run_comes words seen end (of_no_command none is) = record {
+run_comes words seen rests end (of_no_command none is) = record {
   command = λ command asked. absurd (none (command, asked));
   no_command = λ _. inl is;
 }
-run_comes words seen end (of_unread_words no_page same is) = record {
+run_comes words seen rests end (of_unread_words no_page same still is) = record {
   command = λ command asked. subst (CommandComes command seen) (sym is) (unread_comes words seen no_page command asked);
   no_command = λ none. inr is;
 }

@@ -28,14 +28,14 @@ CommandComes (Uci words) seen end = UciComes words seen end
 CommandComes (Run asked) seen end = OrLacksMemory (ScriptComes asked.moment seen end) end
 CommandComes (Show page) seen end = PageComes seen.before seen.after end
 
--- why a run ends so, and what it leaves
-pub data Ends (words : List (List ℕ)) (seen : Seen) (end : Ending) : Type 0 where
+-- why a run ends so, and what it leaves, where `rests` says that the input, the disks and the clock are the values that they were
+pub data Ends (words : List (List ℕ)) (seen : Seen) (rests : Type 0) (end : Ending) : Type 0 where
   -- the words ask for a command, and it ended so
-  of_command : (command : Command) → AskFor words command → CommandEnds command seen end → Ends words seen end
+  of_command : (command : Command) → AskFor words command → CommandEnds command seen end → Ends words seen rests end
   -- they ask for none
-  of_no_command : (IsCommand words → ⊥) → end ≡ ending.Usage → Ends words seen end
+  of_no_command : (IsCommand words → ⊥) → end ≡ ending.Usage → Ends words seen rests end
   -- memory was lacking while they were read, which takes none for a page
-  of_unread_words : (IsPageCommand words → ⊥) → seen.after ≡ seen.before → end ≡ ending.OutOfMemory → Ends words seen end
+  of_unread_words : (IsPageCommand words → ⊥) → seen.after ≡ seen.before → rests → end ≡ ending.OutOfMemory → Ends words seen rests end
 
 -- when a run ends so
 pub record Comes (words : List (List ℕ)) (seen : Seen) (end : Ending) : Type 0 where
@@ -44,10 +44,10 @@ pub record Comes (words : List (List ℕ)) (seen : Seen) (end : Ending) : Type 0
 
 -- A run ends with an ending, whose status is the answer: it has its cause, it comes where it must, and its text is on
 -- the error output, unless it is one of `uci`, whose cause says what is there.
-pub record Ended (words : List (List ℕ)) (seen : Seen) (answer : ℕ) : Type 0 where
+pub record Ended (words : List (List ℕ)) (seen : Seen) (rests : Type 0) (answer : ℕ) : Type 0 where
   pub end : Ending
   pub status : status_of end ≡ answer
-  pub cause : Ends words seen end
+  pub cause : Ends words seen rests end
   pub comes : Comes words seen end
   pub told : (IsOfUci end → ⊥) → IsTold (text_of end) seen.errors
 

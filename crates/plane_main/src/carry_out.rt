@@ -44,7 +44,8 @@ pub fn carry_out<S: Source, O: Sink, E: Sink, D: Disk, T: Disk, K: Kernel, C: Cl
         staged_now = T.view staged.new;
         moments = C.moments clock.old;
       };
-    }) result }
+    }) ((input.new ≡ input.old) × (files.new ≡ files.old)
+        × (staged.new ≡ staged.old) × (clock.new ≡ clock.old)) result }
     ensures told { (IsOfUci result → ⊥)
         → IsTold (text_of result) (errors_of E.Sink err.old err.new) }
     ensures silent { status_of result ≡ 0 → err.new ≡ err.old }

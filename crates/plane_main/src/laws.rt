@@ -6,6 +6,8 @@ ghost use Rattle.plane_io.specs.declared.input.TheConstants.{INPUT_LIMIT};
 ghost use Rattle.kern_model.specs.declared.vlan_name.TheConstants.{LEAST_VLAN_ID, MOST_VLAN_ID};
 ghost use Rattle.plane_main.specs.declared.command.TheConstants.{MOST_DEVICES};
 ghost use Rattle.net_start.specs.declared.devices.TheConstants.{ETHERNET_MTU};
+ghost use Rattle.plane_run.specs.declared.script.TheConstants.{SCRIPT_LIMIT};
+ghost use Rattle.script_lines.specs.declared.arguments.TheConstants.{USUAL_MTU};
 ghost use Rattle.plane_main.specs.Start.{IsNetwork};
 ghost use Rattle.plane_main.specs.Command.{AskFor};
 
@@ -27,4 +29,6 @@ pub fn named_numbers()
     ensures input { INPUT_LIMIT ≡ 1048576 }
     ensures mtu { ETHERNET_MTU ≡ 1500 }
     ensures vlans { (LEAST_VLAN_ID ≡ 1) × (MOST_VLAN_ID ≡ 4094) }
+    ensures script { SCRIPT_LIMIT ≡ 16777216 }
+    ensures usual_mtu { USUAL_MTU ≡ 1500 }
 {}

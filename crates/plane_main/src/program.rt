@@ -51,7 +51,8 @@ pub fn plane<S: Source, O: Sink, E: Sink, D: Disk, T: Disk, K: Kernel, H: Hub, C
         staged_now = T.view staged.new;
         moments = C.moments clock.old;
       };
-    }) result }
+    }) ((input.new ≡ input.old) × (files.new ≡ files.old)
+        × (staged.new ≡ staged.old) × (clock.new ≡ clock.old)) result }
 
     // The devices that it has no business with are as they were.
     ensures alone { LeftAlone (map string_bytes words.now) result

@@ -49,7 +49,7 @@ pub record CutShort (line : Line) (world now : World) (before after : Outside) :
   pub means : LineMeans world line act
   pub luck : Luck
   pub left : LeavesInPart (moved_by world line act luck).effects (failures_of luck) before after
-  pub pace : KeepsPace left.front.calls left.front.text
+  pub pace : KeepsPace left.front.calls left.back.calls left.front.text
   pub objects : after.objects ≡ after_calls
       (acted world.net act (fails_first luck.events)).net.held left.front.calls
   pub cause : Rose before.out_faults after.out_faults

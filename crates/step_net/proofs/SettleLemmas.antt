@@ -198,7 +198,7 @@ module _ (net now : Moment) (telling : Telling) (before mid after : Outside) (st
             later = later;
           };
         };
-        pace = KeepsPace.behind written.front refl;
+        pace = KeepsPace.behind written.front refl refl;
         objects = objects ∙ s.objects;
         cause = rose;
       }
@@ -293,7 +293,7 @@ module _ (net now : Moment) (text : List ℕ) (before mid after : Outside) (stop
             later = later;
           };
         };
-        pace = KeepsPace.behind written.front refl;
+        pace = KeepsPace.behind written.front refl refl;
         objects = objects ∙ s.objects;
         cause = rose;
       }

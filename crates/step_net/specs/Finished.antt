@@ -21,20 +21,22 @@ pub record IsFinished (net now : Moment) (telling : Telling) (before after : Out
   pub left : Leaves (finished net telling failed_behind).effects (once_if (is_some failed_behind))
       before after
 
--- The text has the line of each call, and then something perhaps. Or the line of the last call is
--- missing, in part or whole, and nothing stands behind it.
-pub data KeepsPace (calls : List Call) (text : List ℕ) : Type 0 where
-  behind : (shown : List ℕ) → text ≡ lines_of calls ++ shown → KeepsPace calls text
+-- These calls were made, and these are left. The text has the line of each that was made, and
+-- something behind them only where none is left. Or the line of the last is missing, in part or whole,
+-- and nothing stands behind it.
+pub data KeepsPace (calls left : List Call) (text : List ℕ) : Type 0 where
+  behind : (shown : List ℕ) → text ≡ lines_of calls ++ shown → left ≡ []
+      → KeepsPace calls left text
   within : (earlier : List Call) (last : Call) (front back : List ℕ)
       → calls ≡ earlier ++ last ∷ [] → whole_line last ≡ front ++ back
-      → text ≡ lines_of earlier ++ front → KeepsPace calls text
+      → text ≡ lines_of earlier ++ front → KeepsPace calls left text
 
 -- they were cut short by the output, with some luck
 pub record IsCutShort (net : Moment) (telling : Telling) (before after : Outside) : Type 0 where
   pub failed_behind : Option ℕ
   pub left : LeavesInPart (finished net telling failed_behind).effects
       (once_if (is_some failed_behind)) before after
-  pub pace : KeepsPace left.front.calls left.front.text
+  pub pace : KeepsPace left.front.calls left.back.calls left.front.text
   pub objects : after.objects ≡ after_calls before.objects left.front.calls
   pub cause : Rose before.out_faults after.out_faults
 
@@ -55,7 +57,7 @@ pub record IsOpenedInPart (net : Moment) (text : List ℕ) (before after : Outsi
   pub failed_behind : Option ℕ
   pub left : LeavesInPart (opening net text failed_behind).effects
       (once_if (is_some failed_behind)) before after
-  pub pace : KeepsPace left.front.calls left.front.text
+  pub pace : KeepsPace left.front.calls left.back.calls left.front.text
   pub objects : after.objects ≡ after_calls before.objects left.front.calls
   pub cause : Rose before.out_faults after.out_faults
 
@@ -85,7 +87,7 @@ pub record IsSettledInPart (net : Moment) (before after : Outside) : Type 0 wher
   pub logged : Grows before.calls after.calls calls
   pub objects : after.objects ≡ after_calls before.objects calls
   pub written : GrowsByFront before.out after.out (lines_of (due net))
-  pub pace : KeepsPace calls written.front
+  pub pace : KeepsPace calls not_made written.front
   pub later : before.kernel_faults ≤ after.kernel_faults
   pub out_later : before.out_faults ≤ after.out_faults
   pub cause : Rose before.out_faults after.out_faults

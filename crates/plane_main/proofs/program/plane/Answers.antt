@@ -7,6 +7,6 @@ returns-clause-ended g c = record {
   end = c.carry_out.result;
   status = sym c.status.ensures;
   cause = c.carry_out.ensures.cause;
-  comes = run_comes _ _ c.carry_out.result c.carry_out.ensures.cause;
+  comes = run_comes _ _ _ c.carry_out.result c.carry_out.ensures.cause;
   told = c.carry_out.ensures.told;
 }
