@@ -1,0 +1,8 @@
+-- Lists of the message bus.
+
+-- the event object and the local objects
+pub mod Own
+-- open calls
+pub mod Calls
+-- rows of objects that left
+pub mod Among

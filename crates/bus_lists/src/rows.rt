@@ -1,0 +1,115 @@
+//! Rows found by their numbers.
+ghost use Rattle.std.specs.Prelude.{◌≡◌, ◌==◌, ◌&&◌, ◌++◌, filter, not};
+ghost use Rattle.std.specs.Option.{option_copied};
+ghost use Rattle.std.specs.List.{find, list_any};
+ghost use Rattle.bus_table.specs.declared.rows.Client.{Client as ClientRow};
+ghost use Rattle.bus_table.specs.declared.rows.Object.{Object as ObjectRow};
+ghost use Rattle.bus_table.specs.Table.{has_number, is_local, is_path_of, path_of};
+
+use bus_table::{Client, Object};
+use plane_io::Text;
+
+/// The owner of objects that are no client's.
+pub const NO_CLIENT: u32 = 0;
+
+/// The number of the event object.
+pub const EVENT_OBJECT: u32 = 1;
+
+const LOCAL_NUMBERS: [u32; 6] = [2, 3, 4, 5, 6, 7];
+
+/// The object of a number, which has more bits where it is an argument of a method.
+pub fn find_object(objects: &[Object], number: u64) -> Option<&Object>
+    ensures { option_copied result ≡ find (has_number number) objects.now }
+{
+    objects
+        .iter()
+        .find(|object| u64::from(object.number) == number)
+}
+
+/// The client of a number.
+pub fn find_client(clients: &[Client], number: u32) -> Option<&Client>
+    ensures { option_copied result
+        ≡ find (λ (client : ClientRow). client.number == number) clients.now }
+{
+    clients.iter().find(|client| client.number == number)
+}
+
+/// An object of this type.
+pub fn find_of_type(objects: &[Object], objtype: u32) -> Option<&Object>
+    ensures { option_copied result
+        ≡ find (λ (object : ObjectRow). object.objtype == objtype) objects.now }
+{
+    objects.iter().find(|object| object.objtype == objtype)
+}
+
+/// Whether an object of one of two lists has the path.
+#[tactic(auto, using(crate::proofs::ListLemmas::any_first, crate::proofs::ListLemmas::any_later))]
+pub fn some_has_path(own: &[Object], objects: &[Object], path: &[u8]) -> bool
+    ensures { result ≡ list_any (λ (object : ObjectRow). is_path_of path.now object.path)
+        (own.now ++ objects.now) }
+{
+    has_path(own, path) || has_path(objects, path)
+}
+
+fn has_path(objects: &[Object], path: &[u8]) -> bool
+    ensures { result
+        ≡ list_any (λ (object : ObjectRow). is_path_of path.now object.path) objects.now }
+{
+    objects.iter().any(|object| is_path_of(path, &object.path))
+}
+
+/// Whether an object of one of two lists has the type; an object that leaves does not count in the second list.
+#[tactic(auto, using(crate::proofs::ListLemmas::any_first, crate::proofs::ListLemmas::any_later))]
+pub fn some_has_type(own: &[Object], objects: &[Object], left: u32, objtype: u32) -> bool
+    ensures { result ≡ list_any (λ (object : ObjectRow). object.objtype == objtype)
+        (own.now ++ filter (λ object. not (has_number left object)) objects.now) }
+{
+    has_type(own, objtype) || has_type_but(objects, left, objtype)
+}
+
+fn has_type(objects: &[Object], objtype: u32) -> bool
+    ensures { result
+        ≡ list_any (λ (object : ObjectRow). object.objtype == objtype) objects.now }
+{
+    objects.iter().any(|object| object.objtype == objtype)
+}
+
+fn has_type_but(objects: &[Object], left: u32, objtype: u32) -> bool
+    ensures { result ≡ list_any (λ (object : ObjectRow). object.objtype == objtype)
+        (filter (λ object. not (has_number left object)) objects.now) }
+{
+    is_type_of_another(objects, left, objtype)
+}
+
+fn is_type_of_another(objects: &[Object], left: u32, objtype: u32) -> bool
+    ensures { result ≡ list_any (λ (object : ObjectRow).
+        not (has_number left object) && object.objtype == objtype) objects.now }
+{
+    objects.iter().any(|object| object.number != left && object.objtype == objtype)
+}
+
+fn is_path_of(path: &[u8], other: &Option<Text>) -> bool
+    ensures { result ≡ is_path_of path.now other.now }
+{
+    match other {
+        Some(other) => other.as_bytes() == path,
+        None => false,
+    }
+}
+
+/// Whether the number is that of a local object.
+pub fn is_local(number: u32) -> bool
+    ensures { result ≡ is_local number }
+{
+    LOCAL_NUMBERS.iter().any(|own| *own == number)
+}
+
+/// The path of an object, empty where it has none.
+pub fn path_of(object: &Object) -> &[u8]
+    ensures { result.now ≡ path_of object.now }
+{
+    match &object.path {
+        Some(path) => path.as_bytes(),
+        None => b"",
+    }
+}

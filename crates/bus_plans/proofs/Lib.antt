@@ -1,0 +1,4 @@
+pub mod PlanLemmas
+pub mod AskedLemmas
+pub mod OpenedLemmas
+pub mod AnswerLemmas

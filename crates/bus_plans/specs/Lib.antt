@@ -1,0 +1,4 @@
+-- What a message comes to.
+
+-- a plan for a step
+pub mod Plan

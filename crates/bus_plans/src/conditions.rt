@@ -1,0 +1,71 @@
+//! Conditions of objects and messages.
+ghost use Rattle.std.specs.Prelude.{◌≡◌, ◌==◌, ◌&&◌, not};
+ghost use Rattle.bus_table.specs.Table.{no_client, event_object};
+ghost use Rattle.bus_table.specs.Frames.{is_set};
+ghost use Rattle.bus_table.specs.Calls.{is_open};
+ghost use Rattle.bus_outbox.specs.Fits.{fits};
+ghost use Rattle.bus_state.specs.State.{table_of};
+
+use bus_lists::{EVENT_OBJECT, NO_CLIENT, is_open};
+use bus_messages::is_set;
+use bus_outbox::does_fit;
+use bus_state::Bus;
+use bus_table::{Client, Object};
+use ubus_frames::Frame;
+
+/// Whether the object is no client's.
+pub fn is_no_clients(object: &Object) -> bool
+    ensures { result ≡ (object.now.owner == no_client) }
+{
+    object.owner == NO_CLIENT
+}
+
+/// Whether the object is the client's.
+pub fn is_clients(object: &Object, client: &Client) -> bool
+    ensures { result ≡ (object.now.owner == client.now.number) }
+{
+    object.owner == client.number
+}
+
+/// Whether the object is another's.
+pub fn is_anothers(object: &Object, client: &Client) -> bool
+    ensures { result ≡ not (object.now.owner == client.now.number) }
+{
+    object.owner != client.number
+}
+
+/// Whether the object is the event object.
+pub fn is_event_object(object: &Object) -> bool
+    ensures { result ≡ (object.now.number == event_object.number) }
+{
+    object.number == EVENT_OBJECT
+}
+
+/// Whether the client has an open call with the sequence.
+pub fn is_open_for(bus: &Bus, client: &Client, request: &Frame) -> bool
+    ensures { result ≡ is_open (table_of bus.now).calls client.now.number request.now.seq }
+{
+    is_open(&bus.calls, client.number, request.seq)
+}
+
+/// Whether a reply is asked for, and the client has an open call with the sequence.
+pub fn is_taken_sequence(bus: &Bus, client: &Client, request: &Frame) -> bool
+    ensures { result ≡ (not (is_set request.now.no_reply)
+        && is_open (table_of bus.now).calls client.now.number request.now.seq) }
+{
+    !is_set(request.no_reply) && is_open_for(bus, client, request)
+}
+
+/// Whether a reply is asked for, and the frame that is passed on does not fit.
+pub fn is_too_long(request: &Frame, frame: &Frame) -> bool
+    ensures { result ≡ (not (is_set request.now.no_reply) && not (fits frame.now)) }
+{
+    !is_set(request.no_reply) && !does_fit(frame)
+}
+
+/// Whether a reply is asked for, and the frame that is passed on fits.
+pub fn is_opened(request: &Frame, frame: &Frame) -> bool
+    ensures { result ≡ (not (is_set request.now.no_reply) && fits frame.now) }
+{
+    !is_set(request.no_reply) && does_fit(frame)
+}

@@ -1,0 +1,2 @@
+pub mod LeaveLemmas
+pub mod AllLeftLemmas

@@ -1,0 +1,20 @@
+-- What a message changes.
+use Rattle.std.specs.Prelude.{◌+◌, [], ◌∷◌, ◌++◌, remove}
+use Rattle.bus_table.specs.Table.{Table}
+use Rattle.bus_table.specs.Subscriptions.{without}
+use Rattle.bus_table.specs.Objects.{without_object}
+use Rattle.bus_lists.specs.Calls.{call_of, calls_of}
+use Rattle.bus_state.specs.declared.change.Change.{Change}
+use Rattle.bus_state.specs.declared.change.Change.TheVariants.{Nothing, Adds, Removes, Subscribes, Unsubscribes, Registers, Opens, Calls, Closes}
+
+-- the table with a change
+abbrev pub changed : Table → Change → Table
+changed table Nothing = table
+changed table (Adds object) = record table { objects = table.objects ++ object ∷ []; next_object = object.number + 1 }
+changed table (Removes number) = without_object table number
+changed table (Subscribes subscription) = record table { subscriptions = table.subscriptions ++ subscription ∷ [] }
+changed table (Unsubscribes subscription) = record table { subscriptions = without table.subscriptions subscription }
+changed table (Registers registration) = record table { registrations = table.registrations ++ registration ∷ [] }
+changed table (Opens call) = record table { calls = table.calls ++ call_of call ∷ [] }
+changed table (Calls calls) = record table { calls = calls_of calls.items }
+changed table (Closes place) = record table { calls = remove table.calls place }

@@ -1,0 +1,29 @@
+-- Objects that leave one after another.
+use Rattle.std.specs.Prelude.{ℕ, ◌≡◌, List}
+use Rattle.bus_table.specs.Table.{Table, Call}
+use Rattle.bus_table.specs.declared.rows.Subscription.{Subscription}
+use Rattle.bus_table.specs.Refusal.{Step}
+use Rattle.bus_table.specs.Clients.{without_client, numbers_of, objects_left}
+use Rattle.bus_outbox.specs.Fits.{fits}
+use Rattle.bus_outbox.specs.Out.{out_of}
+use Rattle.bus_lists.specs.Calls.{calls_of}
+use Rattle.bus_lists.specs.Among.{objects_but, registrations_but}
+use Rattle.bus_state.specs.declared.leaving.Leaving.{Leaving}
+
+-- the table where these objects have left, and these subscriptions and calls are there
+abbrev pub partly : Table → List ℕ → List Subscription → List Call → Table
+partly table gone subscriptions calls = record table {
+  objects = objects_but gone table.objects;
+  subscriptions = subscriptions;
+  registrations = registrations_but gone table.registrations;
+  calls = calls;
+}
+
+-- what the leaving of a client comes to
+abbrev pub all_left : Table → ℕ → Step
+all_left table client = objects_left fits (without_client table client) (numbers_of table client)
+
+-- the leaving of a client comes to this
+pub record Leaves (before : Table) (client : ℕ) (leaving : Leaving) : Type 0 where
+  pub table : partly (without_client before client) leaving.numbers.items leaving.subscriptions.items (calls_of leaving.calls.items) ≡ (all_left before client).table
+  pub sent : leaving.out ≡ out_of (all_left before client).sent

@@ -1,0 +1,18 @@
+-- What the bus knows, as the table of the definitions.
+use Rattle.bus_table.specs.Table.{Table}
+use Rattle.bus_lists.specs.Calls.{calls_of}
+use Rattle.bus_state.specs.declared.bus.Bus.{Bus}
+
+-- what a bus knows; the code keeps no places
+abbrev pub table_of : Bus → Table
+table_of bus = record {
+  place = 0;
+  acl = bus.acl;
+  clients = bus.clients.items;
+  next_client = bus.next_client;
+  objects = bus.objects.items;
+  next_object = bus.next_object;
+  subscriptions = bus.subscriptions.items;
+  registrations = bus.registrations.items;
+  calls = calls_of bus.calls.items;
+}

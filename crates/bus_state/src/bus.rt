@@ -1,0 +1,49 @@
+ghost use Rattle.std.specs.Prelude.{◌≡◌, IfOk};
+ghost use Rattle.bus_table.specs.Table.{nobody};
+ghost use Rattle.bus_state.specs.State.{table_of};
+
+use bus_access::Acl;
+use bus_lists::{OpenCall, OwnObjects};
+use bus_table::{Client, Object, Registration, Subscription};
+use plane_io::Memory;
+use std::alloc::Global;
+
+const FIRST_NUMBER: u64 = 1025;
+
+/// What the bus knows.
+#[derive(Debug, Drop)]
+pub struct Bus {
+    pub alloc: Global,
+    /// The event object and the local objects.
+    pub own: OwnObjects,
+    pub acl: Acl,
+    pub clients: Vec<Client>,
+    pub next_client: u64,
+    /// Those of clients, as they were added.
+    pub objects: Vec<Object>,
+    pub next_object: u64,
+    pub subscriptions: Vec<Subscription>,
+    pub registrations: Vec<Registration>,
+    /// As they were opened.
+    pub calls: Vec<OpenCall>,
+}
+
+impl Bus {
+    /// A bus with the event object and the local objects alone.
+    pub fn new(alloc: Global, acl: Acl) -> Result<Bus, Memory>
+        ensures { IfOk result (λ bus. table_of bus ≡ nobody acl) }
+    {
+        Ok(Bus {
+            alloc,
+            own: OwnObjects::new(alloc)?,
+            acl,
+            clients: Vec::new(alloc),
+            next_client: FIRST_NUMBER,
+            objects: Vec::new(alloc),
+            next_object: FIRST_NUMBER,
+            subscriptions: Vec::new(alloc),
+            registrations: Vec::new(alloc),
+            calls: Vec::new(alloc),
+        })
+    }
+}

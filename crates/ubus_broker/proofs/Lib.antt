@@ -1,0 +1,2 @@
+pub mod DidLemmas
+pub mod KindLemmas

@@ -1,0 +1,33 @@
+use Rattle.std.proofs.Common.{ℕ, ◌≡◌, ◌+◌, ◌++◌, ◌==◌, List, [], ◌∷◌, Option, Some, None, Bool, true, false, not, IfOk, OnOk, get_or, refl, sym, ap, subst, ◌∙◌, rules}
+use Rattle.std.specs.Prelude.{◌&&◌, if◌then◌else◌, filter, remove}
+use Rattle.std.specs.Option.{option_copied}
+use Rattle.std.specs.List.{list_any, position}
+use Rattle.std.proofs.lemmas.Fn.{filter_same}
+use Rattle.blob_codec.specs.declared.blob.Attr.{Attr}
+use Rattle.ubus_frames.specs.declared.frame.Frame.{Frame}
+use Rattle.bus_table.specs.Table.{Table, Call, client_of, is_connected}
+use Rattle.bus_table.specs.declared.rows.Client.{Client}
+use Rattle.bus_table.specs.Frames.{Sent, where_fits, plain, hello}
+use Rattle.bus_table.specs.Refusal.{Step, says}
+use Rattle.bus_table.specs.Objects.{told}
+use Rattle.bus_table.specs.Clients.{is_handed_out, reply_sent, reply_status}
+use Rattle.bus_table.specs.Served.{served, said_by, connect, frame, leave, local_reply}
+use Rattle.bus_outbox.specs.declared.outbox.Outgoing.{Outgoing}
+use Rattle.bus_outbox.specs.Fits.{fits}
+use Rattle.bus_outbox.specs.Out.{outgoing, out_of}
+use Rattle.bus_outbox.proofs.OutLemmas.{out_more}
+use Rattle.bus_lists.specs.declared.calls.OpenCall.{OpenCall}
+use Rattle.bus_lists.specs.Calls.{call_of, calls_of}
+use Rattle.bus_lists.proofs.ListLemmas.{list_any_map, position_of_map, remove_of_map}
+use Rattle.bus_state.specs.State as state
+use Rattle.bus_plans.proofs.PlanLemmas.{taken, passed, says_plan, planned_as, plan_for}
+use Rattle.bus_plans.proofs.AnswerLemmas.{call_at}
+use Rattle.ubus_broker.specs.Did.{table_of, Did}
+use Rattle.ubus_broker.proofs.DidLemmas.{did_counted, connect_did, leave_did, reply_did, no_reply_did, not_false}
+use Rattle.ubus_broker.proofs.broker.Broker.serve.Goals as goal
+
+pub returns-clause-ok : goal.returns-clause-ok
+returns-clause-ok c =
+    let table : Table = table_of c.args.self.now in
+    did_counted (said_by fits table (client_of table c.args.client) c.args.frame.now) (state.table_of c.change.new.self) c.in_ok-plan.plan.out c.in_ok-plan.plan.call refl
+    (c.in_ok-change.ensures.ok ∙ c.in_ok-plan.ensures.table) c.in_ok-plan.ensures.sent c.in_ok-plan.ensures.handed

@@ -1,0 +1,4 @@
+-- The message bus: what a step of the code did.
+
+-- what a bus knows, and what a step did
+pub mod Did

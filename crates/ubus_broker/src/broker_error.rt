@@ -1,0 +1,46 @@
+use plane_io::Memory;
+use std::alloc::{AllocError, AllocFailed};
+use thiserror::Error;
+
+/// Why a call of the broker was refused.
+#[derive(Clone, Copy, Debug, PartialEq, Eq, Error)]
+pub enum BrokerError {
+    /// There are 256 clients, or their numbers are used up.
+    #[error("too many clients")]
+    Full,
+    /// No client of that number is connected.
+    #[error("no such client")]
+    NoClient,
+    /// There was not enough memory.
+    #[error("out of memory")]
+    Memory,
+}
+
+impl BrokerError {
+    /// The number of the kind of error: 60 for `Full`, 61 for `NoClient`, 8 for `Memory`.
+    pub fn number(&self) -> u8 {
+        match self {
+            BrokerError::Full => 60,
+            BrokerError::NoClient => 61,
+            BrokerError::Memory => 8,
+        }
+    }
+}
+
+impl From<Memory> for BrokerError {
+    fn from(_error: Memory) -> BrokerError {
+        BrokerError::Memory
+    }
+}
+
+impl From<AllocError> for BrokerError {
+    fn from(_error: AllocError) -> BrokerError {
+        BrokerError::Memory
+    }
+}
+
+impl<T: Drop> From<AllocFailed<T>> for BrokerError {
+    fn from(_error: AllocFailed<T>) -> BrokerError {
+        BrokerError::Memory
+    }
+}
