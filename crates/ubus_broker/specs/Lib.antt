@@ -2,3 +2,5 @@
 
 -- what a bus knows, and what a step did
 pub mod Did
+-- the numbers of errors
+pub mod BrokerError

@@ -1,3 +1,6 @@
+ghost use Rattle.std.specs.Prelude.{◌≡◌};
+ghost use Rattle.ubus_broker.specs.BrokerError.{number_of};
+
 use plane_io::Memory;
 use std::alloc::{AllocError, AllocFailed};
 use thiserror::Error;
@@ -18,7 +21,9 @@ pub enum BrokerError {
 
 impl BrokerError {
     /// The number of the kind of error: 60 for `Full`, 61 for `NoClient`, 8 for `Memory`.
-    pub fn number(&self) -> u8 {
+    pub fn number(&self) -> u8
+        ensures { result ≡ number_of self.now }
+    {
         match self {
             BrokerError::Full => 60,
             BrokerError::NoClient => 61,
@@ -28,19 +33,25 @@ impl BrokerError {
 }
 
 impl From<Memory> for BrokerError {
-    fn from(_error: Memory) -> BrokerError {
+    fn from(_error: Memory) -> BrokerError
+        ensures { result ≡ BrokerError.Memory }
+    {
         BrokerError::Memory
     }
 }
 
 impl From<AllocError> for BrokerError {
-    fn from(_error: AllocError) -> BrokerError {
+    fn from(_error: AllocError) -> BrokerError
+        ensures { result ≡ BrokerError.Memory }
+    {
         BrokerError::Memory
     }
 }
 
 impl<T: Drop> From<AllocFailed<T>> for BrokerError {
-    fn from(_error: AllocFailed<T>) -> BrokerError {
+    fn from(_error: AllocFailed<T>) -> BrokerError
+        ensures { result ≡ BrokerError.Memory }
+    {
         BrokerError::Memory
     }
 }
