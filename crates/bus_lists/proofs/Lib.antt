@@ -1,3 +1,4 @@
 pub mod ListLemmas
 pub mod OrderLemmas
 pub mod CallLemmas
+pub mod RisingLemmas

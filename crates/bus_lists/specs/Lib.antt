@@ -6,3 +6,5 @@ pub mod Own
 pub mod Calls
 -- rows of objects that left
 pub mod Among
+-- rows by rising number
+pub mod Rising

@@ -14,7 +14,7 @@ pub fn is_among(numbers: &[u32], number: u32) -> bool
 }
 
 /// Drops the object of a number.
-pub fn drop_numbered(objects: &mut Vec<Object>, number: u32)
+pub(crate) fn drop_numbered(objects: &mut Vec<Object>, number: u32)
     ensures { objects.new.items
         ≡ filter (λ object. not (has_number number object)) objects.old.items }
 {
@@ -30,7 +30,7 @@ pub fn drop_registered(registrations: &mut Vec<Registration>, number: u32)
 }
 
 /// Drops the objects of these numbers.
-pub fn drop_among(objects: &mut Vec<Object>, numbers: &[u32])
+pub(crate) fn drop_among(objects: &mut Vec<Object>, numbers: &[u32])
     ensures { objects.new.items ≡ among.objects_but numbers.now objects.old.items }
 {
     objects.retain(|object| !is_among(numbers, object.number));
@@ -45,7 +45,7 @@ pub fn drop_registered_among(registrations: &mut Vec<Registration>, numbers: &[u
 }
 
 /// Drops a client.
-pub fn drop_client(rows: &mut Vec<Client>, client: u32)
+pub(crate) fn drop_client(rows: &mut Vec<Client>, client: u32)
     ensures { rows.new.items
         ≡ filter (λ (other : ClientRow). not (other.number == client)) rows.old.items }
 {

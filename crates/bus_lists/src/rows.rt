@@ -2,11 +2,10 @@
 ghost use Rattle.std.specs.Prelude.{◌≡◌, ◌==◌, ◌&&◌, ◌++◌, filter, not};
 ghost use Rattle.std.specs.Option.{option_copied};
 ghost use Rattle.std.specs.List.{find, list_any};
-ghost use Rattle.bus_table.specs.declared.rows.Client.{Client as ClientRow};
 ghost use Rattle.bus_table.specs.declared.rows.Object.{Object as ObjectRow};
 ghost use Rattle.bus_table.specs.Table.{has_number, is_local, is_path_of, path_of};
 
-use bus_table::{Client, Object};
+use bus_table::Object;
 use plane_io::Text;
 
 /// The owner of objects that are no client's.
@@ -17,21 +16,13 @@ pub const EVENT_OBJECT: u32 = 1;
 
 const LOCAL_NUMBERS: [u32; 6] = [2, 3, 4, 5, 6, 7];
 
-/// The object of a number, which has more bits where it is an argument of a method.
-pub fn find_object(objects: &[Object], number: u64) -> Option<&Object>
+/// The object of a number, out of a few.
+pub(crate) fn find_object(objects: &[Object], number: u64) -> Option<&Object>
     ensures { option_copied result ≡ find (has_number number) objects.now }
 {
     objects
         .iter()
         .find(|object| u64::from(object.number) == number)
-}
-
-/// The client of a number.
-pub fn find_client(clients: &[Client], number: u32) -> Option<&Client>
-    ensures { option_copied result
-        ≡ find (λ (client : ClientRow). client.number == number) clients.now }
-{
-    clients.iter().find(|client| client.number == number)
 }
 
 /// An object of this type.

@@ -20,7 +20,7 @@ passed {A} {b} x {y} h = ap (λ (c : Bool). if c then x else y) h
 
 -- frames are sent, and nothing changes
 pub says_plan : (table : Table) (sent : List Sent) (out : List Outgoing) (plan : Plan) → plan ≡ record { change = Nothing; out = out; call = None } → out ≡ out_of sent → Plans (says table sent) table plan
-says_plan table sent out plan is told = subst (Plans (says table sent) table) (sym is) (record { table = refl; sent = told; handed = refl })
+says_plan table sent out plan is told = subst (Plans (says table sent) table) (sym is) (record { table = refl; sent = told; handed = refl; numbered = tt })
 
 -- a plan for a step is one for the same step
 pub plan_for : (step other : Step) (table : Table) (plan : Plan) → step ≡ other → Plans other table plan → Plans step table plan
@@ -28,6 +28,7 @@ plan_for step other table plan same plans = record {
   table = plans.table ∙ sym (ap (λ (s : Step). s.table) same);
   sent = plans.sent ∙ sym (ap (λ (s : Step). out_of s.sent) same);
   handed = plans.handed ∙ sym (ap (λ (s : Step). s.local) same);
+  numbered = plans.numbered;
 }
 
 pub planned_as : {E : Type 0} (result : Result Plan E) (table : Table) (step other : Step) → IfOk result (λ (plan : Plan). Plans other table plan) → step ≡ other → IfOk result (λ (plan : Plan). Plans step table plan)

@@ -47,7 +47,7 @@ fn descriptions(bus: &Bus, request: &Frame) -> Result<Vec<Frame>, Memory>
         (spec.asked_for (table_of bus.now) request.now.path)) }
 {
     let mut told = Vec::new(bus.alloc);
-    describe(bus.alloc, &mut told, request, &bus.objects)?;
+    describe(bus.alloc, &mut told, request, &bus.objects.rows)?;
     describe(bus.alloc, &mut told, request, bus.own.local())?;
     Ok(told)
 }

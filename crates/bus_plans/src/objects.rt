@@ -109,7 +109,7 @@ fn has_all_objects(bus: &Bus) -> bool
     ensures full { result ≡ spec.is_full (table_of bus.now) }
     ensures room { result ≡ false → (table_of bus.now).next_object ≤ LAST_NUMBER }
 {
-    bus.objects.len() >= MOST_OBJECTS || bus.next_object > LAST_NUMBER
+    bus.objects.rows.len() >= MOST_OBJECTS || bus.objects.next > LAST_NUMBER
 }
 
 fn added(bus: &Bus, client: &Client, request: &Frame) -> Result<Plan, Memory>
@@ -151,7 +151,7 @@ fn new_object(bus: &Bus, client: &Client, request: &Frame) -> Result<Object, Mem
     ensures { IfOk result (λ object. object
         ≡ spec.new_object (table_of bus.now) client.now request.now) }
 {
-    let number = bus.next_object as u32;
+    let number = bus.objects.next as u32;
     Ok(Object {
         number,
         owner: client.number,

@@ -1,5 +1,5 @@
 -- What a message changes.
-use Rattle.std.specs.Prelude.{◌+◌, [], ◌∷◌, ◌++◌, remove}
+use Rattle.std.specs.Prelude.{◌≡◌, ◌+◌, [], ◌∷◌, ◌++◌, remove, ⊤}
 use Rattle.bus_table.specs.Table.{Table}
 use Rattle.bus_table.specs.Subscriptions.{without}
 use Rattle.bus_table.specs.Objects.{without_object}
@@ -18,3 +18,15 @@ changed table (Registers registration) = record table { registrations = table.re
 changed table (Opens call) = record table { calls = table.calls ++ call_of call ∷ [] }
 changed table (Calls calls) = record table { calls = calls_of calls.items }
 changed table (Closes place) = record table { calls = remove table.calls place }
+
+-- an object that is added has the next number
+abbrev pub IsNumbered : Table → Change → Type 0
+IsNumbered table Nothing = ⊤
+IsNumbered table (Adds object) = object.number ≡ table.next_object
+IsNumbered table (Removes number) = ⊤
+IsNumbered table (Subscribes subscription) = ⊤
+IsNumbered table (Unsubscribes subscription) = ⊤
+IsNumbered table (Registers registration) = ⊤
+IsNumbered table (Opens call) = ⊤
+IsNumbered table (Calls calls) = ⊤
+IsNumbered table (Closes place) = ⊤

@@ -8,10 +8,10 @@ abbrev pub table_of : Bus → Table
 table_of bus = record {
   place = 0;
   acl = bus.acl;
-  clients = bus.clients.items;
-  next_client = bus.next_client;
-  objects = bus.objects.items;
-  next_object = bus.next_object;
+  clients = bus.clients.rows.items;
+  next_client = bus.clients.next;
+  objects = bus.objects.rows.items;
+  next_object = bus.objects.next;
   subscriptions = bus.subscriptions.items;
   registrations = bus.registrations.items;
   calls = calls_of bus.calls.items;

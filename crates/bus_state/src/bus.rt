@@ -3,8 +3,8 @@ ghost use Rattle.bus_table.specs.Table.{nobody};
 ghost use Rattle.bus_state.specs.State.{table_of};
 
 use bus_access::Acl;
-use bus_lists::{OpenCall, OwnObjects};
-use bus_table::{Client, Object, Registration, Subscription};
+use bus_lists::{ClientRows, ObjectRows, OpenCall, OwnObjects};
+use bus_table::{Registration, Subscription};
 use plane_io::Memory;
 use std::alloc::Global;
 
@@ -17,11 +17,9 @@ pub struct Bus {
     /// The event object and the local objects.
     pub own: OwnObjects,
     pub acl: Acl,
-    pub clients: Vec<Client>,
-    pub next_client: u64,
-    /// Those of clients, as they were added.
-    pub objects: Vec<Object>,
-    pub next_object: u64,
+    pub clients: ClientRows,
+    /// Those of clients.
+    pub objects: ObjectRows,
     pub subscriptions: Vec<Subscription>,
     pub registrations: Vec<Registration>,
     /// As they were opened.
@@ -37,10 +35,8 @@ impl Bus {
             alloc,
             own: OwnObjects::new(alloc)?,
             acl,
-            clients: Vec::new(alloc),
-            next_client: FIRST_NUMBER,
-            objects: Vec::new(alloc),
-            next_object: FIRST_NUMBER,
+            clients: ClientRows::new(alloc, FIRST_NUMBER),
+            objects: ObjectRows::new(alloc, FIRST_NUMBER),
             subscriptions: Vec::new(alloc),
             registrations: Vec::new(alloc),
             calls: Vec::new(alloc),

@@ -1,14 +1,12 @@
 ghost use Rattle.std.specs.Prelude.{◌≡◌, OnOk, OnErr, remove};
 ghost use Rattle.bus_table.specs.Objects.{without_object};
 ghost use Rattle.bus_lists.specs.Calls.{calls_of};
-ghost use Rattle.bus_state.specs.Change.{changed};
+ghost use Rattle.bus_state.specs.Change.{changed, IsNumbered};
 ghost use Rattle.bus_state.specs.State.{table_of};
 ghost use Rattle.bus_state.specs.declared.change.Change.TheVariants.{Adds, Opens};
 
 use crate::Bus;
-use bus_lists::{
-    OpenCall, drop_calls_on, drop_numbered, drop_registered, drop_subscription, drop_touching,
-};
+use bus_lists::{OpenCall, drop_calls_on, drop_registered, drop_subscription, drop_touching};
 use bus_table::{Object, Registration, Subscription};
 use plane_io::Memory;
 
@@ -31,6 +29,7 @@ pub enum Change {
 impl Bus {
     /// Does a change. Where there is not enough memory, the bus stays.
     pub fn change(&mut self, change: Change) -> Result<(), Memory>
+        requires { IsNumbered (table_of self.old) change }
         ensures ok { OnOk result (table_of self.new ≡ changed (table_of self.old) change) }
         ensures err { OnErr result (table_of self.new ≡ table_of self.old) }
     {
@@ -66,13 +65,11 @@ impl Bus {
     }
 
     fn add_object(&mut self, object: Object) -> Result<(), Memory>
+        requires { object.number ≡ (table_of self.old).next_object }
         ensures ok { OnOk result (table_of self.new ≡ changed (table_of self.old) (Adds object)) }
         ensures err { OnErr result (table_of self.new ≡ table_of self.old) }
     {
-        let next_object = u64::from(object.number) + 1;
-        self.objects.push(object)?;
-        self.next_object = next_object;
-        Ok(())
+        self.objects.push(object)
     }
 
     fn open_call(&mut self, call: OpenCall) -> Result<(), Memory>
@@ -87,7 +84,7 @@ impl Bus {
     fn drop_object(&mut self, number: u32)
         ensures { table_of self.new ≡ without_object (table_of self.old) number }
     {
-        drop_numbered(&mut self.objects, number);
+        self.objects.remove(number);
         drop_touching(&mut self.subscriptions, number);
         drop_registered(&mut self.registrations, number);
         drop_calls_on(&mut self.calls, number);

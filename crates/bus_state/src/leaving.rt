@@ -1,5 +1,6 @@
 ghost use Rattle.std.specs.Prelude.{◌≡◌, ◌++◌, ◌==◌, ◌&&◌, [], false, Some, OnOk, IfOk, if◌then◌else◌, not, map, filter};
 ghost use Rattle.std.specs.List.{flat_map};
+ghost use Rattle.bus_table.specs.declared.rows.Object.{Object as ObjectRow};
 ghost use Rattle.bus_table.specs.Table.{owner_of};
 ghost use Rattle.bus_table.specs.Frames as frames;
 ghost use Rattle.bus_table.specs.Frames.{to_owner};
@@ -14,13 +15,14 @@ ghost use Rattle.bus_state.specs.State.{table_of};
 
 use crate::Bus;
 use bus_lists::{
-    OpenCall, drop_among, drop_calls_on, drop_client, drop_registered_among, drop_touching,
-    forget_calls, is_alone_untouched, subscribers_of, targets_of,
+    OpenCall, drop_calls_on, drop_registered_among, drop_touching, forget_calls,
+    is_alone_untouched, subscribers_of, targets_of,
 };
 use bus_messages::{active, call_status, gone as farewell};
 use bus_outbox::{Outgoing, send_to};
-use bus_table::Subscription;
+use bus_table::{Object, Subscription};
 use plane_io::{Items, Memory};
+use std::alloc::Global;
 
 /// What the leaving of a client comes to, before it is done.
 #[derive(Debug, Drop)]
@@ -185,8 +187,8 @@ impl Bus {
             calls,
             out,
         } = leaving;
-        drop_client(&mut self.clients, client);
-        drop_among(&mut self.objects, &numbers);
+        self.clients.remove(client);
+        self.objects.remove_among(&numbers);
         drop_registered_among(&mut self.registrations, &numbers);
         self.subscriptions = subscriptions;
         self.calls = calls;
@@ -198,14 +200,21 @@ impl Bus {
         ensures { IfOk result (λ numbers. numbers.items
             ≡ clients.numbers_of (table_of self.now) client) }
     {
-        let mut numbers = Vec::new(self.alloc);
-        for object in &self.objects {
-            if object.owner == client {
-                numbers.push(object.number)?;
-            }
-        }
-        Ok(numbers)
+        owned_numbers(self.alloc, &self.objects.rows, client)
     }
+}
+
+fn owned_numbers(alloc: Global, objects: &[Object], client: u32) -> Result<Vec<u32>, Memory>
+    ensures { IfOk result (λ numbers. numbers.items ≡ map (λ (object : ObjectRow). object.number)
+        (filter (λ (object : ObjectRow). object.owner == client) objects.now)) }
+{
+    let mut numbers = Vec::new(alloc);
+    for object in objects {
+        if object.owner == client {
+            numbers.push(object.number)?;
+        }
+    }
+    Ok(numbers)
 }
 
 /// The open calls on an object that leaves get STATUS 10.

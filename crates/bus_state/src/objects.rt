@@ -10,7 +10,7 @@ ghost use Rattle.bus_state.specs.Leaving.{partly};
 ghost use Rattle.bus_state.specs.State.{table_of};
 
 use crate::Bus;
-use bus_lists::{find_object, find_of_type, is_among, some_has_path, some_has_type};
+use bus_lists::{ObjectRows, find_of_type, is_among, some_has_path, some_has_type};
 use bus_table::Object;
 
 impl Bus {
@@ -21,7 +21,7 @@ impl Bus {
     {
         match self.own.find(number) {
             Some(object) => Some(object),
-            None => find_object(&self.objects, number),
+            None => self.objects.find(number),
         }
     }
 
@@ -56,7 +56,7 @@ impl Bus {
     pub fn is_connected(&self, client: u32) -> bool
         ensures { result ≡ table.is_connected (table_of self.now) client }
     {
-        self.clients.iter().any(|row| row.number == client)
+        self.clients.contains(client)
     }
 
     /// An object of this type.
@@ -66,7 +66,7 @@ impl Bus {
     {
         match find_of_type(self.own.local(), objtype) {
             Some(object) => Some(object),
-            None => find_of_type(&self.objects, objtype),
+            None => find_of_type(&self.objects.rows, objtype),
         }
     }
 
@@ -74,7 +74,7 @@ impl Bus {
     pub fn is_taken(&self, path: &[u8]) -> bool
         ensures { result ≡ table.is_taken (table_of self.now) path.now }
     {
-        some_has_path(self.own.local(), &self.objects, path)
+        some_has_path(self.own.local(), &self.objects.rows, path)
     }
 
     /// Whether an object but this one has the type.
@@ -82,7 +82,7 @@ impl Bus {
         ensures { result ≡ list_any (λ (object : ObjectRow). object.objtype == objtype)
             (table.typed (without_object (table_of self.now) number)) }
     {
-        some_has_type(self.own.local(), &self.objects, number, objtype)
+        some_has_type(self.own.local(), &self.objects.rows, number, objtype)
     }
 
     /// The number of an object's owner, where these objects have left.
@@ -109,11 +109,12 @@ impl Bus {
 
 /// The object of a number that is none of these.
 #[tactic(auto, using(crate::proofs::LeaveLemmas::found_left, crate::proofs::LeaveLemmas::none_found_left))]
-fn object_but<'a>(objects: &'a [Object], gone: &[u32], number: u32) -> Option<&'a Object>
-    ensures { option_copied result ≡ find (table.has_number number) (objects_but gone.now objects.now) }
+fn object_but<'a>(objects: &'a ObjectRows, gone: &[u32], number: u32) -> Option<&'a Object>
+    ensures { option_copied result
+        ≡ find (table.has_number number) (objects_but gone.now objects.now.rows.items) }
 {
     if is_among(gone, number) {
         return None;
     }
-    find_object(objects, u64::from(number))
+    objects.find(u64::from(number))
 }

@@ -13,7 +13,6 @@ ghost use Rattle.ubus_broker.specs.Did.{table_of, Did};
 
 use crate::plans::plan_message;
 use crate::{Acl, BrokerError, LocalCall};
-use bus_lists::find_client;
 use bus_messages::hello;
 use bus_outbox::Outgoing;
 use bus_plans::{Plan, says};
@@ -91,7 +90,7 @@ impl Broker {
         ensures number { IfOk result (λ joined. joined.client ≡ (table_of self.old).next_client) }
         ensures err { OnErr result (table_of self.new ≡ table_of self.old) }
     {
-        let number = number_of(self.bus.next_client);
+        let number = number_of(self.bus.clients.next);
         let out = hello_to(self.bus.alloc, number)?;
         let client = new_client(self.bus.alloc, number, user, group)?;
         self.add_client(client)?;
@@ -102,16 +101,14 @@ impl Broker {
     }
 
     fn add_client(&mut self, client: Client) -> Result<(), Memory>
-        requires { (table_of self.old).next_client ≤ LAST_NUMBER }
+        requires { client.number ≡ (table_of self.old).next_client }
         ensures ok { OnOk result (table_of self.new ≡ record (table_of self.old) {
           clients = (table_of self.old).clients ++ client ∷ [];
           next_client = (table_of self.old).next_client + 1;
         }) }
         ensures err { OnErr result (table_of self.new ≡ table_of self.old) }
     {
-        self.bus.clients.push(client)?;
-        self.bus.next_client += 1;
-        Ok(())
+        self.bus.clients.push(client)
     }
 
     /// Whether there are 256 clients, or their numbers are used up.
@@ -119,7 +116,7 @@ impl Broker {
         ensures full { result ≡ clients.is_full (table_of self.now) }
         ensures room { result ≡ false → (table_of self.now).next_client ≤ LAST_NUMBER }
     {
-        self.bus.clients.len() >= MOST_CLIENTS || self.bus.next_client > LAST_NUMBER
+        self.bus.clients.rows.len() >= MOST_CLIENTS || self.bus.clients.next > LAST_NUMBER
     }
 
     /// Serves a frame of a client.
@@ -155,7 +152,7 @@ impl Broker {
     fn client_of(&self, number: u32) -> Option<&Client>
         ensures { option_copied result ≡ table.client_of (table_of self.now) number }
     {
-        find_client(&self.bus.clients, number)
+        self.bus.clients.find(number)
     }
 
     fn serve(&mut self, client: u32, frame: &Frame) -> Result<Served, Memory>

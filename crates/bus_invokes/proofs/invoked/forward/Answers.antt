@@ -33,9 +33,10 @@ returns c =
     let client : Client = c.args.client.now in
     let request : Frame = c.args.request.now in
     record {
-      table = c.opening.ensures table refl;
+      table = c.opening.ensures.table table refl;
       sent = c.in_ok-send_if_fits.ensures
           ∙ (ap (λ (out : List Outgoing). out ++ out_of (where_fits fits c.args.object.now.owner c.args.frame)) c.new-out.ensures
           ∙ ap (λ (frame : Frame). out_of (where_fits fits c.args.object.now.owner frame)) c.requires);
       handed = refl;
+      numbered = c.opening.ensures.numbered table;
     }

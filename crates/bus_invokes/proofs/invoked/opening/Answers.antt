@@ -27,8 +27,8 @@ use Rattle.bus_plans.proofs.PlanLemmas.{taken, passed, says_plan, planned_as, pl
 use Rattle.bus_invokes.proofs.WayLemmas.{way_event, way_denied, way_open, way_free, open_local, open_long, open_short, event_register, event_send, event_unknown, own_denied, own_unheard, own_heard, send_heard, send_denied}
 use Rattle.bus_invokes.proofs.invoked.opening.Goals as goal
 
-pub returns-then-is_set : goal.returns-then-is_set
-returns-then-is_set c = λ table zero. sym (taken _ (sym c.if-is_set.ensures))
+pub returns-then-is_set-clause-table : goal.returns-then-is_set-clause-table
+returns-then-is_set-clause-table c = λ table zero. sym (taken _ (sym c.if-is_set.ensures))
 
-pub returns : goal.returns
-returns c = λ table zero. ap (λ (call : Call). with_call table call) (c.call_on.ensures table zero) ∙ sym (passed _ (sym c.if-is_set.ensures))
+pub returns-clause-table : goal.returns-clause-table
+returns-clause-table c = λ table zero. ap (λ (call : Call). with_call table call) (c.call_on.ensures table zero) ∙ sym (passed _ (sym c.if-is_set.ensures))

@@ -36,7 +36,7 @@ use Rattle.bus_plans.proofs.asked.descriptions.Goals as goal
 pub returns : goal.returns
 returns c =
     let request : Frame = c.args.request.now in
-    let objects : List Object = c.args.bus.now.objects.items in
+    let objects : List Object = c.args.bus.now.objects.rows.items in
     let told : List Object → List Frame = λ os. map (description request) (ordered by_path (filter (is_asked request.path) os)) in
     let same : c.deref.result.now ++ [] ≡ objects = append-nil c.deref.result.now ∙ c.deref.ensures.value in
     c.in_ok-describe-2.ensures objects (c.in_ok-describe.ensures [] c.new-told.ensures.items ∙ ap told same)

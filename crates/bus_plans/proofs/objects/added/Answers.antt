@@ -35,4 +35,5 @@ returns c =
       table = ap (λ (object : Object). changed table (Adds object)) c.in_ok-object.ensures;
       sent = c.in_ok-out.ensures ∙ ap (λ (object : Object). out_of (with_data fits client.number request (object_data request object.number (Some object.objtype) ∷ []))) c.in_ok-object.ensures;
       handed = refl;
+      numbered = ap (λ (object : Object). object.number) c.in_ok-object.ensures;
     }
