@@ -1,0 +1,2 @@
+-- runs of a broker beside those of the definitions
+pub mod RanLemmas

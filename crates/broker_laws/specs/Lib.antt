@@ -1,0 +1,4 @@
+-- Runs of a broker.
+
+-- calls of a broker, one after another
+pub mod Ran
