@@ -1,0 +1,20 @@
+-- An apply that waits, and disks that fail where files are written.
+use Rattle.std.specs.Prelude.{ℕ, ◌≡◌, ◌⊎◌, Option, Some, None, Result, Ok, Err, Bool, true, false}
+use Rattle.plane_words.specs.Causes.{Rose}
+use Rattle.plane_disk.specs.View.{View}
+use Rattle.rpc_rules.specs.declared.rpc_error.RpcError.{RpcError}
+use Rattle.rpc_rules.specs.declared.rpc_error.RpcError.TheVariants.{Status, Denied, DiskFailed, Memory}
+
+-- what waits, if anything, is this holder's
+abbrev pub IsOwn : ℕ → Option ℕ → Type 0
+IsOwn holder None = Unit {0}
+IsOwn holder (Some other) = other ≡ holder
+
+-- where a disk failed the count of one of the two rose, and the store refuses calls from then on; else no call has failed
+abbrev pub HasDiskCause : {X : Type 0} → Result X RpcError → Bool → View → View → View → View → Type 0
+HasDiskCause (Ok x) failed files_old files_new staged_old staged_new = failed ≡ false
+HasDiskCause (Err (Status status)) failed files_old files_new staged_old staged_new = failed ≡ false
+HasDiskCause (Err (Denied grant)) failed files_old files_new staged_old staged_new = failed ≡ false
+HasDiskCause (Err DiskFailed) failed files_old files_new staged_old staged_new =
+    (failed ≡ true) × (Rose files_old.faults files_new.faults ⊎ Rose staged_old.faults staged_new.faults)
+HasDiskCause (Err Memory) failed files_old files_new staged_old staged_new = failed ≡ false
