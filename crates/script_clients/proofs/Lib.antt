@@ -1,0 +1,3 @@
+pub mod ClientLemmas
+pub mod FedLemmas
+pub mod BusLemmas
