@@ -1,2 +1,0 @@
-pub mod AgreeLemmas
-pub mod CountLemmas

@@ -1,0 +1,142 @@
+ghost use Rattle.std.specs.Prelude.{◌≡◌, ◌<◌, ◌≤◌, Some, None, length};
+ghost use Rattle.std.specs.Option.{option_map};
+ghost use Rattle.kern_model.specs.Kernel.{with_carrier};
+ghost use Rattle.graph_rules.specs.State.{place_among};
+ghost use Rattle.graph_rules.specs.After.{name_at, with_claims, with_device};
+ghost use Rattle.graph_rules.specs.Answers as spec;
+ghost use Rattle.graph_counts.specs.Counted.{name_of};
+
+use graph_names::Names;
+use graph_rules::{DevId, RadioPort};
+use kern_model::{DevName, Device};
+use net_rows::{NameRow, VlanRow};
+use plane_io::Items;
+use std::marker::Model;
+use std::sync::ledger::Ledger;
+use use_counts::{Graph, Steps};
+
+/// Names with their rows, their devices, their claims and the ports of radios, and the counts over them.
+#[derive(Drop)]
+pub struct CountedNames {
+    rows: Items<NameRow>,
+    vlans: Items<VlanRow>,
+    names: Names,
+    radio: Items<RadioPort>,
+    counts: Graph,
+}
+
+impl Model for CountedNames {
+    ghost use Rattle.graph_rules.specs.State.{Known};
+
+    ghost Value = { Known };
+
+    ghost use Rattle.graph_counts.specs.Inside.{known_of, IsTied};
+
+    ghost view = { known_of };
+
+    ghost invariant = { IsTied };
+}
+
+impl CountedNames {
+    /// The id of a name, or none where it is not among them.
+    pub fn find(&self, name: &DevName) -> Option<DevId>
+        ensures { option_map (λ id. id.0) result ≡ place_among self.now.names name.now }
+    {
+        match self.names.find(name) {
+            Some(id) => Some(DevId(id)),
+            None => None,
+        }
+    }
+
+    /// Whether the name of an id is available.
+    pub fn available(&self, id: DevId) -> bool
+        requires { id.0 < length self.now.names }
+        ensures { result ≡ spec.available_in self.now (name_of self.now id.0) }
+    {
+        self.counts.available(id.0)
+    }
+
+    /// Whether the name of an id has link.
+    pub fn link(&self, id: DevId) -> bool
+        requires { id.0 < length self.now.names }
+        ensures { result ≡ spec.link_in self.now (name_of self.now id.0) }
+    {
+        self.counts.link(id.0)
+    }
+
+    /// Whether the name of an id is used.
+    pub fn used(&self, id: DevId) -> bool
+        requires { id.0 < length self.now.names }
+        ensures { result ≡ spec.used_in self.now (name_of self.now id.0) }
+    {
+        self.counts.used(id.0)
+    }
+
+    /// How many use the name of an id.
+    pub fn users(&self, id: DevId) -> u32
+        requires { id.0 < length self.now.names }
+        ensures { result ≡ spec.users_in self.now (name_of self.now id.0) }
+    {
+        self.counts.users(id.0)
+    }
+
+    /// The device of an id, where it is there.
+    pub fn device(&self, id: DevId) -> Option<Device>
+        requires { id.0 < length self.now.names }
+        ensures { result ≡ (name_at self.now.names id.0).device }
+    {
+        self.names.device(id.0)
+    }
+
+    /// A device is there.
+    pub fn set_present<L: Ledger>(&mut self, id: DevId, device: Device, steps: &mut Steps<L>)
+        requires { id.0 < length self.old.names }
+        ensures { self.new ≡ record self.old {
+          names = with_device self.old.names id.0 (Some device);
+        } }
+    {
+        self.names.set_device(id.0, Some(device));
+        self.counts.set_present(id.0, device.carrier, steps);
+    }
+
+    /// A device is gone.
+    pub fn set_absent<L: Ledger>(&mut self, id: DevId, steps: &mut Steps<L>)
+        requires { id.0 < length self.old.names }
+        ensures { self.new ≡ record self.old { names = with_device self.old.names id.0 None } }
+    {
+        self.names.set_device(id.0, None);
+        self.counts.set_absent(id.0, steps);
+    }
+
+    /// The carrier of a device is on or off. Of one that is not there nothing is told.
+    pub fn set_carrier<L: Ledger>(&mut self, id: DevId, on: bool, steps: &mut Steps<L>)
+        requires { id.0 < length self.old.names }
+        ensures { self.new ≡ record self.old {
+          names = with_device self.old.names id.0
+              (option_map (with_carrier on) (name_at self.old.names id.0).device);
+        } }
+    {
+        if let Some(device) = self.names.device(id.0) {
+            self.set_present(
+                id,
+                Device {
+                    carrier: on,
+                    ..device
+                },
+                steps,
+            );
+        }
+    }
+
+    /// The name of an id has this many claims.
+    pub fn set_claim<L: Ledger>(&mut self, id: DevId, claims: u32, steps: &mut Steps<L>)
+        requires within { id.0 < length self.old.names }
+        requires few { claims ≤ 1024 }
+        ensures { self.new ≡ record self.old {
+          names = with_claims self.old.names id.0 claims;
+        } }
+    {
+        self.names.set_claims(id.0, claims);
+        self.counts.set_claim(id.0, claims, steps);
+    }
+}
