@@ -130,7 +130,7 @@ same_reply a b p r = ap (λ (z : List Attr). reply_of z b.reload) p ∙ ap (λ (
 ok_or_not : {X : Type 0} (x : X) (n : ℕ) → ◌≡◌ {A = Result X ℕ} (Ok x) (Err n) → ⊥
 ok_or_not x n e = cc
 
-ok_is : {X : Type 0} (x y : X) → ◌≡◌ {A = Result X ℕ} (Ok x) (Ok y) → x ≡ y
+pub ok_is : {X : Type 0} (x y : X) → ◌≡◌ {A = Result X ℕ} (Ok x) (Ok y) → x ≡ y
 ok_is x y e = cc
 
 err_is : {X : Type 0} (n m : ℕ) → ◌≡◌ {A = Result X ℕ} (Err n) (Err m) → n ≡ m
@@ -148,7 +148,7 @@ asked_once question store call = record {
 
 -- ---- changes that are staged
 
-one_plan : (edit : Edit) (store : Store) (holder : ℕ) (args : List Attr) (a b : Result Plan ℕ) → EditComesTo edit store holder args a → EditComesTo edit store holder args b → b ≡ a
+pub one_plan : (edit : Edit) (store : Store) (holder : ℕ) (args : List Attr) (a b : Result Plan ℕ) → EditComesTo edit store holder args a → EditComesTo edit store holder args b → b ≡ a
 one_plan edit store holder args a b h k = one_outcome store holder (edit_fits edit args) (config_in args) (planned_of edit (config_in args) args) a b h k
 
 staged_once : (edit : Edit) (holder : ℕ) (args : List Attr) (old one other : Store) → AreOne (EditDone edit holder args old one) (EditDone edit holder args old other)
@@ -175,7 +175,7 @@ reverted_once holder old one other name = record {
 
 -- ---- `commit`
 
-true_or_false : (t : Bool) → t ≡ true → t ≡ false → ⊥
+pub true_or_false : (t : Bool) → t ≡ true → t ≡ false → ⊥
 true_or_false t h k = let e : true ≡ false = sym h ∙ k in cc
 
 fits_or_not : (store : Store) (holder file other bytes : ℕ) (view : Package) → other ≡ file → IsSeenAt store holder file view → length (file_text view) ≤ most_bytes → IsSeenTooLarge store holder other bytes → ⊥
@@ -342,7 +342,7 @@ granted_once : (found : Option Grant) (method : Method) (call : Call) (old one o
 granted_once (Some grant) method call old one other result again h k g f = same_refusal (Denied grant) old one other result again h k g f
 granted_once None method call old one other result again h k g f = method_once method call old one other result again h k g f
 
-memory_given : (result : Result Reply RpcError) → IsGiven result → IsRefusal Memory result → ⊥
+pub memory_given : (result : Result Reply RpcError) → IsGiven result → IsRefusal Memory result → ⊥
 memory_given result g h = subst IsGiven (refused_so Memory result g h) g
 
 admitted_once : (admitted : Bool) (method : Method) (call : Call) (old one other : Store) (result again : Result Reply RpcError) → AdmittedDone admitted method call old one result → AdmittedDone admitted method call old other again → IsGiven result → IsGiven again → again ≡ result

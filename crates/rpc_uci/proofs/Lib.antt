@@ -5,3 +5,4 @@ pub mod EndingLemmas
 pub mod GrantLemmas
 pub mod ServeLemmas
 pub mod AnswerLemmas
+pub mod StateLemmas

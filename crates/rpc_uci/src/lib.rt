@@ -11,7 +11,7 @@ mod seeing;
 mod serving;
 mod staging;
 
-pub use laws::one_answer;
+pub use laws::{one_answer, one_state};
 pub use reply::Reply;
 pub use rpc_rules::RpcError;
 pub use serving::serve;
