@@ -99,6 +99,12 @@ sound_names s ns h same =
       ports = subst (λ names. ArePorts s.rows names s.radio) (sym same) h.ports;
     }
 
+pub device_spelled : (ns : List Named) (id : ℕ) (d : Option Device) → name_list (with_device ns id d) ≡ name_list ns
+device_spelled ns id d = same_names ns id (record (name_at ns id) { device = d }) refl
+
+pub claims_spelled : (ns : List Named) (id claims : ℕ) → name_list (with_claims ns id claims) ≡ name_list ns
+claims_spelled ns id claims = same_names ns id (record (name_at ns id) { claims = claims }) refl
+
 pub sound_with_device : (s : Known) (id : ℕ) (d : Option Device) → IsSound s → IsSound (record s { names = with_device s.names id d })
 sound_with_device s id d h = sound_names s (with_device s.names id d) h (same_names s.names id (record (name_at s.names id) { device = d }) refl)
 

@@ -72,7 +72,7 @@ sound_flag true h = cc h
 sound_flag false h = refl
 
 -- every edge of rows, one row after another
-edges_all : (P : Edge → Type 0) (f : List ℕ → counts.Standing) (u : ℕ) (ns : List (List ℕ)) → ((i : ℕ) → i < length ns → (l : ℕ) → Contains (counts.lowers_of (f (slice_index_or ns i []))) l → P (counts.edge (u + i) l)) → (e : Edge) → Contains (counts.edges_from u (map f ns)) e → P e
+pub edges_all : (P : Edge → Type 0) (f : List ℕ → counts.Standing) (u : ℕ) (ns : List (List ℕ)) → ((i : ℕ) → i < length ns → (l : ℕ) → Contains (counts.lowers_of (f (slice_index_or ns i []))) l → P (counts.edge (u + i) l)) → (e : Edge) → Contains (counts.edges_from u (map f ns)) e → P e
 edges_all P f u [] h e m = absurd (none_in_nil e m)
 edges_all P f u (n ∷ ns) h e m =
     ⊎_elim

@@ -5,3 +5,5 @@ pub mod TieLemmas
 pub mod LevelLemmas
 pub mod EdgeLemmas
 pub mod AnswerLemmas
+pub mod CostLemmas
+pub mod FewLemmas

@@ -1,5 +1,6 @@
 -- what sound rows, names and ports of radios give
 use Rattle.std.proofs.Common.{⊎_elim, ◌⊎◌, inl, inr, ℕ, ◌<◌, ◌≡◌, Bool, true, false, cond, is_some, List, [], ◌∷◌, ◌++◌, map, filter, length, Contains, Some, None, bytes_eq, refl, sym, ap, subst, ◌∙◌}
+use Rattle.std.specs.List.{AllByRecursion}
 use Rattle.std.proofs.lemmas.List.Elements.{Contains-append_left, Contains-append_cases}
 use Rattle.kern_model.proofs.MemberLemmas.{here, there, first_or_later, none_in_nil, all_members}
 use Rattle.kern_model.proofs.TestLemmas.{bytes_same}
@@ -104,6 +105,11 @@ module _ (s : Known) (h : IsSound s) where
   pub rows_distinct : AreDistinct (row_names s)
   rows_distinct = distinct_front (row_names s) h.names.plain (subst AreDistinct h.names.front h.names.once)
 
+  -- further names stand on nothing
+  pub plain_alone : AllByRecursion (λ name. lowers_of (standing_in s name) ≡ []) h.names.plain
+  plain_alone =
+      all_members (λ name. lowers_of (standing_in s name) ≡ []) h.names.plain (λ name m. ap (λ (r : NameRow). lowers_of (standing_of_row r (given_ports (map port_of s.radio) name))) (plain_rowless name m) ∙ rowless_lowers name (given_ports (map port_of s.radio) name))
+
   -- sound names have ids
   pub has_ids : HasIds s
   has_ids =
@@ -111,6 +117,6 @@ module _ (s : Known) (h : IsSound s) where
         once = λ id within. id_at (names_in s) id h.names.once within;
         plain = h.names.plain;
         front = h.names.front;
-        alone = all_members (λ name. lowers_of (standing_in s name) ≡ []) h.names.plain (λ name m. ap (λ (r : NameRow). lowers_of (standing_of_row r (given_ports (map port_of s.radio) name))) (plain_rowless name m) ∙ rowless_lowers name (given_ports (map port_of s.radio) name));
+        alone = plain_alone;
         lowers = λ name. all_members (λ lower. id_of (names_in s) lower < length (names_in s)) (lowers_of (standing_in s name)) (λ lower m. id_within (names_in s) lower (lower_known name lower m));
       }

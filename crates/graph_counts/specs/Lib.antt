@@ -4,5 +4,7 @@
 pub mod Counted
 -- what is kept of names, rows and ports of radios
 pub mod Sound
+-- how many claims names may have
+pub mod Told
 -- how names and their counts are kept
 pub mod Inside

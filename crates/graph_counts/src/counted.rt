@@ -1,16 +1,22 @@
-ghost use Rattle.std.specs.Prelude.{◌≡◌, ◌<◌, ◌≤◌, Some, None, length};
+ghost use Rattle.std.specs.Prelude.{◌≡◌, ◌<◌, ◌≤◌, ◌+◌, ◌*◌, Some, None, length, OnOk, OnErr};
 ghost use Rattle.std.specs.Option.{option_map};
 ghost use Rattle.kern_model.specs.Kernel.{with_carrier};
-ghost use Rattle.graph_rules.specs.State.{place_among};
+ghost use Rattle.graph_rules.specs.State.{place_among, names_in};
 ghost use Rattle.graph_rules.specs.After.{name_at, with_claims, with_device};
+ghost use Rattle.graph_rules.specs.Conditions.{ArePorts};
+ghost use Rattle.graph_counts.specs.Told.{HasFewClaims};
 ghost use Rattle.graph_rules.specs.Answers as spec;
+ghost use Rattle.graph_rules.specs.Edges.{changed_edges};
 ghost use Rattle.graph_counts.specs.Counted.{name_of};
 
+use crate::edges::port_edges;
 use graph_names::Names;
 use graph_rules::{DevId, RadioPort};
 use kern_model::{DevName, Device};
+use net_copies::copy_items;
 use net_rows::{NameRow, VlanRow};
-use plane_io::Items;
+use plane_io::{Items, Memory};
+use std::alloc::Global;
 use std::marker::Model;
 use std::sync::ledger::Ledger;
 use use_counts::{Graph, Steps};
@@ -38,6 +44,31 @@ impl Model for CountedNames {
 }
 
 impl CountedNames {
+    /// The names with their devices and claims.
+    pub fn names(&self) -> &Names
+        ensures names { result.now ≡ self.now.names }
+        ensures few { HasFewClaims self.now.names }
+    {
+        &self.names
+    }
+
+    /// Radios have these ports in place of their old ones. Where memory lacks, all stays.
+    pub fn set_ports(&mut self, alloc: Global, radio: &[RadioPort]) -> Result<(), Memory>
+        requires { ArePorts self.old.rows (names_in self.old) radio.now }
+        ensures ok { OnOk result (self.new ≡ record self.old { radio = radio.now }) }
+        ensures err { OnErr result (self.new ≡ self.old) }
+    {
+        let kept = copy_items(alloc, radio)?;
+        let ports = port_edges(alloc, &self.names, self.rows.as_slice(), radio)?;
+        // The counts have room for so many edges.
+        if !self.counts.can_join(&ports) {
+            return Err(Memory);
+        }
+        self.counts.set_ports(alloc, &ports)?;
+        self.radio = kept;
+        Ok(())
+    }
+
     /// The id of a name, or none where it is not among them.
     pub fn find(&self, name: &DevName) -> Option<DevId>
         ensures { option_map (λ id. id.0) result ≡ place_among self.now.names name.now }
@@ -91,9 +122,10 @@ impl CountedNames {
     /// A device is there.
     pub fn set_present<L: Ledger>(&mut self, id: DevId, device: Device, steps: &mut Steps<L>)
         requires { id.0 < length self.old.names }
-        ensures { self.new ≡ record self.old {
+        ensures known { self.new ≡ record self.old {
           names = with_device self.old.names id.0 (Some device);
         } }
+        ensures cost { steps.new ≤ steps.old + (1 + 2 * changed_edges self.old self.new) }
     {
         self.names.set_device(id.0, Some(device));
         self.counts.set_present(id.0, device.carrier, steps);
@@ -102,7 +134,8 @@ impl CountedNames {
     /// A device is gone.
     pub fn set_absent<L: Ledger>(&mut self, id: DevId, steps: &mut Steps<L>)
         requires { id.0 < length self.old.names }
-        ensures { self.new ≡ record self.old { names = with_device self.old.names id.0 None } }
+        ensures known { self.new ≡ record self.old { names = with_device self.old.names id.0 None } }
+        ensures cost { steps.new ≤ steps.old + (1 + 2 * changed_edges self.old self.new) }
     {
         self.names.set_device(id.0, None);
         self.counts.set_absent(id.0, steps);
@@ -111,10 +144,11 @@ impl CountedNames {
     /// The carrier of a device is on or off. Of one that is not there nothing is told.
     pub fn set_carrier<L: Ledger>(&mut self, id: DevId, on: bool, steps: &mut Steps<L>)
         requires { id.0 < length self.old.names }
-        ensures { self.new ≡ record self.old {
+        ensures known { self.new ≡ record self.old {
           names = with_device self.old.names id.0
               (option_map (with_carrier on) (name_at self.old.names id.0).device);
         } }
+        ensures cost { steps.new ≤ steps.old + (1 + 2 * changed_edges self.old self.new) }
     {
         if let Some(device) = self.names.device(id.0) {
             self.set_present(
@@ -132,9 +166,10 @@ impl CountedNames {
     pub fn set_claim<L: Ledger>(&mut self, id: DevId, claims: u32, steps: &mut Steps<L>)
         requires within { id.0 < length self.old.names }
         requires few { claims ≤ 1024 }
-        ensures { self.new ≡ record self.old {
+        ensures known { self.new ≡ record self.old {
           names = with_claims self.old.names id.0 claims;
         } }
+        ensures cost { steps.new ≤ steps.old + (1 + 2 * changed_edges self.old self.new) }
     {
         self.names.set_claims(id.0, claims);
         self.counts.set_claim(id.0, claims, steps);

@@ -1,7 +1,11 @@
-use Rattle.std.proofs.Common.{ap, arith, length, ◌<◌}
+use Rattle.std.proofs.Common.{ap, arith, subst, sym, length, ◌<◌}
 use Rattle.graph_rules.specs.State.{Known}
+use Rattle.graph_counts.specs.Told.{HasFewClaims}
+use Rattle.graph_counts.proofs.FewLemmas.{few_with_claims}
+use Rattle.graph_rules.specs.Edges.{changed_edges}
 use Rattle.graph_counts.specs.Inside.{known_of}
 use Rattle.graph_counts.proofs.AnswerLemmas.{tied_after_claims}
+use Rattle.graph_counts.proofs.CostLemmas.{cost_after_claims}
 use Rattle.graph_counts.proofs.counted.CountedNames.set_claim.Goals as goal
 
 pub invariant_of-self : goal.invariant_of-self
@@ -10,4 +14,13 @@ invariant_of-self g c =
     let s : Known = known_of c.self.inside in
     let within : id < length s.names = omega (arith, c.requires.within, ap (λ (k : Known). length k.names) c.self.view_is) in
     let t = tied_after_claims s c.set_claims.new.self c.self.inside.counts c.set_claim.new.self id c.args.claims c.self.invariant.sound c.self.invariant.counts within c.set_claims.ensures c.set_claim.ensures.net in
-    record { sound = t.0; counts = t.1 }
+    record { sound = t.0; few = subst HasFewClaims (sym c.set_claims.ensures) (few_with_claims s.names id c.args.claims c.requires.few c.self.invariant.few); counts = t.1 }
+
+pub returns-clause-cost : goal.returns-clause-cost
+returns-clause-cost g c =
+    let id = c.args.id.0 in
+    let s : Known = known_of c.self.inside in
+    let within : id < length s.names = omega (arith, c.requires.within, ap (λ (k : Known). length k.names) c.self.view_is) in
+    let bound = cost_after_claims s c.set_claims.new.self c.self.inside.counts c.set_claim.new.self id c.args.claims c.self.invariant.sound c.self.invariant.counts within c.set_claims.ensures c.set_claim.ensures.net in
+    let same = ap (λ (k : Known). changed_edges k (record s { names = c.set_claims.new.self })) c.self.view_is in
+    omega (arith, bound, same, c.set_claim.ensures.cost)
