@@ -7,3 +7,5 @@ pub mod EdgeLemmas
 pub mod AnswerLemmas
 pub mod CostLemmas
 pub mod FewLemmas
+pub mod TellLemmas
+pub mod LoadLemmas

@@ -1,20 +1,21 @@
-ghost use Rattle.std.specs.Prelude.{◌≡◌, ◌<◌, ◌≤◌, ◌+◌, ◌*◌, Some, None, length, OnOk, OnErr};
+ghost use Rattle.std.specs.Prelude.{◌≡◌, ◌<◌, ◌≤◌, ◌+◌, ◌*◌, Some, None, length, IfOk, OnOk, OnErr};
 ghost use Rattle.std.specs.Option.{option_map};
 ghost use Rattle.kern_model.specs.Kernel.{with_carrier};
 ghost use Rattle.graph_rules.specs.State.{place_among, names_in};
-ghost use Rattle.graph_rules.specs.After.{name_at, with_claims, with_device};
-ghost use Rattle.graph_rules.specs.Conditions.{ArePorts};
+ghost use Rattle.graph_rules.specs.After.{known_of, name_at, with_claims, with_device};
+ghost use Rattle.graph_rules.specs.Conditions.{ArePorts, CanLoad};
 ghost use Rattle.graph_counts.specs.Told.{HasFewClaims};
 ghost use Rattle.graph_rules.specs.Answers as spec;
 ghost use Rattle.graph_rules.specs.Edges.{changed_edges};
 ghost use Rattle.graph_counts.specs.Counted.{name_of};
 
 use crate::edges::port_edges;
-use graph_names::Names;
+use crate::loading::counts_of;
+use graph_names::{Names, kept_names};
 use graph_rules::{DevId, RadioPort};
 use kern_model::{DevName, Device};
-use net_copies::copy_items;
-use net_rows::{NameRow, VlanRow};
+use net_copies::{copy_conf, copy_items};
+use net_rows::{Conf, NameRow, VlanRow};
 use plane_io::{Items, Memory};
 use std::alloc::Global;
 use std::marker::Model;
@@ -44,6 +45,37 @@ impl Model for CountedNames {
 }
 
 impl CountedNames {
+    /// The rows of a configuration with further names and ports of radios. Names keep the devices and the claims that they
+    /// have among the old ones.
+    pub fn load(
+        alloc: Global,
+        conf: &Conf,
+        plain: &[DevName],
+        radio: &[RadioPort],
+        old: &Names,
+    ) -> Result<CountedNames, Memory>
+        requires can { CanLoad conf.now plain.now radio.now }
+        requires few { HasFewClaims old.now }
+        ensures { IfOk result (λ g. g ≡ known_of old.now conf.now plain.now radio.now) }
+    {
+        let rows = conf.names.as_slice();
+        let names = kept_names(alloc, old, rows, plain)?;
+        let counts = counts_of(alloc, &names, rows, plain, radio)?;
+        let ports = copy_items(alloc, radio)?;
+        let Conf {
+            names: rows,
+            vlans,
+            ..
+        } = copy_conf(alloc, conf)?;
+        Ok(CountedNames {
+            rows,
+            vlans,
+            names,
+            radio: ports,
+            counts,
+        })
+    }
+
     /// The names with their devices and claims.
     pub fn names(&self) -> &Names
         ensures names { result.now ≡ self.now.names }

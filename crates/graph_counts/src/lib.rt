@@ -4,6 +4,7 @@
 mod counted;
 mod edges;
 mod laws;
+mod loading;
 mod nodes;
 
 pub use counted::CountedNames;
