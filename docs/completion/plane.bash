@@ -22,8 +22,8 @@ _plane_uci() {
 		esac
 	done
 	if [ "$place" -eq "$COMP_CWORD" ]; then
-		COMPREPLY=($(compgen -W '-c -t -d -f -n -N -X -m -q show get set add_list del_list delete rename reorder add changes
-			revert commit export import batch' -- "$word"))
+		mapfile -t COMPREPLY < <(compgen -W '-c -t -d -f -n -N -X -m -q show get set add_list del_list delete rename reorder add
+			changes revert commit export import batch' -- "$word")
 		return
 	fi
 	# The first word behind the command begins with a package.
@@ -40,7 +40,7 @@ _plane() {
 	local word=${COMP_WORDS[COMP_CWORD]}
 	COMPREPLY=()
 	if [ "$COMP_CWORD" -eq 1 ]; then
-		COMPREPLY=($(compgen -W 'start run uci --help --version' -- "$word"))
+		mapfile -t COMPREPLY < <(compgen -W 'start run uci --help --version' -- "$word")
 		return
 	fi
 	if [ "${COMP_WORDS[1]}" = uci ]; then
