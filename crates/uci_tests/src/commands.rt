@@ -49,7 +49,7 @@ fn shown(rt: &impl Abort, alloc: Global, text: &[u8]) -> Result<Vec<u8>, Fail> {
 }
 
 /// Texts, and their commands.
-const COMMANDS: [(&[u8], &[u8]); 34] = [
+const COMMANDS: &[(&[u8], &[u8])] = &[
     (b"", b""),
     (b"# nothing\n;\n", b""),
     // each first word, in full and short
@@ -103,7 +103,7 @@ const COMMANDS: [(&[u8], &[u8]); 34] = [
 
 #[test]
 fn commands_of_the_table(rt: HostRuntime) -> Result<(), Fail> {
-    for (text, commands) in COMMANDS {
+    for &(text, commands) in COMMANDS {
         let read = shown(&rt, rt.alloc(), text)?;
         assert_eq!(rt; read.as_slice(), commands, "{text:?}");
     }
@@ -111,7 +111,7 @@ fn commands_of_the_table(rt: HostRuntime) -> Result<(), Fail> {
 }
 
 /// Texts, the number of the first fault, and its line.
-const REFUSED: [(&[u8], u8, u32); 62] = [
+const REFUSED: &[(&[u8], u8, u32)] = &[
     // first words outside the table
     (b"x", 12, 1),
     (b"configs a", 12, 1),
@@ -187,7 +187,7 @@ const REFUSED: [(&[u8], u8, u32); 62] = [
 
 #[test]
 fn first_faults_of_commands(rt: HostRuntime) {
-    for (text, number, line) in REFUSED {
+    for &(text, number, line) in REFUSED {
         assert!(rt; text.len() < 4096);
         let error = read_commands(rt.alloc(), text).err();
         let wanted = match number {

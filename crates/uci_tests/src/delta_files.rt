@@ -9,7 +9,7 @@ use uci_tree::read_package;
 type Row<'a> = (&'a [u8], &'a [u8]);
 
 /// Texts of delta files, most of them with lines that are none.
-const FILES: [Row<'static>; 68] = [
+const FILES: &[Row<'static>] = &[
     (b"", b""),
     (b"\n\n", b""),
     // each kind of change
@@ -106,7 +106,7 @@ fn read_and_printed(rt: &impl Abort, alloc: Global, text: &[u8]) -> Result<Vec<u
 
 #[test]
 fn delta_files_are_read(rt: HostRuntime) -> Result<(), Fail> {
-    for (text, printed) in FILES {
+    for &(text, printed) in FILES {
         let out = read_and_printed(&rt, rt.alloc(), text)?;
         assert_eq!(rt; out.as_slice(), printed, "{text:?}");
         let again = read_and_printed(&rt, rt.alloc(), out.as_slice())?;
@@ -120,7 +120,7 @@ fn delta_files_are_read(rt: HostRuntime) -> Result<(), Fail> {
 type Staged<'a> = (&'a [u8], &'a [u8], &'a [u8], u64, usize);
 
 /// Delta files that are applied to packages.
-const STAGED: [Staged<'static>; 11] = [
+const STAGED: &[Staged<'static>] = &[
     // lists grow
     (
         b"config a s",
@@ -212,7 +212,7 @@ const STAGED: [Staged<'static>; 11] = [
 #[test]
 fn delta_files_are_applied(rt: HostRuntime) -> Result<(), Fail> {
     let alloc = rt.alloc();
-    for (text, deltas, wanted, made, lost) in STAGED {
+    for &(text, deltas, wanted, made, lost) in STAGED {
         assert!(rt; text.len() < 4096);
         let mut tree = read_package(alloc, b"p", text)?;
         let mut refused: usize = 0;

@@ -112,7 +112,7 @@ fn an_address_is_set_and_set_back(rt: HostRuntime) -> Result<(), Fail> {
 }
 
 /// Changes of a router, one after another.
-const STAGED: [Row<'static>; 6] = [
+const STAGED: &[Row<'static>] = &[
     (
         Kind::Add,
         b"cfg070f15",
@@ -174,7 +174,7 @@ fn staged_changes_of_a_router(rt: HostRuntime) -> Result<(), Fail> {
     let name = anonymous_name(rt.alloc(), 7, b"device")?;
     let wanted: &[u8] = b"cfg070f15";
     assert_eq!(rt; name.as_bytes(), wanted);
-    let after = changed(&rt, rt.alloc(), ROUTER, &STAGED)?;
+    let after = changed(&rt, rt.alloc(), ROUTER, STAGED)?;
     let front: &[u8] = b"\nconfig interface 'w6'\n\toption device 'wan'\n";
     let end: &[u8] = b"\nconfig device 'cfg070f15'\n\n";
     assert!(rt; after.as_slice().starts_with(front));
@@ -190,7 +190,7 @@ const SMALL: &[u8] =
 type Done<'a> = (Kind, &'a [u8], &'a [u8], &'a [u8], &'a [u8]);
 
 /// Changes of the small package.
-const DONE: [Done<'static>; 20] = [
+const DONE: &[Done<'static>] = &[
     (
         Kind::ListDel,
         b"x",
@@ -335,7 +335,7 @@ const DONE: [Done<'static>; 20] = [
 
 #[test]
 fn changes_of_a_small_package(rt: HostRuntime) -> Result<(), Fail> {
-    for (kind, section, option, value, printed) in DONE {
+    for &(kind, section, option, value, printed) in DONE {
         let row: Row = (kind, section, option, value, 0, b"", b"");
         let after = changed(&rt, rt.alloc(), SMALL, &[row])?;
         assert_eq!(rt; after.as_slice(), printed, "{section:?} {value:?}");
@@ -347,7 +347,7 @@ fn changes_of_a_small_package(rt: HostRuntime) -> Result<(), Fail> {
 type Refused<'a> = (Kind, &'a [u8], &'a [u8], &'a [u8], u8);
 
 /// Changes of the small package that are refused.
-const REFUSED: [Refused<'static>; 44] = [
+const REFUSED: &[Refused<'static>] = &[
     (Kind::Set, b"a-b", b"", b"q", 21),
     (Kind::Set, b"s", b"", b"", 21),
     (Kind::Set, b"s", b"", b"a b", 21),
@@ -396,7 +396,7 @@ const REFUSED: [Refused<'static>; 44] = [
 
 #[test]
 fn refused_changes_of_a_small_package(rt: HostRuntime) -> Result<(), Fail> {
-    for (kind, section, option, value, refusal) in REFUSED {
+    for &(kind, section, option, value, refusal) in REFUSED {
         let row: Row = (kind, section, option, value, refusal, b"", b"");
         let _after = changed(&rt, rt.alloc(), SMALL, &[row])?;
     }

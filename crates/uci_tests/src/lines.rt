@@ -21,7 +21,7 @@ pub fn lines_shown(rt: &impl Abort, alloc: Global, text: &[u8]) -> Result<Vec<u8
 }
 
 /// Each rule of words, commands and comments: a text, and its lines.
-const RULES: [(&[u8], &[u8]); 37] = [
+const RULES: &[(&[u8], &[u8])] = &[
     // no commands
     (b"", b""),
     (b"\n;\n ;;\t\r\x0b\x0c", b""),
@@ -81,7 +81,7 @@ const RULES: [(&[u8], &[u8]); 37] = [
 
 #[test]
 fn rules_of_words(rt: HostRuntime) -> Result<(), Fail> {
-    for (text, lines) in RULES {
+    for &(text, lines) in RULES {
         let read = lines_shown(&rt, rt.alloc(), text)?;
         assert_eq!(rt; read.as_slice(), lines, "{text:?}");
     }
@@ -89,7 +89,7 @@ fn rules_of_words(rt: HostRuntime) -> Result<(), Fail> {
 }
 
 /// Odd bytes, quotes beside quotes, and backslashes: texts, and their lines.
-const ODD_TEXTS: [(&[u8], &[u8]); 27] = [
+const ODD_TEXTS: &[(&[u8], &[u8])] = &[
     (b"\x01\x7f\xff \x80", b"1|\x01\x7f\xff|\x80\n"),
     (b"'a\r'", b"1|a\r\n"),
     (b"\\\r", b"1|\r\n"),
@@ -121,7 +121,7 @@ const ODD_TEXTS: [(&[u8], &[u8]); 27] = [
 
 #[test]
 fn odd_texts_are_read(rt: HostRuntime) -> Result<(), Fail> {
-    for (text, lines) in ODD_TEXTS {
+    for &(text, lines) in ODD_TEXTS {
         let read = lines_shown(&rt, rt.alloc(), text)?;
         assert_eq!(rt; read.as_slice(), lines, "{text:?}");
     }
@@ -129,7 +129,7 @@ fn odd_texts_are_read(rt: HostRuntime) -> Result<(), Fail> {
 }
 
 /// Texts, the number of the fault, and its line.
-const REFUSED: [(&[u8], u8, u32); 56] = [
+const REFUSED: &[(&[u8], u8, u32)] = &[
     (b"\0", 10, 1),
     (b"a\0", 10, 1),
     (b"a\nb\0", 10, 2),
@@ -190,7 +190,7 @@ const REFUSED: [(&[u8], u8, u32); 56] = [
 
 #[test]
 fn first_faults_of_bytes(rt: HostRuntime) {
-    for (text, number, line) in REFUSED {
+    for &(text, number, line) in REFUSED {
         assert!(rt; text.len() < 4096);
         let error = read_lines(rt.alloc(), text).err();
         let wanted = if number == 11 {

@@ -50,18 +50,20 @@ fn outcome(rt: &impl Abort, alloc: Global, text: &[u8]) -> Result<Vec<u8>, Fail>
     }
 }
 
-#[test]
-fn the_file_of_a_router(rt: HostRuntime) -> Result<(), Fail> {
-    let read = outcome(&rt, rt.alloc(), ROUTER)?;
-    let expected: &[u8] =
-        b"loopback:interface device=lo proto=static ipaddr=127.0.0.1 netmask=255.0.0.0
+/// What is read of the file of a router.
+const ROUTER_READ: &[u8] =
+    b"loopback:interface device=lo proto=static ipaddr=127.0.0.1 netmask=255.0.0.0
 globals:globals ula_prefix=fd12:3456:789a::/48
 cfg030f15@device name=br-lan type=bridge ports=[lan1][lan2][lan3][lan4]
 lan:interface device=br-lan proto=static ipaddr=192.168.1.1 netmask=255.255.255.0 ip6assign=60
 wan:interface device=wan proto=dhcp
 wan6:interface device=wan proto=dhcpv6
 ";
-    assert_eq!(rt; read.as_slice(), expected);
+
+#[test]
+fn the_file_of_a_router(rt: HostRuntime) -> Result<(), Fail> {
+    let read = outcome(&rt, rt.alloc(), ROUTER)?;
+    assert_eq!(rt; read.as_slice(), ROUTER_READ);
     Ok(())
 }
 
@@ -73,93 +75,91 @@ fn assert_outcomes(rt: &impl Abort, alloc: Global, texts: &[(&[u8], &[u8])]) -> 
     Ok(())
 }
 
-#[test]
-fn rules_of_sections(rt: HostRuntime) -> Result<(), Fail> {
-    let texts: [(&[u8], &[u8]); 11] = [
-        (b"", b""),
-        (b"package other", b""),
-        (b"config system", b"cfg01e48a@system\n"),
-        (b"config x s; option a 'b'\"c\"\\ d # end", b"s:x a=bc d\n"),
-        // a section goes on, with the type that is named last
-        (
-            b"config x s\noption a 1\nconfig y t\nconfig z s\noption b 2",
-            b"s:z a=1 b=2\nt:y\n",
-        ),
-        (
-            b"config x\nconfig y cfg01d7a8",
-            b"cfg01b61d@x\ncfg01d7a8:y\n",
-        ),
-        (b"config x\nconfig y cfg01b61d", b"cfg01b61d@y\n"),
-        // what stands before any section, and a later fault of the text
-        (b"option a b", b"no section 1"),
-        (b"\n\nlist a b\nconfig x\noption a b", b"no section 3"),
-        (b"option a b\noption \"a", b"open quote in line 2"),
-        (b"option a b\nconfig x y z", b"argument count in line 2"),
-    ];
-    assert_outcomes(&rt, rt.alloc(), &texts)
-}
+/// Texts, and what is read of their sections.
+const SECTIONS: &[(&[u8], &[u8])] = &[
+    (b"", b""),
+    (b"package other", b""),
+    (b"config system", b"cfg01e48a@system\n"),
+    (b"config x s; option a 'b'\"c\"\\ d # end", b"s:x a=bc d\n"),
+    // a section goes on, with the type that is named last
+    (
+        b"config x s\noption a 1\nconfig y t\nconfig z s\noption b 2",
+        b"s:z a=1 b=2\nt:y\n",
+    ),
+    (
+        b"config x\nconfig y cfg01d7a8",
+        b"cfg01b61d@x\ncfg01d7a8:y\n",
+    ),
+    (b"config x\nconfig y cfg01b61d", b"cfg01b61d@y\n"),
+    // what stands before any section, and a later fault of the text
+    (b"option a b", b"no section 1"),
+    (b"\n\nlist a b\nconfig x\noption a b", b"no section 3"),
+    (b"option a b\noption \"a", b"open quote in line 2"),
+    (b"option a b\nconfig x y z", b"argument count in line 2"),
+];
+
+/// Texts, and what is read of their options.
+const OPTIONS: &[(&[u8], &[u8])] = &[
+    // an option is replaced at its place, and an empty value removes it
+    (
+        b"config x s\noption a 1\noption b 2\noption a 3",
+        b"s:x a=3 b=2\n",
+    ),
+    (
+        b"config x s\noption a 1\noption b 2\noption a",
+        b"s:x b=2\n",
+    ),
+    (b"config x s\noption a ''", b"s:x\n"),
+    // what was removed is added at the end
+    (
+        b"config x s\noption a 1\noption b 2\noption a ''\noption a 4",
+        b"s:x b=2 a=4\n",
+    ),
+    (
+        b"config x s\noption a 1\noption b 2\noption c 3\noption b ''\noption b 4\noption c 5\noption b 6",
+        b"s:x a=1 c=5 b=6\n",
+    ),
+    (
+        b"config x s\noption a 1\noption b 2\noption a ''\noption a ''\noption a 3",
+        b"s:x b=2 a=3\n",
+    ),
+    (
+        b"config x s\noption a 1\noption b ''\noption a ''",
+        b"s:x\n",
+    ),
+    // also in a section that goes on
+    (
+        b"config x s\noption a 1\noption b 2\nconfig y t\noption a 3\nconfig x s\noption a ''\nlist b 4\noption a 5",
+        b"s:x b=[2][4] a=5\nt:y a=3\n",
+    ),
+];
+
+/// Texts, and what is read of their lists.
+const LISTS: &[(&[u8], &[u8])] = &[
+    // a list goes on, begins with an option's value, and gives way to an option
+    (
+        b"config x s\nlist a 1\noption b 3\nlist a 2",
+        b"s:x a=[1][2] b=3\n",
+    ),
+    (b"config x s\noption a 1\nlist a 2", b"s:x a=[1][2]\n"),
+    (b"config x s\nlist a 1\nlist a 2\noption a 3", b"s:x a=3\n"),
+    (b"config x s\nlist a", b"s:x a=[]\n"),
+    // a list that was removed begins at the end, and one behind it goes on
+    (
+        b"config x s\nlist a 1\noption b 2\noption a ''\nlist a 3\nlist a 4",
+        b"s:x b=2 a=[3][4]\n",
+    ),
+    (
+        b"config x s\noption a 1\nlist b 2\noption a ''\nlist b 3",
+        b"s:x b=[2][3]\n",
+    ),
+];
 
 #[test]
-fn rules_of_options(rt: HostRuntime) -> Result<(), Fail> {
-    let texts: [(&[u8], &[u8]); 8] = [
-        // an option is replaced at its place, and an empty value removes it
-        (
-            b"config x s\noption a 1\noption b 2\noption a 3",
-            b"s:x a=3 b=2\n",
-        ),
-        (
-            b"config x s\noption a 1\noption b 2\noption a",
-            b"s:x b=2\n",
-        ),
-        (b"config x s\noption a ''", b"s:x\n"),
-        // what was removed is added at the end
-        (
-            b"config x s\noption a 1\noption b 2\noption a ''\noption a 4",
-            b"s:x b=2 a=4\n",
-        ),
-        (
-            b"config x s\noption a 1\noption b 2\noption c 3\noption b ''\noption b 4\noption c 5\noption b 6",
-            b"s:x a=1 c=5 b=6\n",
-        ),
-        (
-            b"config x s\noption a 1\noption b 2\noption a ''\noption a ''\noption a 3",
-            b"s:x b=2 a=3\n",
-        ),
-        (
-            b"config x s\noption a 1\noption b ''\noption a ''",
-            b"s:x\n",
-        ),
-        // also in a section that goes on
-        (
-            b"config x s\noption a 1\noption b 2\nconfig y t\noption a 3\nconfig x s\noption a ''\nlist b 4\noption a 5",
-            b"s:x b=[2][4] a=5\nt:y a=3\n",
-        ),
-    ];
-    assert_outcomes(&rt, rt.alloc(), &texts)
-}
-
-#[test]
-fn rules_of_lists(rt: HostRuntime) -> Result<(), Fail> {
-    let texts: [(&[u8], &[u8]); 6] = [
-        // a list goes on, begins with an option's value, and gives way to an option
-        (
-            b"config x s\nlist a 1\noption b 3\nlist a 2",
-            b"s:x a=[1][2] b=3\n",
-        ),
-        (b"config x s\noption a 1\nlist a 2", b"s:x a=[1][2]\n"),
-        (b"config x s\nlist a 1\nlist a 2\noption a 3", b"s:x a=3\n"),
-        (b"config x s\nlist a", b"s:x a=[]\n"),
-        // a list that was removed begins at the end, and one behind it goes on
-        (
-            b"config x s\nlist a 1\noption b 2\noption a ''\nlist a 3\nlist a 4",
-            b"s:x b=2 a=[3][4]\n",
-        ),
-        (
-            b"config x s\noption a 1\nlist b 2\noption a ''\nlist b 3",
-            b"s:x b=[2][3]\n",
-        ),
-    ];
-    assert_outcomes(&rt, rt.alloc(), &texts)
+fn rules_of_packages(rt: HostRuntime) -> Result<(), Fail> {
+    assert_outcomes(&rt, rt.alloc(), SECTIONS)?;
+    assert_outcomes(&rt, rt.alloc(), OPTIONS)?;
+    assert_outcomes(&rt, rt.alloc(), LISTS)
 }
 
 #[test]

@@ -31,45 +31,57 @@ fn expect_printed(rt: &impl Abort, alloc: Global, rows: &[Row]) -> Result<(), Fa
     Ok(())
 }
 
+const EXAMPLE: &[u8] = b"config x s\noption a \"it's\"\noption b '1\n2'";
+
+const PRINTED: &[u8] = b"package t\n\nconfig x 's'\n\toption a 'it'\\''s'\n\toption b '1\n2'\n\n";
+
+const WITHOUT: &[u8] = b"\nconfig x 's'\n\toption a 'it'\\''s'\n\toption b '1\n2'\n\n";
+
+const ANONYMOUS: &[u8] = b"config x\noption a 1\nconfig y s";
+
+const BARE: &[u8] = b"\nconfig x\n\toption a '1'\n\nconfig y 's'\n\n";
+
+const NAMED: &[u8] = b"\nconfig x 'cfg01b61d'\n\toption a '1'\n\nconfig y 's'\n\n";
+
+const HEADERS: &[Row<'static>] = &[
+    (EXAMPLE, true, false, PRINTED),
+    (EXAMPLE, false, false, WITHOUT),
+    (b"", true, false, b"package t\n\n"),
+    (b"", false, false, b"\n"),
+    (b"package other", true, true, b"package t\n\n"),
+    (ANONYMOUS, false, false, BARE),
+    (ANONYMOUS, false, true, NAMED),
+];
+
 #[test]
 fn headers_and_names(rt: HostRuntime) -> Result<(), Fail> {
-    let example: &[u8] = b"config x s\noption a \"it's\"\noption b '1\n2'";
-    let printed: &[u8] = b"package t\n\nconfig x 's'\n\toption a 'it'\\''s'\n\toption b '1\n2'\n\n";
-    let without: &[u8] = b"\nconfig x 's'\n\toption a 'it'\\''s'\n\toption b '1\n2'\n\n";
-    let anonymous: &[u8] = b"config x\noption a 1\nconfig y s";
-    let bare: &[u8] = b"\nconfig x\n\toption a '1'\n\nconfig y 's'\n\n";
-    let named: &[u8] = b"\nconfig x 'cfg01b61d'\n\toption a '1'\n\nconfig y 's'\n\n";
-    let rows: [Row; 7] = [
-        (example, true, false, printed),
-        (example, false, false, without),
-        (b"", true, false, b"package t\n\n"),
-        (b"", false, false, b"\n"),
-        (b"package other", true, true, b"package t\n\n"),
-        (anonymous, false, false, bare),
-        (anonymous, false, true, named),
-    ];
-    expect_printed(&rt, rt.alloc(), rows.as_slice())
+    expect_printed(&rt, rt.alloc(), HEADERS)
 }
+
+const LIST: &[u8] = b"config x s\nlist a 1\nlist a ''\nlist a '2 3'";
+
+const ITEMS: &[u8] = b"\nconfig x 's'\n\tlist a '1'\n\tlist a ''\n\tlist a '2 3'\n\n";
+
+const OTHERS: &[u8] = b"config '\"' s\nconfig ';'\nconfig \\\\";
+
+const QUOTED: &[u8] = b"\nconfig '\"' 's'\n\nconfig ';'\n\nconfig '\\'\n\n";
+
+const TYPES: &[Row<'static>] = &[
+    (b"config x-y.z s", false, false, b"\nconfig x-y.z 's'\n\n"),
+    (b"config 'x#y' s", false, false, b"\nconfig 'x#y' 's'\n\n"),
+    (
+        b"config \"x'y\" s",
+        false,
+        false,
+        b"\nconfig 'x'\\''y' 's'\n\n",
+    ),
+    (OTHERS, false, false, QUOTED),
+    (LIST, false, false, ITEMS),
+];
 
 #[test]
 fn types_and_lists(rt: HostRuntime) -> Result<(), Fail> {
-    let list: &[u8] = b"config x s\nlist a 1\nlist a ''\nlist a '2 3'";
-    let items: &[u8] = b"\nconfig x 's'\n\tlist a '1'\n\tlist a ''\n\tlist a '2 3'\n\n";
-    let others: &[u8] = b"config '\"' s\nconfig ';'\nconfig \\\\";
-    let quoted: &[u8] = b"\nconfig '\"' 's'\n\nconfig ';'\n\nconfig '\\'\n\n";
-    let rows: [Row; 5] = [
-        (b"config x-y.z s", false, false, b"\nconfig x-y.z 's'\n\n"),
-        (b"config 'x#y' s", false, false, b"\nconfig 'x#y' 's'\n\n"),
-        (
-            b"config \"x'y\" s",
-            false,
-            false,
-            b"\nconfig 'x'\\''y' 's'\n\n",
-        ),
-        (others, false, false, quoted),
-        (list, false, false, items),
-    ];
-    expect_printed(&rt, rt.alloc(), rows.as_slice())
+    expect_printed(&rt, rt.alloc(), TYPES)
 }
 
 #[test]

@@ -3,7 +3,7 @@ use std::test::Fail;
 use uci_text::quote_into;
 
 /// Values, and how they are quoted.
-const QUOTED: [(&[u8], &[u8]); 6] = [
+const QUOTED: &[(&[u8], &[u8])] = &[
     (b"", b"''"),
     (b"a", b"'a'"),
     (b"'", b"''\\'''"),
@@ -14,7 +14,7 @@ const QUOTED: [(&[u8], &[u8]); 6] = [
 
 #[test]
 fn quoted_values_are_read(rt: HostRuntime) -> Result<(), Fail> {
-    for (value, text) in QUOTED {
+    for &(value, text) in QUOTED {
         let mut quoted = Vec::new(rt.alloc());
         quote_into(&mut quoted, value)?;
         assert_eq!(rt; quoted.as_slice(), text);
