@@ -20,8 +20,8 @@ use Rattle.net_objects.specs.Reading.{AsksMethod}
 use Rattle.net_answers.specs.declared.net_answer.NetAnswer.{NetAnswer}
 use Rattle.net_answers.specs.Answered.{answered, refused_as}
 use Rattle.net_answers.specs.Told.{Takes, Tries, Shows}
-use Rattle.plane_step.specs.Means.{ReloadAsks}
-use Rattle.plane_step.proofs.ActLemmas.{interface_asks, device_asks, radio_asks}
+use Rattle.net_reload.specs.Reload.{ReloadAsks}
+use Rattle.net_reload.proofs.AskLemmas.{interface_asks, device_asks, radio_asks}
 use Rattle.net_calls.specs.Taken.{TakesOne, RefusesUnread}
 use Rattle.net_calls.specs.NetCalls.{CallMeans, IsHaltedIn, Carries, IsAnsweredTo, IsStopped, Answers}
 

@@ -15,7 +15,7 @@ use Rattle.net_objects.specs.Reading.{AsksMethod, AsksNothing}
 use Rattle.net_answers.specs.declared.net_answer.NetAnswer.{NetAnswer}
 use Rattle.net_answers.specs.Answered.{refused_as}
 use Rattle.net_answers.specs.Told.{IsTaken}
-use Rattle.plane_step.specs.Means.{ReloadAsks}
+use Rattle.net_reload.specs.Reload.{ReloadAsks}
 
 -- what a call means, with these files: what the line of a script means that asks for the same
 abbrev pub CallMeans : Folder → NetCall → NetLine → Type 0

@@ -9,7 +9,7 @@ use Rattle.step_net.specs.Acted.{acted}
 use Rattle.net_answers.specs.declared.net_answer.NetAnswer.{NetAnswer}
 use Rattle.net_answers.specs.Answered.{answered, refused_as}
 use Rattle.net_answers.specs.Told.{IsAnswered}
-use Rattle.plane_step.specs.Done.{IsHaltedAlone}
+use Rattle.net_reload.specs.Taken.{IsHaltedAlone}
 
 -- it was carried out, and the kernel was asked nothing
 pub record IsTakenAlone (act : NetLine) (before now : Network) (told : NetAnswer) : Type 0 where

@@ -5,7 +5,8 @@ use Rattle.uci_tool.specs.Folder.{folder_of}
 use Rattle.step_net.specs.NetLine.{NetLine}
 use Rattle.step_net.specs.Taken.{telled_of}
 use Rattle.net_objects.specs.declared.net_call.NetCall.TheVariants as call
-use Rattle.plane_step.proofs.ActLemmas.{asks_nothing, happening_asks}
+use Rattle.net_reload.proofs.AskLemmas.{asks_nothing}
+use Rattle.net_reload.proofs.AskLemmas.{happening_asks}
 use Rattle.net_calls.proofs.CallLemmas.{tries_alone, tries_shown, carries, carries_load}
 use Rattle.net_calls.proofs.call.carry_out.Goals as goal
 

@@ -1,10 +1,10 @@
 use Rattle.net_plane.specs.Network.{moment_of}
 use Rattle.step_net.specs.NetLine.{load_line}
 use Rattle.uci_tool.specs.Folder.{folder_of}
-use Rattle.plane_step.specs.Loaded.{network_name, wireless_name}
-use Rattle.plane_step.specs.Means.{ReloadAsks}
-use Rattle.plane_step.proofs.ActLemmas.{load_asks}
-use Rattle.plane_step.proofs.LoadLemmas.{of_fault}
+use Rattle.net_reload.specs.Loaded.{network_name, wireless_name}
+use Rattle.net_reload.specs.Reload.{ReloadAsks}
+use Rattle.net_reload.proofs.AskLemmas.{load_asks}
+use Rattle.net_reload.proofs.LoadLemmas.{of_fault}
 use Rattle.net_calls.proofs.CallLemmas.{takes_this, takes_unread}
 use Rattle.net_calls.proofs.reload.reload.Goals as goal
 

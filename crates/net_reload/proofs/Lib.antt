@@ -1,0 +1,6 @@
+-- events at which the kernel is asked nothing
+pub mod AskLemmas
+-- lines that ask one of several things
+pub mod AnswerLemmas
+-- packages that are loaded
+pub mod LoadLemmas
