@@ -7,21 +7,26 @@ use Rattle.kern_model.specs.ObjectOrder.{Objects}
 use Rattle.net_settle.specs.Outside.{Outside}
 use Rattle.step_net.specs.Finished.{HoldsOrFailed}
 use Rattle.step_net.specs.Effects.{Effects, joined, Leaves}
-use Rattle.step_net.specs.Moved.{Luck, failures_of}
 use Rattle.step_net.proofs.GrowthLemmas.{grows_none, grows_more, records_none, records_more}
-use Rattle.plane_step.specs.World.{World}
-use Rattle.plane_step.specs.Moved.{Moved, still, followed, failures, Folds}
-use Rattle.plane_step.specs.declared.stop.Stop.{Stop}
-use Rattle.plane_step.specs.declared.stop.Stop.TheVariants as stop
-use Rattle.plane_step.specs.Ran.{LineMeans, moved_by, DiskRose, CarriedOut, CutShort, LackedMemory, FailedOnDisk, Ran, StopsIn, LineEnds, ScriptEnds}
+use Rattle.plane_lines.specs.declared.stop.Stop.{Stop}
+use Rattle.plane_lines.specs.declared.stop.Stop.TheVariants as stop
+use Rattle.plane_lines.specs.Faults.{DiskRose}
+use Rattle.bus_lines.specs.World.{World}
+use Rattle.bus_lines.specs.Words.{Supply}
+use Rattle.plane_step.specs.Does.{LineDoes}
+use Rattle.plane_step.specs.Moved.{Luck, Moved, moved, still, followed, failures, failures_of, Folds}
+use Rattle.plane_step.specs.Ran.{Words, CarriedOut, CutShort, LackedMemory, FailedOnDisk, Ran, StopsIn, LineEnds, ScriptEnds}
+use Rattle.plane_step.proofs.WordLemmas.{uses_none, uses_join}
 
-pub none_ran : (start : World) (now : Outside) → Ran start [] start now now true
-none_ran start now = record {
+pub none_ran : (start : World) (supply : Supply) (now : Outside)
+    → Ran start [] start (record { before = supply; after = supply }) now now true
+none_ran start supply now = record {
   lucks = [];
   end = still start;
   folds = Folds.none;
   next = refl;
   answer = refl;
+  used = uses_none supply;
   left = record {
     asked = records_none now.asked;
     logged = grows_none now.calls;
@@ -50,25 +55,26 @@ leaves_both a b m n before between after p q = record {
 }
 
 pub ran_more : (start : World) (lines : List Line) (line : Line) (world now : World)
-    (before between after : Outside) (is_ok fine : Bool) → Ran start lines world before between is_ok
-    → CarriedOut line world now between after fine
-    → Ran start (lines ++ line ∷ []) now before after (is_ok && fine)
-ran_more start lines line world now before between after is_ok fine ran c =
-    let one = moved_by ran.end.world line c.act c.luck in
-    let same : moved_by world line c.act c.luck ≡ one = ap (λ w. moved_by w line c.act c.luck) ran.next in
+    (supply mid last : Supply) (before between after : Outside) (is_ok fine : Bool)
+    → Ran start lines world (record { before = supply; after = mid }) before between is_ok
+    → CarriedOut line world now (record { before = mid; after = last }) between after fine
+    → Ran start (lines ++ line ∷ []) now (record { before = supply; after = last }) before after
+    (is_ok && fine)
+unfolding moved
+ran_more start lines line world now supply mid last before between after is_ok fine ran c =
+    let one = moved c.did c.luck.failed_behind in
     record {
       lucks = ran.lucks ++ c.luck ∷ [];
       end = followed ran.end one;
-      folds = Folds.more lines ran.lucks ran.end line c.act c.luck ran.folds
-          (subst (λ w. LineMeans w line c.act) ran.next c.means);
-      next = c.next ∙ ap (λ (m : Moved). m.world) same;
-      answer = ap (λ b. b && fine) ran.answer
-          ∙ ap (λ b. ran.end.is_ok && b) (c.answer ∙ ap (λ (m : Moved). m.is_ok) same);
+      folds = Folds.more lines ran.lucks ran.end line c.luck c.did ran.folds
+          (subst (λ (w : World). LineDoes w line c.luck.words c.luck.events c.did) ran.next c.does);
+      next = c.next;
+      answer = ap (λ b. b && fine) ran.answer ∙ ap (λ b. ran.end.is_ok && b) c.answer;
+      used = uses_join supply ran.end.words mid c.did.words last ran.used c.used;
       left = subst (λ n. Leaves (joined ran.end.effects one.effects) n before after)
           (sym (failures_more ran.lucks c.luck))
           (leaves_both ran.end.effects one.effects (failures ran.lucks) (failures_of c.luck) before
-          between after ran.left
-          (subst (λ (m : Moved). Leaves m.effects (failures_of c.luck) between after) same c.left));
+          between after ran.left c.left);
     }
 
 -- nothing is left
@@ -89,11 +95,12 @@ disk_rose f s a b c d files staged (inr rose) = inr (rose_behind s c d staged ro
 
 -- a script stops in a line
 module _ (start : World) (lines done : List Line) (line : Line) (rest : List Line)
-    (parts : lines ≡ done ++ line ∷ rest) (world now : World) (before between after : Outside)
-    (is_ok : Bool) (ran : Ran start done world before between is_ok) (Images : List Line → Type 0)
-    (images : Images (done ++ line ∷ [])) where
+    (parts : lines ≡ done ++ line ∷ rest) (world now : World) (supply mid last : Supply)
+    (before between after : Outside) (is_ok : Bool)
+    (ran : Ran start done world (record { before = supply; after = mid }) before between is_ok)
+    (Images : List Line → Type 0) (images : Images (done ++ line ∷ [])) where
   stops : (Stops : Line → World → Outside → Outside → Type 0) → Stops line world between after
-      → StopsIn Stops Images start lines before after
+      → StopsIn Stops Images start lines supply before after
   stops Stops is = record {
     done = done;
     line = line;
@@ -101,6 +108,7 @@ module _ (start : World) (lines done : List Line) (line : Line) (rest : List Lin
     parts = parts;
     world = world;
     is_ok = is_ok;
+    words = mid;
     between = between;
     ran = ran;
     stops = is;
@@ -108,10 +116,10 @@ module _ (start : World) (lines done : List Line) (line : Line) (rest : List Lin
   }
 
   pub stops_in : (f s a b c d : ℕ) → f ≤ a → s ≤ c → (why : Stop)
-      → LineEnds line world now (record { files = a; files_now = b; staged = c; staged_now = d }) between
-      after (Err why)
+      → LineEnds line world now (record { files = a; files_now = b; staged = c; staged_now = d })
+      (record { before = mid; after = last }) between after (Err why)
       → ScriptEnds start lines now (record { files = f; files_now = b; staged = s; staged_now = d })
-      Images before after (Err why)
+      (record { before = supply; after = last }) Images before after (Err why)
   stops_in f s a b c d files staged stop.WriteFailed ends =
       stops (λ l w m e. CutShort l w now m e) ends
   stops_in f s a b c d files staged stop.Memory ends =

@@ -1,177 +1,68 @@
 -- What the code made of a line before its settling.
-use Rattle.std.specs.Prelude.{ℕ, ◌≡◌, ◌⊎◌, List, [], ◌∷◌, false, ⊤, IsSomeAnd, Option, Some, None, Result, Ok, Err}
-use Rattle.std.specs.Option.{option_map}
-use Rattle.plane_words.specs.Causes.{Rose}
+use Rattle.std.specs.Prelude.{ℕ, ◌≡◌, List, Bool, Option, Some, Result, Ok, Err, ⊤}
+use Rattle.uci_tool.specs.Folder.{Folder}
 use Rattle.script_lines.specs.declared.script_line.ScriptLine.{ScriptLine}
 use Rattle.script_lines.specs.declared.script_line.ScriptLine.TheVariants as line
-use Rattle.uci_tree.specs.declared.tree_error.TreeError.{TreeError}
-use Rattle.uci_tree.specs.Fault.{fault_of}
-use Rattle.uci_store.specs.declared.store.Store.{Store}
-use Rattle.uci_tool.specs.declared.report.Report.{Report}
-use Rattle.uci_tool.specs.Folder.{Folder, folder_of}
-use Rattle.uci_tool.specs.Line.{Carried}
-use Rattle.uci_tool.specs.Answers.{IsAmong}
-use Rattle.uci_tool.specs.Passes.{uci_passes}
-use Rattle.uci_tool.specs.Alone.{words_carried}
-use Rattle.net_plane.specs.Network.{Network, moment_of}
-use Rattle.step_net.specs.declared.told.Told.{Told}
-use Rattle.step_net.specs.NetLine.{NetLine}
-use Rattle.step_net.specs.Acted.{acted}
-use Rattle.step_net.specs.Moved.{Telling}
-use Rattle.step_net.specs.Told as told
-use Rattle.step_net.specs.Taken.{telling_in, IsActed, IsHalted, Telled, Asks, IsTaken, IsLeft}
-use Rattle.line_texts.specs.declared.line_error.LineError.TheVariants as error
-use Rattle.plane_step.specs.declared.stop.Stop.{Stop}
-use Rattle.plane_step.specs.declared.stop.Stop.TheVariants as stop
-use Rattle.plane_step.specs.World.{World, world_of}
-use Rattle.plane_step.specs.FilesMoved.{files_moved, at_moved, folder_behind, IsOneOf}
-use Rattle.plane_step.specs.Means.{Means, AtAsks, line_error}
-use Rattle.plane_step.specs.Ran.{DiskFaults, DiskRose}
+use Rattle.local_answers.specs.declared.uci_answer.CallStop.{CallStop}
+use Rattle.local_answers.specs.declared.uci_answer.CallStop.TheVariants as call
+use Rattle.local_objects.specs.Cut.{Cut, untouched}
+use Rattle.bus_lines.specs.declared.caller_line.CallerLine.{CallerLine}
+use Rattle.bus_lines.specs.declared.caller_line.CallerLine.TheVariants as caller
+use Rattle.bus_lines.specs.Did.{Did}
+use Rattle.plane_step.specs.declared.act.Asking.{Asking}
+use Rattle.plane_step.specs.declared.act.Asking.TheVariants as asking
+use Rattle.plane_lines.specs.declared.stop.Stop.{Stop}
+use Rattle.plane_lines.specs.declared.stop.Stop.TheVariants as stop
+use Rattle.bus_lines.specs.declared.handled.Handled.{Handled}
+use Rattle.bus_lines.specs.World.{World}
+use Rattle.bus_lines.specs.Ended.{Seen, IsDone, IsHalted, HasFailed}
+use Rattle.plane_step.specs.Does.{Does, PlainDoes}
+use Rattle.plane_step.specs.Passed.{Passes, Cuts, Fails, PlainPasses, PlainCuts}
 
--- the plane in front of a line
-pub record Front : Type 0 where
-  pub now : ℕ
-  pub store : Store
-  pub net : Network
+-- how a line ended that does this, may be cut so for want of memory, and so by a disk, and passes through these folders
+abbrev pub EndsSo : (List ℕ → List Bool → Did → Type 0) → (Cut → Type 0) → (Cut → Type 0) → (Folder → Type 0)
+    → World → Seen → Result Handled Stop → Type 0
+EndsSo Does Cuts Fails Passes now seen (Ok told) = IsDone Does now seen told
+EndsSo Does Cuts Fails Passes now seen (Err stop.WriteFailed) = ⊥
+EndsSo Does Cuts Fails Passes now seen (Err stop.DiskFailed) = HasFailed Fails now seen
+EndsSo Does Cuts Fails Passes now seen (Err stop.Memory) = IsHalted Cuts Passes now seen
 
-abbrev pub world_at : Front → World
-world_at front = world_of front.now front.store front.net
+-- how a line at this number of the script ended, in this world
+abbrev pub Ends : World → ℕ → Option ScriptLine → World → Seen → Result Handled Stop → Type 0
+Ends world number read now seen result =
+    EndsSo (Does world number read) (Cuts world number read) (Fails world number read)
+    (Passes world number read) now seen result
 
--- what is known of the line: the plane in front of it, its number in the script, and what was read
-pub record Read : Type 0 where
-  pub front : Front
-  pub number : ℕ
-  pub line : Option ScriptLine
+-- the same of a line that is of no caller
+abbrev pub PlainEnds : World → ℕ → Option ScriptLine → World → Seen → Result Handled Stop → Type 0
+PlainEnds world number read now seen result =
+    EndsSo (λ words failures did. PlainDoes world number read failures did) (PlainCuts world number read)
+    (λ cut. cut ≡ untouched world.net) (PlainPasses world read) now seen result
 
--- the plane behind it, but for its settling, with what the kernel was asked
-pub record Behind : Type 0 where
-  pub now : ℕ
-  pub store : Store
-  pub net : Network
-  pub kernel : Telled
+-- what stopped a line of a caller stops the script
+abbrev pub or_stop : Result Handled CallStop → Result Handled Stop
+or_stop (Ok told) = Ok told
+or_stop (Err call.DiskFailed) = Err stop.DiskFailed
+or_stop (Err call.Memory) = Err stop.Memory
 
--- the line was acted on, and this is to be told of it
-pub record IsDone (read : Read) (behind : Behind) (told : Told) : Type 0 where
-  pub act : NetLine
-  pub means : Means (world_at read.front) read.number read.line act
-  pub moment : behind.now ≡ (files_moved read.front.now (folder_of read.front.store) read.line).now
-  pub files : folder_of behind.store
-      ≡ (files_moved read.front.now (folder_of read.front.store) read.line).after
-  pub taken : IsTaken act read.front.net behind.net behind.kernel told
+-- a caller's line as it stands in a script
+abbrev pub line_for : CallerLine → Option ScriptLine
+line_for (caller.Call words) = Some (line.Call words.session words.path words.method words.json)
+line_for (caller.Open client user group) = Some (line.OpenClient client user group)
+line_for (caller.Bytes client bytes) = Some (line.ClientBytes client bytes)
+line_for (caller.Close client) = Some (line.CloseClient client)
 
--- There was no memory, before the plane of interfaces was asked or while it was.
-pub data IsNetUndone (read : Read) (net : Network) (kernel : Telled) : Type 0 where
-  unasked : net ≡ read.front.net → Asks [] false kernel → IsNetUndone read net kernel
-  asked : (act : NetLine) → Means (world_at read.front) read.number read.line act
-      → IsLeft act read.front.net net kernel → IsNetUndone read net kernel
+-- the line is of no caller, and goes to no moment
+abbrev pub IsNobodys : Option ScriptLine → Type 0
+IsNobodys (Some (line.At moment)) = ⊥
+IsNobodys (Some (line.Call session object method json)) = ⊥
+IsNobodys (Some (line.OpenClient client user group)) = ⊥
+IsNobodys (Some (line.ClientBytes client bytes)) = ⊥
+IsNobodys (Some (line.CloseClient client)) = ⊥
+IsNobodys _ = ⊤
 
--- The folder is then one that the line passes through.
-pub record IsUndone (read : Read) (behind : Behind) : Type 0 where
-  pub net : IsNetUndone read behind.net behind.kernel
-  pub files : IsOneOf (folder_of behind.store)
-      (files_moved read.front.now (folder_of read.front.store) read.line)
-
--- A disk failed, and the plane of interfaces was asked nothing.
-pub record IsFailed (read : Read) (behind : Behind) (disks : DiskFaults) : Type 0 where
-  pub cause : DiskRose disks
-  pub net : behind.net ≡ read.front.net
-  pub asks : Asks [] false behind.kernel
-
-abbrev pub Does : Read → Behind → DiskFaults → Result Told Stop → Type 0
-Does read behind disks (Ok told) = IsDone read behind told
-Does read behind disks (Err stop.WriteFailed) = ⊥
-Does read behind disks (Err stop.DiskFailed) = IsFailed read behind disks
-Does read behind disks (Err stop.Memory) = IsUndone read behind
-
--- of a line that leaves the moment and the files
-pub record IsNetDone (read : Read) (net : Network) (kernel : Telled) (told : Told) : Type 0 where
-  pub act : NetLine
-  pub means : Means (world_at read.front) read.number read.line act
-  pub taken : IsTaken act read.front.net net kernel told
-
--- the line is none that moves the moment or the files
-abbrev pub IsOfNet : ScriptLine → Type 0
-IsOfNet (line.At moment) = ⊥
-IsOfNet (line.Uci words) = ⊥
-IsOfNet _ = ⊤
-
--- want of memory stops the script
-abbrev pub or_memory : {M : Type 0} → Result Told M → Result Told Stop
-or_memory (Ok told) = Ok told
-or_memory (Err lacks) = Err stop.Memory
-
-abbrev pub NetDoes : {M : Type 0} → Read → Network → Telled → Result Told M → Type 0
-NetDoes read net kernel (Ok told) = IsNetDone read net kernel told
-NetDoes read net kernel (Err lacks) = IsNetUndone read net kernel
-
--- it was acted on, and the kernel was asked nothing
-pub record IsTakenAlone (act : NetLine) (before now : Network) (told : Told) : Type 0 where
-  pub is : IsActed (acted (moment_of before) act false) now told
-  pub none : (acted (moment_of before) act false).asked ≡ []
-
-pub record IsHaltedAlone (act : NetLine) (before now : Network) : Type 0 where
-  pub is : IsHalted (acted (moment_of before) act false) before now
-  pub none : (acted (moment_of before) act false).asked ≡ []
-
--- a line that asks one of these, at which the kernel is asked nothing
-abbrev pub TakesOne : {M : Type 0} → (NetLine → Type 0) → Network → Network → Result Told M → Type 0
-TakesOne Asks before now (Ok told) = (act : NetLine) × Asks act × IsTakenAlone act before now told
-TakesOne Asks before now (Err lacks) =
-    (now ≡ before) ⊎ ((act : NetLine) × Asks act × IsHaltedAlone act before now)
-
--- a file that is no package refuses the line
-abbrev pub RefusesUnread : {M : Type 0} → TreeError → Result Told M → Type 0
-RefusesUnread why (Ok answer) =
-    IsSomeAnd (fault_of why) (λ fault. telling_in answer ≡ told.refused error.Parse)
-RefusesUnread why (Err lacks) = ⊤
-
--- The moment becomes this one, or the line is refused. The files follow.
-pub record HasGone (next : ℕ) (front : Front) (now : ℕ) (store : Store) (net : Network) (told : Told)
-    : Type 0 where
-  pub act : NetLine
-  pub asks : AtAsks (world_at front) next act
-  pub taken : IsTakenAlone act front.net net told
-  pub moment : now ≡ (at_moved front.now (folder_of front.store) next).now
-  pub files : folder_of store ≡ (at_moved front.now (folder_of front.store) next).after
-
--- There was no memory for what is to be told, or for loading the files.
-pub record HasStopped (next : ℕ) (front : Front) (store : Store) (left : Network) : Type 0 where
-  pub net : (left ≡ front.net)
-      ⊎ ((act : NetLine) × AtAsks (world_at front) next act × IsHaltedAlone act front.net left)
-  pub files : IsOneOf (folder_of store) (at_moved front.now (folder_of front.store) next)
-
-abbrev pub GoesTo : ℕ → Front → ℕ → Store → Network → ℕ → ℕ → Result Told Stop → Type 0
-GoesTo next front now store net faults faults_now (Ok told) = HasGone next front now store net told
-GoesTo next front now store net faults faults_now (Err stop.WriteFailed) = ⊥
-GoesTo next front now store net faults faults_now (Err stop.DiskFailed) =
-    Rose faults faults_now × (net ≡ front.net)
-GoesTo next front now store net faults faults_now (Err stop.Memory) =
-    HasStopped next front store net
-
--- what is told of a command of `uci`
-abbrev pub telling_of_uci : ℕ → Option Carried → Telling
-telling_of_uci number None = told.refused (error.BadLine number)
-telling_of_uci number (Some done) = told.telling done.output (option_map line_error done.refusal)
-
--- a command of `uci` was carried out, with an empty input
-pub record HasCarried (number : ℕ) (words : List (List ℕ)) (before after : Folder) (told : Told)
-    : Type 0 where
-  pub telling : telling_in told ≡ telling_of_uci number (words_carried words before)
-  pub files : after ≡ folder_behind before (words_carried words before)
-
--- what is told of a report, where there is memory
-abbrev pub telling_of_report : ℕ → Option Report → Telling
-telling_of_report number None = told.refused (error.BadLine number)
-telling_of_report number (Some report) =
-    told.telling report.output (option_map line_error report.refusal)
-
-abbrev pub TellsReport : ℕ → Option Report → Result Told Stop → Type 0
-TellsReport number report (Ok told) = telling_in told ≡ telling_of_report number report
-TellsReport number report (Err why) = why ≡ stop.Memory
-
-abbrev pub CarriesUci : ℕ → List (List ℕ) → Folder → Folder → DiskFaults → Result Told Stop → Type 0
-CarriesUci number words before after disks (Ok told) = HasCarried number words before after told
-CarriesUci number words before after disks (Err stop.WriteFailed) = ⊥
-CarriesUci number words before after disks (Err stop.DiskFailed) = DiskRose disks
-CarriesUci number words before after disks (Err stop.Memory) =
-    IsAmong after (folder_behind before (words_carried words before) ∷ uci_passes words before [])
+-- whose a line is
+abbrev pub IsOf : Option ScriptLine → Asking → Type 0
+IsOf read (asking.Moment moment) = read ≡ Some (line.At moment)
+IsOf read (asking.Caller asked) = read ≡ line_for asked
+IsOf read (asking.Nobody line) = (read ≡ line) × IsNobodys line

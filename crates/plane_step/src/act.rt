@@ -1,34 +1,172 @@
-ghost use Rattle.std.specs.Prelude.{ℕ, ◌≡◌, [], Some};
+ghost use Rattle.std.specs.Prelude.{◌≡◌, [], Some, OnOk};
 ghost use Rattle.net_plane.specs.Network.{IsOf};
 ghost use Rattle.step_net.specs.Taken.{telled_of};
-ghost use Rattle.uci_store.specs.Store.{IsStore};
 ghost use Rattle.uci_tool.specs.Answers.{IsOpen};
-ghost use Rattle.uci_tool.specs.Folder.{folder_of};
-ghost use Rattle.uci_tool.specs.Stops.{StaysOrStops};
-ghost use Rattle.plane_step.specs.FilesMoved.{files_moved};
-ghost use Rattle.plane_step.specs.Ran.{faults_of};
+ghost use Rattle.script_lines.specs.declared.script_line.ScriptLine.TheVariants.{At as AtLine};
+ghost use Rattle.local_objects.specs.Passed.{StaysOrStopsIn};
+ghost use Rattle.local_objects.specs.Kept.{faults_of as disk_faults};
+ghost use Rattle.bus_lines.specs.Words.{Supply, supply_of};
+ghost use Rattle.bus_lines.specs.declared.callers.Callers.{Callers as CallersAre};
+ghost use Rattle.bus_lines.specs.Ended.{world_of};
 ghost use Rattle.plane_step.specs.Kept.{StaysOn};
+ghost use Rattle.plane_step.specs.Passed.{Passes, PlainPasses};
 ghost use Rattle.plane_step.specs.Done as spec;
-ghost use Rattle.plane_step.specs.Done.{Does, NetDoes, IsOfNet};
+ghost use Rattle.plane_step.specs.Done.{Ends, PlainEnds};
 
-use crate::answer::{answer_interface, answer_radio, refuse_line};
-use crate::commands::carry_uci;
-use crate::reload::reload;
-use crate::stop::Stop;
-use crate::time::go_to;
+use crate::expiry::expire;
+use bus_lines::{CallWords, CallerLine, Callers, Handled, carry_caller_line};
 use kern_model::Kernel;
+use local_answers::CallStop;
 use net_plane::Net;
 use plane_disk::Disk;
-use plane_io::Memory;
+use plane_io::Text;
+use plane_lines::{Stop, act_on};
+use plane_outside::Random;
 use script_lines::ScriptLine;
 use std::alloc::Global;
-use step_net::{
-    Told, show_device, show_dump, show_interface, show_radio, take_device, take_operator,
-};
 use uci_store::Store;
 
 /// Acts on what a line asks for, which stands at this number in the script. The calls of its settling are not made.
-pub(crate) fn act<K: Kernel, D: Disk, T: Disk>(
+pub(crate) fn act<K: Kernel, D: Disk, T: Disk, R: Random>(
+    alloc: Global,
+    moment: &mut u64,
+    callers: &mut Callers,
+    store: &mut Store,
+    files: &mut D,
+    staged: &mut T,
+    net: &mut Net,
+    number: u32,
+    line: Option<ScriptLine>,
+    kernel: &mut K,
+    random: &mut R,
+) -> Result<Handled, Stop>
+    requires open { IsOpen store.old (D.view files.old) (T.view staged.old) }
+    requires told { net.old.notices ≡ [] }
+    requires of { IsOf K.Kernel kernel.old net.old }
+    ensures ends { Ends (world_of moment.old store.old callers.old net.old) number line
+        (world_of moment.new store.new callers.new net.new)
+        (record {
+          kernel = telled_of K.Kernel kernel.old kernel.new;
+          supply = supply_of callers.old.spare.word (R.words random.old);
+          supply_now = supply_of callers.new.spare.word (R.words random.new);
+          disks = disk_faults (D.view files.old) (D.view files.new)
+              (T.view staged.old) (T.view staged.new);
+        })
+        result }
+    ensures disks { StaysOn result store.old store.new
+        (D.view files.old) (D.view files.new) (T.view staged.old) (T.view staged.new) }
+    ensures images { StaysOrStopsIn store.old D.view files.old files.new
+        (Passes (world_of moment.old store.old callers.old net.old) number line) }
+    ensures of { IsOf K.Kernel kernel.new net.new }
+    ensures calls { K.calls kernel.new ≡ K.calls kernel.old }
+    ensures told { OnOk result (net.new.notices ≡ []) }
+{
+    match who_asks(line) {
+        Asking::Moment(next) => go_to(
+            alloc, moment, callers, store, files, staged, net, number, next, kernel,
+        ),
+        Asking::Caller(asked) => {
+            let now = *moment;
+            or_stop(carry_caller_line(
+                alloc, now, callers, store, files, staged, net, kernel, random, number, asked,
+            ))
+        }
+        Asking::Nobody(line) => act_plainly(
+            alloc, moment, store, files, staged, net, number, line, kernel,
+        ),
+    }
+}
+
+// Whose a line is: it goes to a moment, a caller asks it, or neither.
+enum Asking {
+    Moment(u64),
+    Caller(CallerLine),
+    Nobody(Option<ScriptLine>),
+}
+
+fn who_asks(line: Option<ScriptLine>) -> Asking
+    ensures { spec.IsOf line result }
+{
+    let Some(line) = line else {
+        return Asking::Nobody(None);
+    };
+    match line {
+        ScriptLine::At { moment } => Asking::Moment(moment),
+        ScriptLine::Call {
+            session,
+            object,
+            method,
+            json,
+        } => Asking::Caller(CallerLine::Call(CallWords {
+            session,
+            path: object,
+            method,
+            json,
+        })),
+        ScriptLine::OpenClient {
+            client,
+            user,
+            group,
+        } => Asking::Caller(CallerLine::Open {
+            client,
+            user,
+            group,
+        }),
+        ScriptLine::ClientBytes { client, bytes } => {
+            Asking::Caller(CallerLine::Bytes { client, bytes })
+        }
+        ScriptLine::CloseClient { client } => Asking::Caller(CallerLine::Close { client }),
+        other => Asking::Nobody(Some(other)),
+    }
+}
+
+// Goes to a moment, unless it is before the last: sessions expire, and then files may be rolled back.
+fn go_to<K: Kernel, D: Disk, T: Disk>(
+    alloc: Global,
+    moment: &mut u64,
+    callers: &mut Callers,
+    store: &mut Store,
+    files: &mut D,
+    staged: &mut T,
+    net: &mut Net,
+    number: u32,
+    next: u64,
+    kernel: &mut K,
+) -> Result<Handled, Stop>
+    requires open { IsOpen store.old (D.view files.old) (T.view staged.old) }
+    requires told { net.old.notices ≡ [] }
+    requires of { IsOf K.Kernel kernel.old net.old }
+    ensures ends { (supply : Supply) →
+        Ends (world_of moment.old store.old callers.old net.old) number (Some (AtLine next))
+        (world_of moment.new store.new callers.new net.new)
+        (record {
+          kernel = telled_of K.Kernel kernel.old kernel.new;
+          supply = supply;
+          supply_now = supply;
+          disks = disk_faults (D.view files.old) (D.view files.new)
+              (T.view staged.old) (T.view staged.new);
+        })
+        result }
+    ensures disks { StaysOn result store.old store.new
+        (D.view files.old) (D.view files.new) (T.view staged.old) (T.view staged.new) }
+    ensures images { StaysOrStopsIn store.old D.view files.old files.new
+        (Passes (world_of moment.old store.old callers.old net.old) number (Some (AtLine next))) }
+    ensures spare { callers.new.spare ≡ callers.old.spare }
+    ensures of { IsOf K.Kernel kernel.new net.new }
+    ensures calls { K.calls kernel.new ≡ K.calls kernel.old }
+    ensures told { OnOk result (net.new.notices ≡ []) }
+{
+    let Ok(()) = expire(callers, store, *moment, next) else {
+        return Err(Stop::Memory);
+    };
+    let line = Some(ScriptLine::At { moment: next });
+    act_plainly(
+        alloc, moment, store, files, staged, net, number, line, kernel,
+    )
+}
+
+// Acts on a line that is of no caller, once sessions have expired.
+fn act_plainly<K: Kernel, D: Disk, T: Disk>(
     alloc: Global,
     moment: &mut u64,
     store: &mut Store,
@@ -38,98 +176,47 @@ pub(crate) fn act<K: Kernel, D: Disk, T: Disk>(
     number: u32,
     line: Option<ScriptLine>,
     kernel: &mut K,
-) -> Result<Told, Stop>
+) -> Result<Handled, Stop>
     requires open { IsOpen store.old (D.view files.old) (T.view staged.old) }
     requires told { net.old.notices ≡ [] }
     requires of { IsOf K.Kernel kernel.old net.old }
-    ensures does { Does
+    ensures ends { (callers : CallersAre) (supply : Supply) →
+        PlainEnds (world_of moment.old store.old callers net.old) number line
+        (world_of moment.new store.new callers net.new)
         (record {
-          front = record { now = moment.old; store = store.old; net = net.old };
-          number = number;
-          line = line;
-        })
-        (record {
-          now = moment.new;
-          store = store.new;
-          net = net.new;
           kernel = telled_of K.Kernel kernel.old kernel.new;
+          supply = supply;
+          supply_now = supply;
+          disks = disk_faults (D.view files.old) (D.view files.new)
+              (T.view staged.old) (T.view staged.new);
         })
-        (faults_of (D.view files.old) (D.view files.new) (T.view staged.old) (T.view staged.new))
         result }
     ensures disks { StaysOn result store.old store.new
         (D.view files.old) (D.view files.new) (T.view staged.old) (T.view staged.new) }
-    ensures images { StaysOrStops store.old D.view files.old files.new
-        (files_moved moment.old (folder_of store.old) line).passes }
+    ensures images { (callers : CallersAre) → StaysOrStopsIn store.old D.view files.old files.new
+        (PlainPasses (world_of moment.old store.old callers net.old) line) }
     ensures of { IsOf K.Kernel kernel.new net.new }
     ensures calls { K.calls kernel.new ≡ K.calls kernel.old }
+    ensures told { OnOk result (net.new.notices ≡ []) }
 {
-    let Some(line) = line else {
-        return or_memory(refuse_line(alloc, number));
-    };
-    match line {
-        ScriptLine::At { moment: next } => go_to(alloc, moment, store, files, net, next),
-        ScriptLine::Uci { words } => {
-            carry_uci(alloc, store, files, staged, number, words.as_slice())
-        }
-        other => or_memory(act_on_net(alloc, store, net, number, other, kernel)),
+    match act_on(
+        alloc, moment, store, files, staged, net, number, line, kernel,
+    ) {
+        Ok(told) => Ok(Handled {
+            sent: Text::from_vec(Vec::new(alloc)),
+            told,
+        }),
+        Err(stop) => Err(stop),
     }
 }
 
-// Acts on a line that leaves the moment and the files.
-fn act_on_net<K: Kernel>(
-    alloc: Global,
-    store: &Store,
-    net: &mut Net,
-    number: u32,
-    line: ScriptLine,
-    kernel: &mut K,
-) -> Result<Told, Memory>
-    requires store { IsStore store.now }
-    requires told { net.old.notices ≡ [] }
-    requires of { IsOf K.Kernel kernel.old net.old }
-    ensures does { IsOfNet line → (now : ℕ) → NetDoes
-        (record {
-          front = record { now = now; store = store.now; net = net.old };
-          number = number;
-          line = Some line;
-        })
-        net.new (telled_of K.Kernel kernel.old kernel.new) result }
-    ensures of { IsOf K.Kernel kernel.new net.new }
-    ensures calls { K.calls kernel.new ≡ K.calls kernel.old }
+// What stopped a line stops the script.
+fn or_stop(handled: Result<Handled, CallStop>) -> Result<Handled, Stop>
+    ensures { result ≡ spec.or_stop handled }
 {
-    match line {
-        ScriptLine::Device(event) => take_device(alloc, net, kernel, &event),
-        ScriptLine::Answer {
-            interface,
-            number: ask,
-            json,
-        } => answer_interface(alloc, net, number, interface, ask, &json),
-        ScriptLine::Radio {
-            radio,
-            number: ask,
-            json,
-        } => answer_radio(alloc, net, number, radio, ask, &json),
-        ScriptLine::Operator { interface, up } => take_operator(alloc, net, interface, up),
-        ScriptLine::Reload => reload(alloc, store, net),
-        ScriptLine::Dump => show_dump(alloc, net),
-        ScriptLine::InterfaceStatus { name } => show_interface(alloc, net, &name),
-        ScriptLine::DeviceStatus { name } => show_device(alloc, net, &name),
-        ScriptLine::RadioStatus { name } => show_radio(alloc, net, &name),
-        ScriptLine::At { .. }
-        | ScriptLine::Uci { .. }
-        | ScriptLine::Call { .. }
-        | ScriptLine::OpenClient { .. }
-        | ScriptLine::ClientBytes { .. }
-        | ScriptLine::CloseClient { .. } => refuse_line(alloc, number),
-    }
-}
-
-// Want of memory stops the script.
-fn or_memory(told: Result<Told, Memory>) -> Result<Told, Stop>
-    ensures { result ≡ spec.or_memory told }
-{
-    match told {
+    match handled {
         Ok(told) => Ok(told),
-        Err(_) => Err(Stop::Memory),
+        Err(CallStop::DiskFailed) => Err(Stop::DiskFailed),
+        Err(CallStop::Memory) => Err(Stop::Memory),
     }
 }

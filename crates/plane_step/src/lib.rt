@@ -1,16 +1,13 @@
-//! The lines of a script over a plane with its files: each is read, acted on, settled and answered.
+//! The lines of a script over the moment, the files, the sessions, the message bus and the plane of interfaces: each is read, acted on,
+//! settled and answered.
 #![tactic(auto)]
 
 mod act;
-mod answer;
 mod carrying;
-mod commands;
-mod reload;
+mod expiry;
 mod script;
-mod stop;
-mod time;
 
+pub use bus_lines::Callers;
 pub use carrying::carry_out;
-pub use reload::load_package;
+pub use plane_lines::Stop;
 pub use script::run_lines;
-pub use stop::Stop;

@@ -4,19 +4,21 @@ ghost use Rattle.net_settle.specs.Outside.{outside_of};
 ghost use Rattle.step_net.specs.Finished.{HoldsOrFailed};
 ghost use Rattle.net_plane.specs.Network.{IsOf};
 ghost use Rattle.uci_tool.specs.Answers.{IsOpen};
-ghost use Rattle.uci_tool.specs.Folder.{folder_of};
-ghost use Rattle.uci_tool.specs.Stops.{StaysOrStops};
-ghost use Rattle.plane_step.specs.World.{world_of};
-ghost use Rattle.plane_step.specs.FilesMoved.{script_passes};
-ghost use Rattle.plane_step.specs.Kept.{StaysOn};
-ghost use Rattle.plane_step.specs.Ran.{ScriptEnds, faults_of};
+ghost use Rattle.local_objects.specs.Passed.{StaysOrStopsIn};
+ghost use Rattle.bus_lines.specs.Words.{supply_of};
+ghost use Rattle.bus_lines.specs.Ended.{world_of};
+ghost use Rattle.plane_step.specs.ScriptPasses.{ScriptPasses};
+ghost use Rattle.plane_step.specs.Kept.{StaysOn, faults_of};
+ghost use Rattle.plane_step.specs.Ran.{ScriptEnds};
 
 use crate::carrying::carry_out;
-use crate::stop::Stop;
+use bus_lines::Callers;
 use kern_model::Kernel;
 use net_plane::Net;
 use plane_disk::Disk;
 use plane_io::Sink;
+use plane_lines::Stop;
+use plane_outside::Random;
 use std::alloc::Global;
 use uci_store::Store;
 use uci_text::Line;
@@ -26,31 +28,39 @@ use uci_text::Line;
 /// # Errors
 ///
 /// Those of [`carry_out`], at the first line that has one.
-pub fn run_lines<K: Kernel, O: Sink, D: Disk, T: Disk>(
+pub fn run_lines<K: Kernel, O: Sink, D: Disk, T: Disk, R: Random>(
     alloc: Global,
     moment: &mut u64,
+    callers: &mut Callers,
     store: &mut Store,
     files: &mut D,
     staged: &mut T,
     net: &mut Net,
     lines: &[Line],
     kernel: &mut K,
+    random: &mut R,
     out: &mut O,
 ) -> Result<bool, Stop>
     requires open { IsOpen store.old (D.view files.old) (T.view staged.old) }
     requires told { net.old.notices ≡ [] }
     requires of { IsOf K.Kernel kernel.old net.old }
-    ensures ends { ScriptEnds (world_of moment.old store.old net.old) lines.now
-        (world_of moment.new store.new net.new)
+    ensures ends { let start = world_of moment.old store.old callers.old net.old in
+        let supply = supply_of callers.old.spare.word (R.words random.old) in
+        ScriptEnds start lines.now (world_of moment.new store.new callers.new net.new)
         (faults_of (D.view files.old) (D.view files.new) (T.view staged.old) (T.view staged.new))
-        (λ front. StaysOrStops store.old D.view files.old files.new
-        (script_passes moment.old (folder_of store.old) front))
+        (record {
+          before = supply;
+          after = supply_of callers.new.spare.word (R.words random.new);
+        })
+        (λ front. StaysOrStopsIn store.old D.view files.old files.new
+        (ScriptPasses start supply front))
         (outside_of O.Sink K.Kernel out.old kernel.old)
         (outside_of O.Sink K.Kernel out.new kernel.new) result }
     ensures disks { StaysOn result store.old store.new
         (D.view files.old) (D.view files.new) (T.view staged.old) (T.view staged.new) }
-    ensures images { StaysOrStops store.old D.view files.old files.new
-        (script_passes moment.old (folder_of store.old) lines.now) }
+    ensures images { StaysOrStopsIn store.old D.view files.old files.new
+        (ScriptPasses (world_of moment.old store.old callers.old net.old)
+        (supply_of callers.old.spare.word (R.words random.old)) lines.now) }
     ensures of { IsOf K.Kernel kernel.new net.new }
     ensures due { K.objects kernel.old ≡ want_of net.old.inputs → OnOk result
         (HoldsOrFailed (K.objects kernel.new) (want_of net.new.inputs)
@@ -59,7 +69,9 @@ pub fn run_lines<K: Kernel, O: Sink, D: Disk, T: Disk>(
     let mut is_ok = true;
     let mut rest = lines;
     while let Some((line, others)) = rest.split_first() {
-        match carry_out(alloc, moment, store, files, staged, net, line, kernel, out) {
+        match carry_out(
+            alloc, moment, callers, store, files, staged, net, line, kernel, random, out,
+        ) {
             Ok(fine) => is_ok &= fine,
             Err(stop) => return Err(stop),
         }

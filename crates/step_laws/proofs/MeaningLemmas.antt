@@ -1,4 +1,4 @@
--- For a world a line means one thing.
+-- For a ground a line means one thing.
 use Rattle.std.proofs.Common.{arith, ℕ, ◌≡◌, List, Option, Some, None, refl, ap, sym, subst, ◌∙◌}
 use Rattle.serde_json.specs.Data.{Data}
 use Rattle.uci_tree.specs.declared.package.Package.{Package}
@@ -14,10 +14,11 @@ use Rattle.answer_json.specs.PortsJson.{ArePorts}
 use Rattle.step_net.specs.NetLine.{NetLine, load_line}
 use Rattle.uci_tree.specs.declared.fault.Fault.{Fault}
 use Rattle.uci_tool.specs.Folder.{Folder}
-use Rattle.plane_step.specs.World.{World}
-use Rattle.plane_step.specs.FilesMoved.{folder_at}
-use Rattle.plane_step.specs.Loaded.{network_name, wireless_name, IsLoaded, DoesNotLoad}
-use Rattle.plane_step.specs.Means.{Means, AnswerAsks, RadioAsks, ReloadAsks, AtAsks}
+use Rattle.plane_lines.specs.Ground.{Ground}
+use Rattle.plane_lines.specs.FilesMoved.{folder_at}
+use Rattle.net_reload.specs.Loaded.{network_name, wireless_name, IsLoaded, DoesNotLoad}
+use Rattle.plane_lines.specs.Means.{Means, AnswerAsks, RadioAsks, AtAsks}
+use Rattle.net_reload.specs.Reload.{ReloadAsks}
 use Rattle.step_laws.proofs.ReadingLemmas.{one_ports}
 
 module _ (one_answer : (value : Data) (a b : Answer) → IsAnswer value a → IsAnswer value b → a ≡ b)
@@ -93,36 +94,36 @@ module _ (one_answer : (value : Data) (a b : Answer) → IsAnswer value a → Is
   one_reload folder _ _ (ReloadAsks.no_wireless n p f d) (ReloadAsks.no_network g e) = refl
   one_reload folder _ _ (ReloadAsks.no_wireless n p f d) (ReloadAsks.no_wireless m r g e) = refl
 
-  one_at : (world : World) (moment : ℕ) (a b : NetLine) → AtAsks world moment a
-      → AtAsks world moment b → a ≡ b
-  one_at world moment _ _ (AtAsks.past p) (AtAsks.past q) = refl
-  one_at world moment _ _ (AtAsks.past p) (AtAsks.rests q e) = absurd (omega (arith, p, q))
-  one_at world moment _ b (AtAsks.past p) (AtAsks.undone q e _ r) = absurd (omega (arith, p, q))
-  one_at world moment _ _ (AtAsks.rests p d) (AtAsks.past q) = absurd (omega (arith, p, q))
-  one_at world moment _ _ (AtAsks.rests p d) (AtAsks.rests q e) = refl
-  one_at world moment _ b (AtAsks.rests p d) (AtAsks.undone q e _ r) = absurd (cc (d, e))
-  one_at world moment a _ (AtAsks.undone p d _ s) (AtAsks.past q) = absurd (omega (arith, p, q))
-  one_at world moment a _ (AtAsks.undone p d _ s) (AtAsks.rests q e) = absurd (cc (d, e))
-  one_at world moment a b (AtAsks.undone p d _ s) (AtAsks.undone q e _ r) =
-      one_reload (folder_at world.files moment) a b s r
+  one_at : (ground : Ground) (moment : ℕ) (a b : NetLine) → AtAsks ground moment a
+      → AtAsks ground moment b → a ≡ b
+  one_at ground moment _ _ (AtAsks.past p) (AtAsks.past q) = refl
+  one_at ground moment _ _ (AtAsks.past p) (AtAsks.rests q e) = absurd (omega (arith, p, q))
+  one_at ground moment _ b (AtAsks.past p) (AtAsks.undone q e _ r) = absurd (omega (arith, p, q))
+  one_at ground moment _ _ (AtAsks.rests p d) (AtAsks.past q) = absurd (omega (arith, p, q))
+  one_at ground moment _ _ (AtAsks.rests p d) (AtAsks.rests q e) = refl
+  one_at ground moment _ b (AtAsks.rests p d) (AtAsks.undone q e _ r) = absurd (cc (d, e))
+  one_at ground moment a _ (AtAsks.undone p d _ s) (AtAsks.past q) = absurd (omega (arith, p, q))
+  one_at ground moment a _ (AtAsks.undone p d _ s) (AtAsks.rests q e) = absurd (cc (d, e))
+  one_at ground moment a b (AtAsks.undone p d _ s) (AtAsks.undone q e _ r) =
+      one_reload (folder_at ground.files moment) a b s r
 
-  pub one_meaning : (world : World) (number : ℕ) (read : Option ScriptLine) (act other : NetLine)
-      → Means world number read act → Means world number read other → act ≡ other
-  one_meaning world number None act other p q = p ∙ sym q
-  one_meaning world number (Some (line.At moment)) act other p q = one_at world moment act other p q
-  one_meaning world number (Some (line.Device what)) act other p q = p ∙ sym q
-  one_meaning world number (Some (line.Answer interface ask json)) act other p q =
+  pub one_meaning : (ground : Ground) (number : ℕ) (read : Option ScriptLine) (act other : NetLine)
+      → Means ground number read act → Means ground number read other → act ≡ other
+  one_meaning ground number None act other p q = p ∙ sym q
+  one_meaning ground number (Some (line.At moment)) act other p q = one_at ground moment act other p q
+  one_meaning ground number (Some (line.Device what)) act other p q = p ∙ sym q
+  one_meaning ground number (Some (line.Answer interface ask json)) act other p q =
       one_answer_act number interface ask json act other p q
-  one_meaning world number (Some (line.Radio radio ask json)) act other p q =
+  one_meaning ground number (Some (line.Radio radio ask json)) act other p q =
       one_radio_act number radio ask json act other p q
-  one_meaning world number (Some (line.Operator interface up)) act other p q = p ∙ sym q
-  one_meaning world number (Some line.Reload) act other p q = one_reload world.files act other p q
-  one_meaning world number (Some (line.Uci words)) act other p q = p ∙ sym q
-  one_meaning world number (Some (line.Call session object method json)) act other p q = p ∙ sym q
-  one_meaning world number (Some (line.OpenClient client user group)) act other p q = p ∙ sym q
-  one_meaning world number (Some (line.ClientBytes client bytes)) act other p q = p ∙ sym q
-  one_meaning world number (Some (line.CloseClient client)) act other p q = p ∙ sym q
-  one_meaning world number (Some line.Dump) act other p q = p ∙ sym q
-  one_meaning world number (Some (line.InterfaceStatus name)) act other p q = p ∙ sym q
-  one_meaning world number (Some (line.DeviceStatus name)) act other p q = p ∙ sym q
-  one_meaning world number (Some (line.RadioStatus name)) act other p q = p ∙ sym q
+  one_meaning ground number (Some (line.Operator interface up)) act other p q = p ∙ sym q
+  one_meaning ground number (Some line.Reload) act other p q = one_reload ground.files act other p q
+  one_meaning ground number (Some (line.Uci words)) act other p q = p ∙ sym q
+  one_meaning ground number (Some (line.Call session object method json)) act other p q = p ∙ sym q
+  one_meaning ground number (Some (line.OpenClient client user group)) act other p q = p ∙ sym q
+  one_meaning ground number (Some (line.ClientBytes client bytes)) act other p q = p ∙ sym q
+  one_meaning ground number (Some (line.CloseClient client)) act other p q = p ∙ sym q
+  one_meaning ground number (Some line.Dump) act other p q = p ∙ sym q
+  one_meaning ground number (Some (line.InterfaceStatus name)) act other p q = p ∙ sym q
+  one_meaning ground number (Some (line.DeviceStatus name)) act other p q = p ∙ sym q
+  one_meaning ground number (Some (line.RadioStatus name)) act other p q = p ∙ sym q

@@ -3,4 +3,4 @@
 
 mod laws;
 
-pub use laws::{one_fold, one_meaning};
+pub use laws::{one_fold, one_line, one_meaning};

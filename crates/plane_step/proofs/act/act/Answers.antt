@@ -1,98 +1,111 @@
-use Rattle.std.proofs.Common.{ℕ, List, Option, Some, None, inl, refl, ap, sym, subst, ◌∙◌}
+use Rattle.std.proofs.Common.{◌≡◌, [], Option, Some, refl, sym, subst}
+use Rattle.std.specs.Prelude.{Result}
 use Rattle.script_lines.specs.declared.script_line.ScriptLine.{ScriptLine}
 use Rattle.script_lines.specs.declared.script_line.ScriptLine.TheVariants as line
-use Rattle.line_texts.specs.declared.line_error.LineError.TheVariants as error
 use Rattle.step_net.specs.Taken.{telled_of}
-use Rattle.uci_tool.specs.Folder.{folder_of}
-use Rattle.uci_tool.specs.Stops.{StaysOrStops}
-use Rattle.plane_step.specs.FilesMoved.{files_moved}
-use Rattle.plane_step.specs.Ran.{faults_of}
-use Rattle.plane_step.specs.Done.{Front, Read, Behind, CarriesUci}
-use Rattle.plane_step.proofs.ActLemmas.{asks_nothing, refused_does}
-use Rattle.plane_step.proofs.CommandLemmas.{uci_does}
-use Rattle.plane_step.proofs.LiftLemmas.{other_stays, is_of_net, net_lifts, read_lifts, at_lifts}
-use Rattle.plane_step.proofs.StoreLemmas.{stays_itself}
+use Rattle.plane_lines.specs.declared.stop.Stop.{Stop}
+use Rattle.plane_lines.specs.Kept.{StaysOn}
+use Rattle.local_objects.specs.Kept.{faults_of}
+use Rattle.local_objects.specs.Passed.{StaysOrStopsIn}
+use Rattle.bus_lines.specs.declared.callers.SpareWord.{SpareWord}
+use Rattle.bus_lines.specs.declared.handled.Handled.{Handled}
+use Rattle.bus_lines.specs.Words.{supply_of}
+use Rattle.bus_lines.specs.Passed.{LinePasses as CallerPasses}
+use Rattle.bus_lines.specs.Ended.{Seen, world_of}
+use Rattle.plane_step.specs.Passed.{Passes, PlainPasses}
+use Rattle.plane_step.specs.Done.{Ends, line_for}
+use Rattle.plane_step.proofs.LiftLemmas.{read_ends, caller_ends, caller_passes, call_tells, nobodys_ends, nobodys_passes}
+use Rattle.plane_step.proofs.StoreLemmas.{call_stays}
+use Rattle.plane_step.proofs.PassLemmas.{images_more}
 use Rattle.plane_step.proofs.act.act.Goals as goal
 
-pub returns-in_default-clause-does : goal.returns-in_default-clause-does
-returns-in_default-clause-does g c =
-    let front : Front = record { now = c.args.moment.now; store = c.args.store.now; net = c.args.net.now } in
-    let kernel = telled_of g.K.Kernel c.args.kernel.now c.args.kernel.now in
-    let files = g.D.Disk.view c.args.files.now in
-    let staged = g.T.Disk.view c.args.staged.now in
-    let disks = faults_of files files staged staged in
-    let read : Read = record { front = front; number = c.args.number; line = None } in
-    let behind : Behind = record { now = front.now; store = front.store; net = front.net; kernel = kernel } in
-    read_lifts front c.args.number c.args.line None behind disks c.or_memory.result c.in_default.is
-    (net_lifts read front.net kernel disks c.refuse_line.result c.or_memory.result c.or_memory.ensures refl
-    (refused_does read (error.BadLine c.args.number) kernel c.refuse_line.result refl c.requires.told
-    (asks_nothing (g.K.Kernel.asked c.args.kernel.now) (g.K.Kernel.faults c.args.kernel.now))
-    c.refuse_line.ensures))
+pub returns-in-Moment-clause-ends : goal.returns-in-Moment-clause-ends
+returns-in-Moment-clause-ends g c =
+    let world = world_of c.args.moment.now c.args.store.now c.args.callers.now c.args.net.now in
+    let now = world_of c.go_to.new.moment c.go_to.new.store c.go_to.new.callers c.go_to.new.net in
+    let kernel = telled_of g.K.Kernel c.args.kernel.now c.go_to.new.kernel in
+    let words = g.R.Random.words c.args.random.now in
+    let supply = supply_of c.args.callers.now.spare.word words in
+    let disks = faults_of (g.D.Disk.view c.args.files.now) (g.D.Disk.view c.go_to.new.files)
+    (g.T.Disk.view c.args.staged.now) (g.T.Disk.view c.go_to.new.staged) in
+    subst (λ (spare : SpareWord). Ends world c.args.number c.args.line now
+    (record { kernel = kernel; supply = supply; supply_now = supply_of spare.word words; disks = disks })
+    c.go_to.result) (sym c.go_to.ensures.spare)
+    (read_ends world c.args.number c.args.line (Some (line.At c.in-Moment.next)) now
+    (record { kernel = kernel; supply = supply; supply_now = supply; disks = disks }) c.go_to.result
+    c.in-Moment.ensures (c.go_to.ensures.ends supply))
 
-pub returns-in-At-clause-does : goal.returns-in-At-clause-does
-returns-in-At-clause-does g c =
-    let front : Front = record { now = c.args.moment.now; store = c.args.store.now; net = c.args.net.now } in
-    let kernel = telled_of g.K.Kernel c.args.kernel.now c.args.kernel.now in
-    let staged = g.T.Disk.view c.args.staged.now in
-    let disks = faults_of (g.D.Disk.view c.args.files.now) (g.D.Disk.view c.go_to.new.files) staged staged in
-    let behind : Behind = record { now = c.go_to.new.moment; store = c.go_to.new.store; net = c.go_to.new.net; kernel = kernel } in
-    read_lifts front c.args.number c.args.line (Some (line.At c.in-At.next)) behind disks c.go_to.result
-    (c.in-Some.is ∙ ap Some c.in-At.is)
-    (at_lifts front c.args.number c.in-At.next c.go_to.new.moment c.go_to.new.store c.go_to.new.net kernel
-    disks c.go_to.result
-    (asks_nothing (g.K.Kernel.asked c.args.kernel.now) (g.K.Kernel.faults c.args.kernel.now))
-    c.go_to.ensures.goes)
+pub returns-in-Moment-clause-images : goal.returns-in-Moment-clause-images
+returns-in-Moment-clause-images g c =
+    let world = world_of c.args.moment.now c.args.store.now c.args.callers.now c.args.net.now in
+    subst (λ (read : Option ScriptLine). StaysOrStopsIn c.args.store.now g.D.Disk.view c.args.files.now c.go_to.new.files
+    (Passes world c.args.number read)) (sym c.in-Moment.ensures) c.go_to.ensures.images
 
-pub returns-in-At-clause-images : goal.returns-in-At-clause-images
-returns-in-At-clause-images g c =
-    subst (λ (read : Option ScriptLine). StaysOrStops c.args.store.now g.D.Disk.view c.args.files.now c.go_to.new.files
-    (files_moved c.args.moment.now (folder_of c.args.store.now) read).passes)
-    (sym (c.in-Some.is ∙ ap Some c.in-At.is)) c.go_to.ensures.images
+pub returns-in-Caller-clause-ends : goal.returns-in-Caller-clause-ends
+returns-in-Caller-clause-ends g c =
+    let world = world_of c.args.moment.now c.args.store.now c.args.callers.now c.args.net.now in
+    let new = c.carry_caller_line.new in
+    let now = world_of c.args.moment.now new.store new.callers new.net in
+    let seen : Seen = record {
+      kernel = telled_of g.K.Kernel c.args.kernel.now new.kernel;
+      supply = supply_of c.args.callers.now.spare.word (g.R.Random.words c.args.random.now);
+      supply_now = supply_of new.callers.spare.word (g.R.Random.words new.random);
+      disks = faults_of (g.D.Disk.view c.args.files.now) (g.D.Disk.view new.files)
+          (g.T.Disk.view c.args.staged.now) (g.T.Disk.view new.staged);
+    } in
+    read_ends world c.args.number c.args.line (line_for c.in-Caller.asked) now seen c.or_stop.result
+    c.in-Caller.ensures
+    (subst (λ (r : Result Handled Stop). Ends world c.args.number (line_for c.in-Caller.asked) now seen r)
+    (sym c.or_stop.ensures)
+    (caller_ends world c.args.number c.in-Caller.asked now seen c.carry_caller_line.result
+    c.carry_caller_line.ensures.ends))
 
-pub returns-in-Uci-clause-does : goal.returns-in-Uci-clause-does
-returns-in-Uci-clause-does g c =
-    let front : Front = record { now = c.args.moment.now; store = c.args.store.now; net = c.args.net.now } in
-    let kernel = telled_of g.K.Kernel c.args.kernel.now c.args.kernel.now in
-    let disks = faults_of (g.D.Disk.view c.args.files.now) (g.D.Disk.view c.carry_uci.new.files)
-    (g.T.Disk.view c.args.staged.now) (g.T.Disk.view c.carry_uci.new.staged) in
-    let behind : Behind = record { now = front.now; store = c.carry_uci.new.store; net = front.net; kernel = kernel } in
-    read_lifts front c.args.number c.args.line (Some (line.Uci c.in-Uci.words)) behind disks
-    c.carry_uci.result (c.in-Some.is ∙ ap Some c.in-Uci.is)
-    (uci_does front c.args.number c.in-Uci.words c.carry_uci.new.store kernel disks c.carry_uci.result
-    c.requires.told
-    (asks_nothing (g.K.Kernel.asked c.args.kernel.now) (g.K.Kernel.faults c.args.kernel.now))
-    (subst (λ (ws : List (List ℕ)). CarriesUci c.args.number ws (folder_of c.args.store.now)
-    (folder_of c.carry_uci.new.store) disks c.carry_uci.result) c.as_slice.ensures c.carry_uci.ensures.carries))
+pub returns-in-Caller-clause-disks : goal.returns-in-Caller-clause-disks
+returns-in-Caller-clause-disks g c =
+    let new = c.carry_caller_line.new in
+    subst (λ (r : Result Handled Stop). StaysOn r c.args.store.now new.store (g.D.Disk.view c.args.files.now)
+    (g.D.Disk.view new.files) (g.T.Disk.view c.args.staged.now) (g.T.Disk.view new.staged)) (sym c.or_stop.ensures)
+    (call_stays c.carry_caller_line.result c.args.store.now new.store (g.D.Disk.view c.args.files.now)
+    (g.D.Disk.view new.files) (g.T.Disk.view c.args.staged.now) (g.T.Disk.view new.staged)
+    c.carry_caller_line.ensures.disks)
 
-pub returns-in-Uci-clause-images : goal.returns-in-Uci-clause-images
-returns-in-Uci-clause-images g c =
-    subst (λ (read : Option ScriptLine). StaysOrStops c.args.store.now g.D.Disk.view c.args.files.now c.carry_uci.new.files
-    (files_moved c.args.moment.now (folder_of c.args.store.now) read).passes)
-    (sym (c.in-Some.is ∙ ap Some c.in-Uci.is))
-    (subst (λ (ws : List (List ℕ)). StaysOrStops c.args.store.now g.D.Disk.view c.args.files.now c.carry_uci.new.files
-    (files_moved c.args.moment.now (folder_of c.args.store.now) (Some (line.Uci ws))).passes)
-    c.as_slice.ensures c.carry_uci.ensures.images)
+pub returns-in-Caller-clause-images : goal.returns-in-Caller-clause-images
+returns-in-Caller-clause-images g c =
+    let world = world_of c.args.moment.now c.args.store.now c.args.callers.now c.args.net.now in
+    subst (λ (read : Option ScriptLine). StaysOrStopsIn c.args.store.now g.D.Disk.view c.args.files.now
+    c.carry_caller_line.new.files (Passes world c.args.number read)) (sym c.in-Caller.ensures)
+    (images_more g.D.Disk.view c.args.store.now c.args.files.now c.carry_caller_line.new.files
+    (CallerPasses world c.args.number c.in-Caller.asked) (Passes world c.args.number (line_for c.in-Caller.asked))
+    (caller_passes world c.args.number c.in-Caller.asked) c.carry_caller_line.ensures.images)
 
-pub returns-in_default-line : goal.returns-in_default-line
-returns-in_default-line g c =
-    let front : Front = record { now = c.args.moment.now; store = c.args.store.now; net = c.args.net.now } in
-    let kernel = telled_of g.K.Kernel c.args.kernel.now c.act_on_net.new.kernel in
-    let files = g.D.Disk.view c.args.files.now in
-    let staged = g.T.Disk.view c.args.staged.now in
-    let disks = faults_of files files staged staged in
-    let other = c.in-Some.line in
-    let of = is_of_net other c.in_default-line.not-At c.in_default-line.not-Uci in
-    let read : Read = record { front = front; number = c.args.number; line = Some other } in
-    let behind : Behind = record { now = front.now; store = front.store; net = c.act_on_net.new.net; kernel = kernel } in
-    let all = c.or_memory-in_default-line.result in
-    record {
-      does = read_lifts front c.args.number c.args.line (Some other) behind disks all
-          c.in-Some.is
-          (net_lifts read c.act_on_net.new.net kernel disks c.act_on_net.result all
-          c.or_memory-in_default-line.ensures (other_stays front.now (folder_of front.store) other of)
-          (c.act_on_net.ensures.does of front.now));
-      disks = stays_itself all c.args.store.now files staged c.requires.open;
-      images = inl refl;
-      of = c.act_on_net.ensures.of;
-      calls = c.act_on_net.ensures.calls;
-    }
+pub returns-in-Caller-clause-told : goal.returns-in-Caller-clause-told
+returns-in-Caller-clause-told g c =
+    call_tells (c.carry_caller_line.new.net.notices ≡ []) c.carry_caller_line.result c.or_stop.result c.or_stop.ensures c.carry_caller_line.ensures.told
+
+pub returns-in-Nobody-clause-ends : goal.returns-in-Nobody-clause-ends
+returns-in-Nobody-clause-ends g c =
+    let world = world_of c.args.moment.now c.args.store.now c.args.callers.now c.args.net.now in
+    let new = c.act_plainly.new in
+    let now = world_of new.moment new.store c.args.callers.now new.net in
+    let supply = supply_of c.args.callers.now.spare.word (g.R.Random.words c.args.random.now) in
+    let seen : Seen = record {
+      kernel = telled_of g.K.Kernel c.args.kernel.now new.kernel;
+      supply = supply;
+      supply_now = supply;
+      disks = faults_of (g.D.Disk.view c.args.files.now) (g.D.Disk.view new.files)
+          (g.T.Disk.view c.args.staged.now) (g.T.Disk.view new.staged);
+    } in
+    read_ends world c.args.number c.args.line c.in-Nobody.line now seen c.act_plainly.result
+    c.in-Nobody.ensures.0
+    (nobodys_ends world c.args.number c.in-Nobody.line now seen c.act_plainly.result c.in-Nobody.ensures.1
+    (c.act_plainly.ensures.ends c.args.callers.now supply))
+
+pub returns-in-Nobody-clause-images : goal.returns-in-Nobody-clause-images
+returns-in-Nobody-clause-images g c =
+    let world = world_of c.args.moment.now c.args.store.now c.args.callers.now c.args.net.now in
+    subst (λ (read : Option ScriptLine). StaysOrStopsIn c.args.store.now g.D.Disk.view c.args.files.now
+    c.act_plainly.new.files (Passes world c.args.number read)) (sym c.in-Nobody.ensures.0)
+    (images_more g.D.Disk.view c.args.store.now c.args.files.now c.act_plainly.new.files
+    (PlainPasses world c.in-Nobody.line) (Passes world c.args.number c.in-Nobody.line)
+    (λ folder. nobodys_passes world c.args.number c.in-Nobody.line folder c.in-Nobody.ensures.1)
+    (c.act_plainly.ensures.images c.args.callers.now))

@@ -1,15 +1,15 @@
 use Rattle.std.proofs.Common.{◌≡◌, inl, [], ◌∷◌, ◌++◌, refl, ap, sym, subst, ◌∙◌, append_assoc}
 use Rattle.std.specs.Prelude.{Ok, Err}
 use Rattle.uci_tool.specs.Folder.{folder_of}
-use Rattle.uci_tool.specs.Stops.{StaysOrStops}
-use Rattle.uci_tool.proofs.StopLemmas.{images_join}
-use Rattle.script_lines.specs.Lines.{line_of}
 use Rattle.net_settle.specs.Outside.{outside_of}
-use Rattle.plane_step.specs.World.{world_of}
-use Rattle.plane_step.specs.FilesMoved.{files_moved, script_passes}
+use Rattle.plane_lines.proofs.StoreLemmas.{stays_itself, stays_both, stays_as}
+use Rattle.local_objects.specs.Passed.{StaysOrStopsIn}
+use Rattle.bus_lines.specs.Words.{supply_of}
+use Rattle.bus_lines.specs.Ended.{world_of}
+use Rattle.plane_step.specs.Passed.{LinePasses}
+use Rattle.plane_step.specs.ScriptPasses.{ScriptPasses}
 use Rattle.plane_step.specs.Ran.{Ran}
-use Rattle.plane_step.proofs.StoreLemmas.{stays_itself, stays_both, stays_as}
-use Rattle.plane_step.proofs.PassLemmas.{front_among, reached, line_follows}
+use Rattle.plane_step.proofs.PassLemmas.{images_join, front_passes, line_passes}
 use Rattle.plane_step.proofs.ScriptLemmas.{none_ran, ran_more, stops_in, all_done, due_more}
 use Rattle.plane_step.proofs.script.run_lines.Goals as goal
 
@@ -18,7 +18,8 @@ loop-line-init g c = record {
   ran = (
     [],
     refl,
-    none_ran (world_of c.args.moment.now c.args.store.now c.args.net.now)
+    none_ran (world_of c.args.moment.now c.args.store.now c.args.callers.now c.args.net.now)
+        (supply_of c.args.callers.now.spare.word (g.R.Random.words c.args.random.now))
         (outside_of g.O.Sink g.K.Kernel c.args.out.now c.args.kernel.now),
     inl refl,
   );
@@ -33,29 +34,30 @@ loop-line-preserved g c =
     let so_far = c.loop-line.invariant.ran in
     let line = c.in-Some.line.now in
     let others = c.in-Some.others.now in
-    let start = world_of c.args.moment.now c.args.store.now c.args.net.now in
-    let world = world_of c.loop-line.moment c.loop-line.store c.loop-line.net in
+    let start = world_of c.args.moment.now c.args.store.now c.args.callers.now c.args.net.now in
+    let world = world_of c.loop-line.moment c.loop-line.store c.loop-line.callers c.loop-line.net in
+    let supply = supply_of c.args.callers.now.spare.word (g.R.Random.words c.args.random.now) in
+    let mid = supply_of c.loop-line.callers.spare.word (g.R.Random.words c.loop-line.random) in
     let before = outside_of g.O.Sink g.K.Kernel c.args.out.now c.args.kernel.now in
     let between = outside_of g.O.Sink g.K.Kernel c.loop-line.out c.loop-line.kernel in
     let parts : c.args.lines.now ≡ so_far.0 ++ line ∷ others =
     so_far.1 ∙ ap (λ rest. so_far.0 ++ rest) c.in-Some.ensures.cases.0 in
-    let folder = folder_of c.loop-line.store in
     let stays = c.loop-line.invariant.stays in
     record {
       ran = (
         so_far.0 ++ line ∷ [],
         parts ∙ sym (append_assoc so_far.0 (line ∷ []) others),
         ran_more start so_far.0 line world
-            (world_of c.carry_out.new.moment c.carry_out.new.store c.carry_out.new.net) before between
-            (outside_of g.O.Sink g.K.Kernel c.carry_out.new.out c.carry_out.new.kernel)
+            (world_of c.carry_out.new.moment c.carry_out.new.store c.carry_out.new.callers c.carry_out.new.net)
+            supply mid (supply_of c.carry_out.new.callers.spare.word (g.R.Random.words c.carry_out.new.random))
+            before between (outside_of g.O.Sink g.K.Kernel c.carry_out.new.out c.carry_out.new.kernel)
             c.loop-line.is_ok c.in-Ok.fine so_far.2 c.in-Ok.ensures.ends,
         images_join g.D.Disk.view c.args.store.now c.loop-line.store c.args.files.now c.loop-line.files
-            c.carry_out.new.files (script_passes c.args.moment.now (folder_of c.args.store.now) so_far.0)
-            (files_moved c.loop-line.moment folder (line_of line.words)).passes
-            (script_passes c.args.moment.now (folder_of c.args.store.now) (so_far.0 ++ line ∷ []))
+            c.carry_out.new.files (ScriptPasses start supply so_far.0) (LinePasses world line)
+            (ScriptPasses start supply (so_far.0 ++ line ∷ []))
             stays.same (stays.files.ready (stays.ready (λ e. cc e)))
-            (front_among c.args.moment.now (folder_of c.args.store.now) so_far.0 (line ∷ []))
-            (line_follows start world so_far.0 before between c.loop-line.is_ok so_far.2 line)
+            (front_passes start supply so_far.0 (line ∷ []) (so_far.0 ++ line ∷ []) refl)
+            (line_passes start world so_far.0 before between c.loop-line.is_ok supply mid so_far.2 line)
             so_far.3 c.in-Ok.ensures.images,
       );
       told = c.in-Ok.ensures.told;
@@ -75,27 +77,28 @@ pub returns-in-Err-clause-ends : goal.returns-in-Err-clause-ends
 returns-in-Err-clause-ends g c =
     let so_far = c.loop-line.invariant.ran in
     let line = c.in-Some.line.now in
-    let start = world_of c.args.moment.now c.args.store.now c.args.net.now in
-    let world = world_of c.loop-line.moment c.loop-line.store c.loop-line.net in
+    let start = world_of c.args.moment.now c.args.store.now c.args.callers.now c.args.net.now in
+    let world = world_of c.loop-line.moment c.loop-line.store c.loop-line.callers c.loop-line.net in
+    let supply = supply_of c.args.callers.now.spare.word (g.R.Random.words c.args.random.now) in
+    let mid = supply_of c.loop-line.callers.spare.word (g.R.Random.words c.loop-line.random) in
     let before = outside_of g.O.Sink g.K.Kernel c.args.out.now c.args.kernel.now in
     let between = outside_of g.O.Sink g.K.Kernel c.loop-line.out c.loop-line.kernel in
     let parts : c.args.lines.now ≡ so_far.0 ++ line ∷ c.in-Some.others.now =
     so_far.1 ∙ ap (λ rest. so_far.0 ++ rest) c.in-Some.ensures.cases.0 in
-    let folder = folder_of c.loop-line.store in
     let stays = c.loop-line.invariant.stays in
     stops_in start c.args.lines.now so_far.0 line c.in-Some.others.now parts world
-    (world_of c.carry_out.new.moment c.carry_out.new.store c.carry_out.new.net) before between
-    (outside_of g.O.Sink g.K.Kernel c.carry_out.new.out c.carry_out.new.kernel)
+    (world_of c.carry_out.new.moment c.carry_out.new.store c.carry_out.new.callers c.carry_out.new.net)
+    supply mid (supply_of c.carry_out.new.callers.spare.word (g.R.Random.words c.carry_out.new.random))
+    before between (outside_of g.O.Sink g.K.Kernel c.carry_out.new.out c.carry_out.new.kernel)
     c.loop-line.is_ok so_far.2
-    (λ front. StaysOrStops c.args.store.now g.D.Disk.view c.args.files.now c.carry_out.new.files
-    (script_passes c.args.moment.now (folder_of c.args.store.now) front))
+    (λ front. StaysOrStopsIn c.args.store.now g.D.Disk.view c.args.files.now c.carry_out.new.files
+    (ScriptPasses start supply front))
     (images_join g.D.Disk.view c.args.store.now c.loop-line.store c.args.files.now c.loop-line.files
-    c.carry_out.new.files (script_passes c.args.moment.now (folder_of c.args.store.now) so_far.0)
-    (files_moved c.loop-line.moment folder (line_of line.words)).passes
-    (script_passes c.args.moment.now (folder_of c.args.store.now) (so_far.0 ++ line ∷ []))
+    c.carry_out.new.files (ScriptPasses start supply so_far.0) (LinePasses world line)
+    (ScriptPasses start supply (so_far.0 ++ line ∷ []))
     stays.same (stays.files.ready (stays.ready (λ e. cc e)))
-    (front_among c.args.moment.now (folder_of c.args.store.now) so_far.0 (line ∷ []))
-    (line_follows start world so_far.0 before between c.loop-line.is_ok so_far.2 line)
+    (front_passes start supply so_far.0 (line ∷ []) (so_far.0 ++ line ∷ []) refl)
+    (line_passes start world so_far.0 before between c.loop-line.is_ok supply mid so_far.2 line)
     so_far.3 c.in-Err.ensures.images)
     (g.D.Disk.view c.args.files.now).faults (g.T.Disk.view c.args.staged.now).faults
     (g.D.Disk.view c.loop-line.files).faults (g.D.Disk.view c.carry_out.new.files).faults
@@ -114,37 +117,42 @@ returns-in-Err-clause-images g c =
     let so_far = c.loop-line.invariant.ran in
     let line = c.in-Some.line.now in
     let others = c.in-Some.others.now in
-    let start = world_of c.args.moment.now c.args.store.now c.args.net.now in
-    let world = world_of c.loop-line.moment c.loop-line.store c.loop-line.net in
+    let start = world_of c.args.moment.now c.args.store.now c.args.callers.now c.args.net.now in
+    let world = world_of c.loop-line.moment c.loop-line.store c.loop-line.callers c.loop-line.net in
+    let supply = supply_of c.args.callers.now.spare.word (g.R.Random.words c.args.random.now) in
+    let mid = supply_of c.loop-line.callers.spare.word (g.R.Random.words c.loop-line.random) in
     let before = outside_of g.O.Sink g.K.Kernel c.args.out.now c.args.kernel.now in
     let between = outside_of g.O.Sink g.K.Kernel c.loop-line.out c.loop-line.kernel in
-    let now = c.args.moment.now in
-    let first = folder_of c.args.store.now in
     let all : (so_far.0 ++ line ∷ []) ++ others ≡ c.args.lines.now =
     append_assoc so_far.0 (line ∷ []) others
     ∙ sym (so_far.1 ∙ ap (λ rest. so_far.0 ++ rest) c.in-Some.ensures.cases.0) in
     let stays = c.loop-line.invariant.stays in
     images_join g.D.Disk.view c.args.store.now c.loop-line.store c.args.files.now c.loop-line.files
-    c.carry_out.new.files (script_passes now first so_far.0)
-    (files_moved c.loop-line.moment (folder_of c.loop-line.store) (line_of line.words)).passes
-    (script_passes now first c.args.lines.now) stays.same (stays.files.ready (stays.ready (λ e. cc e)))
-    (λ found h. reached now first (so_far.0 ++ line ∷ []) others c.args.lines.now all found
-    (front_among now first so_far.0 (line ∷ []) found h))
-    (λ found h. reached now first (so_far.0 ++ line ∷ []) others c.args.lines.now all found
-    (line_follows start world so_far.0 before between c.loop-line.is_ok so_far.2 line found h))
+    c.carry_out.new.files (ScriptPasses start supply so_far.0) (LinePasses world line)
+    (ScriptPasses start supply c.args.lines.now) stays.same (stays.files.ready (stays.ready (λ e. cc e)))
+    (λ found h. front_passes start supply (so_far.0 ++ line ∷ []) others c.args.lines.now all found
+    (front_passes start supply so_far.0 (line ∷ []) (so_far.0 ++ line ∷ []) refl found h))
+    (λ found h. front_passes start supply (so_far.0 ++ line ∷ []) others c.args.lines.now all found
+    (line_passes start world so_far.0 before between c.loop-line.is_ok supply mid so_far.2 line found h))
     so_far.3 c.in-Err.ensures.images
 
 pub returns-clause-ends : goal.returns-clause-ends
 returns-clause-ends g c =
     let so_far = c.loop-line.invariant.ran in
+    let start = world_of c.args.moment.now c.args.store.now c.args.callers.now c.args.net.now in
+    let supply = supply_of c.args.callers.now.spare.word (g.R.Random.words c.args.random.now) in
     let all = all_done c.args.lines.now so_far.0 c.loop-line.rest.now so_far.1 c.in_default.ensures.cases in (
-      subst (λ lines. Ran (world_of c.args.moment.now c.args.store.now c.args.net.now) lines
-          (world_of c.loop-line.moment c.loop-line.store c.loop-line.net)
+      subst (λ lines. Ran start lines
+          (world_of c.loop-line.moment c.loop-line.store c.loop-line.callers c.loop-line.net)
+          (record {
+            before = supply;
+            after = supply_of c.loop-line.callers.spare.word (g.R.Random.words c.loop-line.random);
+          })
           (outside_of g.O.Sink g.K.Kernel c.args.out.now c.args.kernel.now)
           (outside_of g.O.Sink g.K.Kernel c.loop-line.out c.loop-line.kernel) c.loop-line.is_ok)
           all so_far.2,
-      subst (λ lines. StaysOrStops c.args.store.now g.D.Disk.view c.args.files.now c.loop-line.files
-          (script_passes c.args.moment.now (folder_of c.args.store.now) lines)) all so_far.3,
+      subst (λ lines. StaysOrStopsIn c.args.store.now g.D.Disk.view c.args.files.now c.loop-line.files
+          (ScriptPasses start supply lines)) all so_far.3,
     )
 
 pub returns-clause-disks : goal.returns-clause-disks
@@ -156,6 +164,8 @@ returns-clause-disks g c =
 pub returns-clause-images : goal.returns-clause-images
 returns-clause-images g c =
     let so_far = c.loop-line.invariant.ran in
-    subst (λ lines. StaysOrStops c.args.store.now g.D.Disk.view c.args.files.now c.loop-line.files
-    (script_passes c.args.moment.now (folder_of c.args.store.now) lines))
+    let start = world_of c.args.moment.now c.args.store.now c.args.callers.now c.args.net.now in
+    let supply = supply_of c.args.callers.now.spare.word (g.R.Random.words c.args.random.now) in
+    subst (λ lines. StaysOrStopsIn c.args.store.now g.D.Disk.view c.args.files.now c.loop-line.files
+    (ScriptPasses start supply lines))
     (all_done c.args.lines.now so_far.0 c.loop-line.rest.now so_far.1 c.in_default.ensures.cases) so_far.3

@@ -1,14 +1,14 @@
 use Rattle.std.proofs.Common.{◌≡◌, ◌++◌, List, [], length}
 use Rattle.std.specs.Prelude.{Ok}
 use Rattle.uci_text.specs.declared.line.Line.{Line}
-use Rattle.uci_tool.specs.Folder.{folder_of}
-use Rattle.uci_tool.specs.Stops.{StaysOrStops}
 use Rattle.net_rules.specs.Moment.{want_of}
 use Rattle.net_settle.specs.Outside.{outside_of}
 use Rattle.step_net.specs.Finished.{HoldsOrFailed}
 use Rattle.net_plane.specs.Network.{IsOf}
-use Rattle.plane_step.specs.World.{world_of}
-use Rattle.plane_step.specs.FilesMoved.{script_passes}
+use Rattle.local_objects.specs.Passed.{StaysOrStopsIn}
+use Rattle.bus_lines.specs.Words.{supply_of}
+use Rattle.bus_lines.specs.Ended.{world_of}
+use Rattle.plane_step.specs.ScriptPasses.{ScriptPasses}
 use Rattle.plane_step.specs.Kept.{StaysOn}
 use Rattle.plane_step.specs.Ran.{Ran}
 use Rattle.plane_step.proofs.script.run_lines.Given as goal
@@ -17,11 +17,17 @@ use Rattle.plane_step.proofs.script.run_lines.Given as goal
 abbrev pub invariant-loop-line : goal.invariant-loop-line
 invariant-loop-line g l = record {
   ran : (done : List Line) × (l.fn.lines ≡ done ++ l.rest)
-      × Ran (world_of l.fn.moment l.fn.store l.fn.net) done (world_of l.moment l.store l.net)
+      × Ran (world_of l.fn.moment l.fn.store l.fn.callers l.fn.net) done
+      (world_of l.moment l.store l.callers l.net)
+      (record {
+        before = supply_of l.fn.callers.spare.word (g.R.Random.words l.fn.random);
+        after = supply_of l.callers.spare.word (g.R.Random.words l.random);
+      })
       (outside_of g.O.Sink g.K.Kernel l.fn.out l.fn.kernel)
       (outside_of g.O.Sink g.K.Kernel l.out l.kernel) l.is_ok
-      × StaysOrStops l.fn.store g.D.Disk.view l.fn.files l.files
-      (script_passes l.fn.moment (folder_of l.fn.store) done);
+      × StaysOrStopsIn l.fn.store g.D.Disk.view l.fn.files l.files
+      (ScriptPasses (world_of l.fn.moment l.fn.store l.fn.callers l.fn.net)
+      (supply_of l.fn.callers.spare.word (g.R.Random.words l.fn.random)) done);
   told : l.net.notices ≡ [];
   of : IsOf g.K.Kernel l.kernel l.net;
   stays : StaysOn {X = Unit {0}} (Ok (tt {0})) l.fn.store l.store (g.D.Disk.view l.fn.files)
