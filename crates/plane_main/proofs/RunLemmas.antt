@@ -11,7 +11,7 @@ use Rattle.plane_main.specs.declared.ending.Ending.TheVariants as ending
 use Rattle.net_settle.specs.Outside.{Outside}
 use Rattle.plane_main.specs.Outside.{Input, ErrorOutput, Seen, stream_of_input}
 use Rattle.plane_main.specs.Command.{AskFor, IsPageCommand}
-use Rattle.plane_main.specs.Ending.{IsTold}
+use Rattle.plane_main.specs.Ending.{IsTold, IsOfUci}
 use Rattle.plane_main.specs.Page.{PageEnds, PageComes}
 use Rattle.plane_main.specs.Uci.{UciEnds, UciComes}
 use Rattle.uci_run.proofs.ComesLemmas.{run_comes as uci_comes, memory_comes as uci_memory_comes}
@@ -20,9 +20,14 @@ use Rattle.plane_run.specs.declared.run_end.RunEnd.{RunEnd}
 use Rattle.plane_run.specs.Run.{RunEnds}
 use Rattle.plane_run.specs.Stops.{RunStops}
 use Rattle.plane_run.specs.Parts.{KeepsDisks}
-use Rattle.plane_main.specs.Script.{first_of, run_seen, ScriptEnds, ScriptComes}
+use Rattle.bus_access.specs.declared.acl.Acl.{Acl}
+use Rattle.bus_access.specs.declared.access_error.AclError.{AclError}
+use Rattle.bus_access.specs.Form.{acl_of}
+use Rattle.plane_main.specs.declared.run_words.RunAsked.{RunAsked}
+use Rattle.plane_main.specs.RunWords.{IsList, HasAcl}
+use Rattle.plane_main.specs.Script.{first_of, run_seen, ScriptEnds, ScriptComes, EndsWith, ComesWith, AskedEnds, ReadsAcl}
 use Rattle.plane_main.specs.Start.{StartComes}
-use Rattle.plane_main.specs.Run.{CommandEnds, CommandComes, Ends, of_command, of_no_command, of_unread_words, Comes}
+use Rattle.plane_main.specs.Run.{CommandEnds, CommandComes, Ends, of_command, of_no_command, of_unread_words, Comes, Devices, LeavesAlone}
 use Rattle.plane_main.proofs.StartLemmas.{start_comes}
 use Rattle.plane_main.proofs.WordLemmas.{command_one}
 
@@ -50,22 +55,26 @@ of_uci_comes words seen (ending.TooLong limit) cause = absurd cause
 of_uci_comes words seen (ending.Unreadable fault) cause = absurd cause
 of_uci_comes words seen (ending.OfRun end) cause = absurd cause
 
-of_run_comes : (moment : ℕ) (seen : Seen) (end : Ending) → ScriptEnds moment seen end → ScriptComes moment seen end
-of_run_comes moment seen (ending.OfRun end) cause = script_comes (run_seen moment seen) end cause.0
-of_run_comes moment seen ending.Done cause = absurd cause
-of_run_comes moment seen ending.WriteFailed cause = absurd cause
-of_run_comes moment seen ending.Usage cause = absurd cause
-of_run_comes moment seen ending.ReadFailed cause = absurd cause
-of_run_comes moment seen (ending.KernelFailed left) cause = absurd cause
-of_run_comes moment seen ending.OutOfMemory cause = absurd cause
-of_run_comes moment seen (ending.TooLong limit) cause = absurd cause
-of_run_comes moment seen (ending.Unreadable fault) cause = absurd cause
-of_run_comes moment seen (ending.OfUci status) cause = absurd cause
+of_run_comes : (moment : ℕ) (acl : Acl) (seen : Seen) (end : Ending) → ScriptEnds moment acl seen end → ScriptComes moment acl seen end
+of_run_comes moment acl seen (ending.OfRun end) cause = script_comes (run_seen moment acl seen) end cause.0
+of_run_comes moment acl seen ending.Done cause = absurd cause
+of_run_comes moment acl seen ending.WriteFailed cause = absurd cause
+of_run_comes moment acl seen ending.Usage cause = absurd cause
+of_run_comes moment acl seen ending.ReadFailed cause = absurd cause
+of_run_comes moment acl seen (ending.KernelFailed left) cause = absurd cause
+of_run_comes moment acl seen ending.OutOfMemory cause = absurd cause
+of_run_comes moment acl seen (ending.TooLong limit) cause = absurd cause
+of_run_comes moment acl seen (ending.Unreadable fault) cause = absurd cause
+of_run_comes moment acl seen (ending.OfUci status) cause = absurd cause
+
+with_comes : (is : Result Acl AclError) (moment : ℕ) (seen : Seen) (end : Ending) → EndsWith is moment seen end → ComesWith is moment seen end
+with_comes (Ok acl) moment seen end cause = of_run_comes moment acl seen end cause
+with_comes (Err why) moment seen end cause = cause
 
 command_comes : (command : Command) (seen : Seen) (end : Ending) → CommandEnds command seen end → CommandComes command seen end
 command_comes (Start devices) seen end cause = start_comes devices seen.input seen.before seen.after end cause
 command_comes (Uci words) seen end cause = of_uci_comes words seen end cause
-command_comes (Run asked) seen end cause = inl (of_run_comes asked.moment seen end cause)
+command_comes (Run asked) seen end cause = inl (with_comes (acl_of asked.acl) asked.moment seen end cause)
 command_comes (Show page) seen end cause = page_comes page seen.before seen.after end cause
 
 -- want of memory may come in place of each ending of a `start`
@@ -87,11 +96,87 @@ unread_comes words seen no_page (Run a) asked = inr refl
 unread_comes words seen no_page (Show page) asked = absurd (no_page (page, asked))
 
 -- why a run of a script ends so
-pub script_ends : (moment : ℕ) (seen : Seen) (end : RunEnd) (told : Ending) → told ≡ ending.OfRun end → RunEnds (run_seen moment seen) end
-    → RunStops (first_of moment seen) (stream_of_input seen.input) seen.folders.files_now
+pub script_ends : (asked : RunAsked) (acl : Acl) (seen : Seen) (end : RunEnd) (told : Ending) → acl_of asked.acl ≡ Ok acl → told ≡ ending.OfRun end
+    → RunEnds (run_seen asked.moment acl seen) end
+    → RunStops (first_of asked.moment acl seen) (stream_of_input seen.input) seen.folders.files_now
     → KeepsDisks seen.folders.files seen.folders.files_now seen.folders.staged seen.folders.staged_now
-    → ScriptEnds moment seen told
-script_ends moment seen end told is ends stops disks = subst (ScriptEnds moment seen) (sym is) (ends, stops, disks)
+    → AskedEnds asked seen told
+script_ends asked acl seen end told reads is ends stops disks =
+    subst (λ is. EndsWith is asked.moment seen told) (sym reads)
+    (subst (ScriptEnds asked.moment acl seen) (sym is) (ends, stops, disks))
+
+-- an access list that does not read
+no_list : (is : Result Acl AclError) (moment : ℕ) (seen : Seen) (told : Ending) → (IsList is → ⊥) → told ≡ ending.Usage → EndsWith is moment seen told
+no_list (Ok acl) moment seen told none is = absurd (none tt)
+no_list (Err why) moment seen told none is = is
+
+no_page_run : (words : List (List ℕ)) (asked : RunAsked) → AskFor words (Run asked) → IsPageCommand words → ⊥
+no_page_run words asked asks (page, shows) = absurd (cc (command_one words (Show page) (Run asked) shows asks))
+
+-- why a run ends whose access list was not read
+pub no_acl_ends : (words : List (List ℕ)) (asked : RunAsked) (seen : Seen) (rests : Type 0) (why told : Ending) → AskFor words (Run asked)
+    → ReadsAcl (acl_of asked.acl) (Err why) → told ≡ why → seen.after ≡ seen.before → rests → Ends words seen rests told
+no_acl_ends words asked seen rests ending.Usage told asks none is same still =
+    of_command (Run asked) asks (no_list (acl_of asked.acl) asked.moment seen told none is)
+no_acl_ends words asked seen rests ending.OutOfMemory told asks none is same still =
+    of_unread_words (no_page_run words asked asks) same still is
+no_acl_ends words asked seen rests ending.Done told asks none is same still = absurd none
+no_acl_ends words asked seen rests ending.WriteFailed told asks none is same still = absurd none
+no_acl_ends words asked seen rests ending.ReadFailed told asks none is same still = absurd none
+no_acl_ends words asked seen rests (ending.KernelFailed left) told asks none is same still = absurd none
+no_acl_ends words asked seen rests (ending.TooLong limit) told asks none is same still = absurd none
+no_acl_ends words asked seen rests (ending.Unreadable fault) told asks none is same still = absurd none
+no_acl_ends words asked seen rests (ending.OfUci status) told asks none is same still = absurd none
+no_acl_ends words asked seen rests (ending.OfRun end) told asks none is same still = absurd none
+
+-- a run whose access list reads
+pub has_acl : (asked : RunAsked) (acl : Acl) → acl_of asked.acl ≡ Ok acl → HasAcl asked
+has_acl asked acl reads = subst IsList (sym reads) tt
+
+-- which devices it leaves alone, and which one whose access list was not read
+module _ {S O K D T C : Type 0} (words : List (List ℕ)) (asked : RunAsked) (asks : AskFor words (Run asked)) where
+  pub run_alone : (before after : Devices S O K D T C) (end : RunEnd) (told : Ending) → HasAcl asked → told ≡ ending.OfRun end
+      → after.clock ≡ before.clock → LeavesAlone words told before after
+  run_alone before after end told has is clock = subst (λ e. LeavesAlone words e before after) (sym is) (record {
+    of_uci = λ h. absurd h;
+    of_run = λ h. (asked, asks);
+    input = λ none. absurd (none (Run asked) asks has);
+    out = λ early. absurd early;
+    out_unfilled = λ e. absurd (cc e);
+    out_unasked = λ none. absurd (none (Run asked, asks, tt));
+    kernel = λ early. absurd early;
+    kernel_unasked = λ none. absurd (none (Run asked) asks has);
+    files = λ none. absurd (none (Run asked) asks has);
+    staged = λ none. absurd (none (Run asked) asks has);
+    clock = λ none. clock;
+  })
+
+  pub no_acl_alone : (all : Devices S O K D T C) (why told : Ending) → ReadsAcl (acl_of asked.acl) (Err why) → told ≡ why → LeavesAlone words told all all
+  no_acl_alone all why told none is = subst (λ e. LeavesAlone words e all all) (sym is) (record {
+    of_uci = λ h. absurd (not_of_uci why none h);
+    of_run = λ h. (asked, asks);
+    input = λ h. refl;
+    out = λ h. refl;
+    out_unfilled = λ h. refl;
+    out_unasked = λ h. refl;
+    kernel = λ h. refl;
+    kernel_unasked = λ h. refl;
+    files = λ h. refl;
+    staged = λ h. refl;
+    clock = λ h. refl;
+  })
+    where
+      not_of_uci : (e : Ending) → ReadsAcl (acl_of asked.acl) (Err e) → IsOfUci e → ⊥
+      not_of_uci (ending.OfUci status) none h = none
+      not_of_uci ending.Usage none h = h
+      not_of_uci ending.OutOfMemory none h = h
+      not_of_uci ending.Done none h = h
+      not_of_uci ending.WriteFailed none h = h
+      not_of_uci ending.ReadFailed none h = h
+      not_of_uci (ending.KernelFailed left) none h = h
+      not_of_uci (ending.TooLong limit) none h = h
+      not_of_uci (ending.Unreadable fault) none h = h
+      not_of_uci (ending.OfRun end) none h = h
 
 pub run_comes : (words : List (List ℕ)) (seen : Seen) (rests : Type 0) (end : Ending) → Ends words seen rests end → Comes words seen end
 run_comes words seen rests end (of_command command asked cause) = record {

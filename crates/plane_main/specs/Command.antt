@@ -11,7 +11,7 @@ use Rattle.plane_main.specs.declared.run_words.RunAsked.{RunAsked}
 use Rattle.plane_main.specs.declared.command.Command.{Command}
 use Rattle.plane_main.specs.declared.command.Command.TheVariants.{Start, Uci, Run, Show}
 use Rattle.plane_main.specs.declared.command.TheConstants.{MOST_DEVICES}
-use Rattle.plane_main.specs.RunWords.{run_of}
+use Rattle.plane_main.specs.RunWords.{run_of, HasAcl}
 
 -- the words are `start` and names of devices, at least one and not too many, each once and none of the form X.N
 pub record IsStart (words devices : List (List ℕ)) : Type 0 where
@@ -64,21 +64,21 @@ IsPageCommand words = (page : Page) × AskFor words (Show page)
 abbrev pub ReadsInput : Command → Type 0
 ReadsInput (Start devices) = ⊤
 ReadsInput (Uci words) = reads words ≡ true
-ReadsInput (Run asked) = ⊤
+ReadsInput (Run asked) = HasAcl asked
 ReadsInput (Show page) = ⊥
 
 -- the command calls the kernel
 abbrev pub CallsKernel : Command → Type 0
 CallsKernel (Start devices) = ⊤
 CallsKernel (Uci words) = ⊥
-CallsKernel (Run asked) = ⊤
+CallsKernel (Run asked) = HasAcl asked
 CallsKernel (Show page) = ⊥
 
 -- the command opens the folders of packages and of staged changes
 abbrev pub OpensFolders : Command → Type 0
 OpensFolders (Start devices) = ⊥
 OpensFolders (Uci words) = asks words ≡ true
-OpensFolders (Run asked) = ⊤
+OpensFolders (Run asked) = HasAcl asked
 OpensFolders (Show page) = ⊥
 
 -- the command asks the clock for its moment
@@ -87,6 +87,13 @@ AsksClock (Start devices) = ⊥
 AsksClock (Uci words) = asks words ≡ true
 AsksClock (Run asked) = ⊥
 AsksClock (Show page) = ⊥
+
+-- the command makes sessions, with the words of the random source
+abbrev pub MakesSessions : Command → Type 0
+MakesSessions (Start devices) = ⊥
+MakesSessions (Uci words) = ⊥
+MakesSessions (Run asked) = HasAcl asked
+MakesSessions (Show page) = ⊥
 
 -- the words ask for no command of this kind
 abbrev pub AskForNone : (Command → Type 0) → List (List ℕ) → Type 0

@@ -1,5 +1,8 @@
 -- Where the real devices of a command are.
-use Rattle.std.specs.Prelude.{ℕ, ◌≡◌, List, [], Option, Some, None, codes, unwrap_or, if◌then◌else◌}
+use Rattle.std.specs.Prelude.{ℕ, ◌≡◌, List, [], Option, Some, None, codes, unwrap_or, if◌then◌else◌, Result, Ok, Err}
+use Rattle.bus_access.specs.declared.acl.Acl.{Acl}
+use Rattle.bus_access.specs.declared.access_error.AclError.{AclError}
+use Rattle.bus_access.specs.Form.{acl_of}
 use Rattle.uci_words.specs.declared.options.Options.{Options}
 use Rattle.uci_words.specs.declared.command.Command.{Command}
 use Rattle.uci_words.specs.Command.{reads_input}
@@ -30,9 +33,13 @@ folders_of options (Some command) locations = Some (named_by options command loc
 abbrev pub folders : List (List ℕ) → Locations → Option Locations
 folders words locations = let asked = asked_of words in folders_of asked.options asked.command locations
 
--- the folders of a run of a script
+-- the folders of a run of a script; it opens none where its access list does not read
+abbrev pub folders_with : Result Acl AclError → RunAsked → Locations → Locations
+folders_with (Ok acl) asked locations = record locations { files = asked.files; staged = asked.staged }
+folders_with (Err why) asked locations = locations
+
 abbrev pub folders_of_run : RunAsked → Locations → Locations
-folders_of_run asked locations = record locations { files = asked.files; staged = asked.staged }
+folders_of_run asked = folders_with (acl_of asked.acl) asked
 
 abbrev pub places_of : Asking → Locations
 places_of (Start devices) = nowhere

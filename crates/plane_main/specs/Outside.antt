@@ -5,6 +5,7 @@ use Rattle.plane_io.specs.declared.source.Source.{Ghosts as SourceMembers}
 use Rattle.plane_io.specs.declared.sink.Sink.{Ghosts as SinkMembers}
 use Rattle.net_settle.specs.Outside.{Outside}
 use Rattle.uci_tool.specs.Ends.{Stream, Streams}
+use Rattle.bus_lines.specs.Words.{Supply}
 
 -- the input: what was left before and is left now, where the source tells, and its counts of faults then and now
 pub record Input : Type 0 where
@@ -34,13 +35,15 @@ pub record Folders : Type 1 where
   pub staged_now : View
   pub moments : Option (ℕ → ℕ)
 
--- all of it: the input; the output and the kernel before and now; the error output; the folders
+-- all of it: the input; the output and the kernel before and now; the error output; the folders; and what the random source told that it
+-- would give
 pub record Seen : Type 1 where
   pub input : Input
   pub before : Outside
   pub after : Outside
   pub errors : ErrorOutput
   pub folders : Folders
+  pub random : Supply
 
 -- the streams alone, as a run of `uci` sees them
 abbrev pub stream_of_input : Input → Stream

@@ -10,14 +10,14 @@ use Rattle.plane_main.specs.Command.{AskFor, IsCommand, IsForUci, IsInTable, IsP
 use Rattle.plane_main.specs.Ending.{status_of, text_of, IsTold, IsOfUci, IsOfRun, IsEarly, OrLacksMemory}
 use Rattle.plane_main.specs.Start.{StartEnds, StartComes}
 use Rattle.plane_main.specs.Uci.{UciEnds, UciComes}
-use Rattle.plane_main.specs.Script.{ScriptEnds, ScriptComes}
+use Rattle.plane_main.specs.Script.{AskedEnds, AskedComes}
 use Rattle.plane_main.specs.Page.{PageEnds, PageComes}
 
 -- why a run of a command ends so, and what it leaves
 abbrev pub CommandEnds : Command → Seen → Ending → Type 0
 CommandEnds (Start devices) seen end = StartEnds devices seen.input seen.before seen.after end
 CommandEnds (Uci words) seen end = UciEnds words seen end
-CommandEnds (Run asked) seen end = ScriptEnds asked.moment seen end
+CommandEnds (Run asked) seen end = AskedEnds asked seen end
 CommandEnds (Show page) seen end = PageEnds page seen.before seen.after end
 
 -- when a run of a command ends so
@@ -25,7 +25,7 @@ abbrev pub CommandComes : Command → Seen → Ending → Type 0
 CommandComes (Start devices) seen end =
     StartComes devices seen.input seen.before seen.after end
 CommandComes (Uci words) seen end = UciComes words seen end
-CommandComes (Run asked) seen end = OrLacksMemory (ScriptComes asked.moment seen end) end
+CommandComes (Run asked) seen end = OrLacksMemory (AskedComes asked seen end) end
 CommandComes (Show page) seen end = PageComes seen.before seen.after end
 
 -- why a run ends so, and what it leaves, where `rests` says that the input, the disks and the clock are the values that they were
@@ -34,7 +34,7 @@ pub data Ends (words : List (List ℕ)) (seen : Seen) (rests : Type 0) (end : En
   of_command : (command : Command) → AskFor words command → CommandEnds command seen end → Ends words seen rests end
   -- they ask for none
   of_no_command : (IsCommand words → ⊥) → end ≡ ending.Usage → Ends words seen rests end
-  -- memory was lacking while they were read, which takes none for a page
+  -- memory was lacking while they were read, the access list of a run too, which takes none for a page
   of_unread_words : (IsPageCommand words → ⊥) → seen.after ≡ seen.before → rests → end ≡ ending.OutOfMemory → Ends words seen rests end
 
 -- when a run ends so

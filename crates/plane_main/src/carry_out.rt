@@ -2,6 +2,7 @@ ghost use Rattle.std.specs.Prelude.{◌≡◌, map, string_bytes};
 ghost use Rattle.net_settle.specs.Outside.{outside_of};
 ghost use Rattle.net_start.specs.BringUp.{IsBare};
 ghost use Rattle.plane_main.specs.Outside.{input_of, errors_of};
+ghost use Rattle.plane_main.specs.Command.{AskForNone, MakesSessions};
 ghost use Rattle.plane_main.specs.Ending.{status_of, text_of, IsTold, IsOfUci};
 ghost use Rattle.plane_main.specs.Run.{Ends, LeavesAlone};
 
@@ -9,17 +10,18 @@ use crate::command::{Command, read_command};
 use crate::ending::Ending;
 use crate::page::show;
 use crate::report::report;
+use crate::script::read_acl;
 use crate::start::start;
 use kern_model::Kernel;
 use plane_disk::Disk;
 use plane_io::{Sink, Source};
-use plane_outside::Clock;
+use plane_outside::{Clock, Random};
 use plane_run::run_script;
 use std::alloc::Global;
 use uci_run::run_uci;
 
 /// Carries the command out that the words ask for, and tells how it ended.
-pub fn carry_out<S: Source, O: Sink, E: Sink, D: Disk, T: Disk, K: Kernel, C: Clock>(
+pub fn carry_out<S: Source, O: Sink, E: Sink, D: Disk, T: Disk, K: Kernel, C: Clock, R: Random>(
     alloc: Global,
     words: &[String],
     input: &mut S,
@@ -29,6 +31,7 @@ pub fn carry_out<S: Source, O: Sink, E: Sink, D: Disk, T: Disk, K: Kernel, C: Cl
     staged: &mut T,
     kernel: &mut K,
     clock: &mut C,
+    random: &mut R,
 ) -> Ending
     requires bare { IsBare K.Kernel kernel.old }
     requires same_packages { (T.view staged.old).names ≡ (D.view files.old).names }
@@ -44,6 +47,7 @@ pub fn carry_out<S: Source, O: Sink, E: Sink, D: Disk, T: Disk, K: Kernel, C: Cl
         staged_now = T.view staged.new;
         moments = C.moments clock.old;
       };
+      random = R.words random.old;
     }) ((input.new ≡ input.old) × (files.new ≡ files.old)
         × (staged.new ≡ staged.old) × (clock.new ≡ clock.old)) result }
     ensures told { (IsOfUci result → ⊥)
@@ -66,6 +70,8 @@ pub fn carry_out<S: Source, O: Sink, E: Sink, D: Disk, T: Disk, K: Kernel, C: Cl
           staged = staged.new;
           clock = clock.new;
         }) }
+    ensures random { AskForNone MakesSessions (map string_bytes words.now) →
+        random.new ≡ random.old }
 {
     let command = match read_command(alloc, words) {
         Ok(Some(command)) => command,
@@ -83,7 +89,21 @@ pub fn carry_out<S: Source, O: Sink, E: Sink, D: Disk, T: Disk, K: Kernel, C: Cl
             Ending::OfUci { status }
         }
         Command::Run { asked } => {
-            let end = run_script(alloc, asked.moment, input, out, files, staged, kernel);
+            let acl = match read_acl(alloc, asked.acl.as_bytes()) {
+                Ok(acl) => acl,
+                Err(ending) => return report(ending, err),
+            };
+            let end = run_script(
+                alloc,
+                asked.moment,
+                acl,
+                input,
+                out,
+                files,
+                staged,
+                kernel,
+                random,
+            );
             report(Ending::OfRun { end }, err)
         }
         Command::Show(page) => report(show(page, out), err),

@@ -10,6 +10,7 @@ mod page;
 mod program;
 mod report;
 mod run_words;
+mod script;
 mod start;
 mod texts;
 
@@ -18,4 +19,4 @@ pub use laws::{named_numbers, one_command, one_network};
 pub use locations::{Locations, places};
 pub use page::Page;
 pub use program::{lack_memory, plane};
-pub use run_words::{RunAsked, STAGED_FOLDER};
+pub use run_words::{EMPTY_ACL, RunAsked, STAGED_FOLDER};

@@ -5,12 +5,13 @@ ghost use Rattle.plane_main.specs.Command.{IsInTable};
 
 use crate::command::{Command, read_command};
 use crate::run_words::RunAsked;
+use bus_access::{Acl, AclError};
 use plane_io::{Memory, Text};
 use std::alloc::Global;
 use uci_words::{Asked, Options, read_words};
 
 /// Where the real devices of a command are. `start` reads the standard input and has no places, and
-/// the pages about the program have none.
+/// the pages about the program have none, nor has a run whose access list does not read.
 #[derive(Debug, Drop)]
 pub struct Locations {
     /// The folder of the packages, empty where the command has none.
@@ -43,7 +44,7 @@ pub fn places(alloc: Global, words: &[String]) -> Result<Option<Locations>, Memo
     let nowhere = nowhere(alloc)?;
     match command {
         Command::Uci { words } => folders(alloc, words.as_slice(), nowhere),
-        Command::Run { asked } => Ok(Some(folders_of(asked, nowhere))),
+        Command::Run { asked } => Ok(Some(folders_of(alloc, asked, nowhere)?)),
         Command::Start { .. } | Command::Show(_) => Ok(Some(nowhere)),
     }
 }
@@ -62,14 +63,18 @@ fn nowhere(alloc: Global) -> Result<Locations, Memory>
     })
 }
 
-// Those of `run`.
-fn folders_of(asked: RunAsked, nowhere: Locations) -> Locations
-    ensures { result ≡ spec.folders_of_run asked nowhere }
+// Those of `run`, which opens none where its access list does not read.
+fn folders_of(alloc: Global, asked: RunAsked, nowhere: Locations) -> Result<Locations, Memory>
+    ensures { IfOk result (λ locations. locations ≡ spec.folders_of_run asked nowhere) }
 {
-    Locations {
-        files: asked.files,
-        staged: asked.staged,
-        ..nowhere
+    match Acl::read(alloc, asked.acl.as_bytes()) {
+        Ok(_) => Ok(Locations {
+            files: asked.files,
+            staged: asked.staged,
+            ..nowhere
+        }),
+        Err(AclError::Memory) => Err(Memory),
+        Err(_) => Ok(nowhere),
     }
 }
 

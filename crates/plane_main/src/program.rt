@@ -2,6 +2,7 @@ ghost use Rattle.std.specs.Prelude.{◌≡◌, map, string_bytes};
 ghost use Rattle.net_settle.specs.Outside.{outside_of};
 ghost use Rattle.net_start.specs.BringUp.{IsBare};
 ghost use Rattle.plane_main.specs.Outside.{input_of, errors_of};
+ghost use Rattle.plane_main.specs.Command.{AskForNone, MakesSessions};
 ghost use Rattle.plane_main.specs.Ending.{status_of, text_of, IsTold};
 ghost use Rattle.plane_main.specs.Run.{Ended, LeftAlone};
 
@@ -18,7 +19,8 @@ use std::alloc::Global;
 ///
 /// `start DEV..` reads a `network` text from the input, and brings its interfaces up on the devices of those names. `uci WORDS`
 /// carries OpenWrt's `uci` out over the packages of `files`, with the command line's changes in `staged`, at the moment of `clock`.
-/// `run -c DIR` carries the script of the input out over the packages of `files`, on a kernel that begins without devices.
+/// `run -c DIR` carries the script of the input out over the packages of `files`, on a kernel that begins without devices. Its sessions
+/// are made with the words of `random`.
 /// `--help` and `--version` print a page about the program. The words are without the name of the program. A device that the kernel
 /// does not take is absent. Status 8 is want of memory: then a `start` put no object and wrote nothing to the output, but may have added
 /// devices; of a `uci` that takes several steps the first ones may be done, and of a `run` the lines before the one that it came in.
@@ -51,6 +53,7 @@ pub fn plane<S: Source, O: Sink, E: Sink, D: Disk, T: Disk, K: Kernel, H: Hub, C
         staged_now = T.view staged.new;
         moments = C.moments clock.old;
       };
+      random = R.words random.old;
     }) ((input.new ≡ input.old) × (files.new ≡ files.old)
         × (staged.new ≡ staged.old) × (clock.new ≡ clock.old)) result }
 
@@ -72,12 +75,16 @@ pub fn plane<S: Source, O: Sink, E: Sink, D: Disk, T: Disk, K: Kernel, H: Hub, C
           staged = staged.new;
           clock = clock.new;
         }) }
-    ensures unused { (hub.new ≡ hub.old) × (random.new ≡ random.old) }
+    ensures unused { (hub.new ≡ hub.old)
+        × (AskForNone MakesSessions (map string_bytes words.now) → random.new ≡ random.old) }
 
     // With 0 nothing was written to the error output.
     ensures silent { result ≡ 0 → err.new ≡ err.old }
 {
-    carry_out(alloc, words, input, out, err, files, staged, kernel, clock).status()
+    carry_out(
+        alloc, words, input, out, err, files, staged, kernel, clock, random,
+    )
+    .status()
 }
 
 /// Ends a run before it began, for want of memory to read the words or to make the devices: tells so, and answers the

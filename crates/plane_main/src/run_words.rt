@@ -9,6 +9,9 @@ use std::alloc::Global;
 /// The folder of staged changes where no other is named.
 pub const STAGED_FOLDER: &[u8] = b"/tmp/.uci";
 
+/// The access list where no other is given: it has no record.
+pub const EMPTY_ACL: &[u8] = b"[]";
+
 /// What `run` is asked for.
 #[derive(Debug, Drop)]
 pub struct RunAsked {
@@ -16,6 +19,8 @@ pub struct RunAsked {
     pub files: Text,
     /// The folder of staged changes.
     pub staged: Text,
+    /// The access list of the message bus, as JSON.
+    pub acl: Text,
     /// The moment at which the folders are opened, in seconds.
     pub moment: u64,
 }
@@ -25,6 +30,7 @@ pub struct RunAsked {
 struct RunOptions {
     files: Option<Text>,
     staged: Option<Text>,
+    acl: Option<Text>,
     moment: Option<u64>,
 }
 
@@ -51,6 +57,7 @@ fn read_options(alloc: Global, words: &[String]) -> Result<Option<RunOptions>, M
     let mut given = RunOptions {
         files: None,
         staged: None,
+        acl: None,
         moment: None,
     };
     let mut rest = words;
@@ -90,6 +97,13 @@ fn with_option(
         let staged = Some(Text::from_bytes(alloc, value)?);
         return Ok(Some(RunOptions { staged, ..given }));
     }
+    if word == b"-a".as_slice() {
+        if given.acl.is_some() {
+            return Ok(None);
+        }
+        let acl = Some(Text::from_bytes(alloc, value)?);
+        return Ok(Some(RunOptions { acl, ..given }));
+    }
     if word != b"-w".as_slice() || given.moment.is_some() {
         return Ok(None);
     }
@@ -109,6 +123,7 @@ fn asked_by(alloc: Global, options: RunOptions) -> Result<Option<RunAsked>, Memo
     let RunOptions {
         files,
         staged,
+        acl,
         moment,
     } = options;
     let Some(files) = files else {
@@ -118,9 +133,14 @@ fn asked_by(alloc: Global, options: RunOptions) -> Result<Option<RunAsked>, Memo
         Some(staged) => staged,
         None => Text::from_bytes(alloc, STAGED_FOLDER)?,
     };
+    let acl = match acl {
+        Some(acl) => acl,
+        None => Text::from_bytes(alloc, EMPTY_ACL)?,
+    };
     Ok(Some(RunAsked {
         files,
         staged,
+        acl,
         moment: moment.unwrap_or(0),
     }))
 }

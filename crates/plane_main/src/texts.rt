@@ -41,8 +41,8 @@ link set dev eth1 up
 addr add 192.168.1.1/24 dev br-lan
 ask 1 interface wan dhcp eth1 {}
 
-run takes -t DIR, the folder of staged changes, /tmp/.uci where it is not given, and -w N, the moment in seconds, 0 where
-it is not. The lines of its script are
+run takes -t DIR, the folder of staged changes, /tmp/.uci where it is not given, -a JSON, the access list of its message
+bus, [] where it is not, and -w N, the moment in seconds, else 0. The lines of its script are
 
 at N                                the moment becomes N; an apply whose time is over is undone
 dev add NAME [CARRIER [MTU MAC]]    a device comes; dev del NAME, it leaves; carrier NAME 0|1
@@ -50,8 +50,10 @@ up NAME, down NAME, reload          an operator's commands
 answer NAME N JSON                  a handler answers the ask N of an interface; radio NAME N JSON, of a radio
 uci WORDS                           a command of uci
 status [interface|device|radio NAME]    what is to be seen, as JSON
+call SID OBJECT METHOD JSON         a method of a local object of the message bus is called, for a session or, with -, for none
+client K open USER GROUP            a client of that bus comes; client K bytes HEX, it sends these; client K close, it leaves
 
-Each line is answered by its calls, its asks, what it shows, and ok or error N TEXT.
+Each line is answered by what is sent to clients, its calls, its asks, what it shows or replies, and ok or error N TEXT.
 
 uci takes the options of OpenWrt's: -c DIR, the folder of packages, is /etc/config where it is not given, and -t DIR, that
 of staged changes, /tmp/.uci; -q is quiet, -n and -N tell whether export names anonymous sections, -X shows them by

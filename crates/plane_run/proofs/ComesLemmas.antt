@@ -6,10 +6,11 @@ use Rattle.snap_disk.specs.Opened.{IsWithin, PassesLimit}
 use Rattle.snap_disk.specs.Opening.{HasNoReading}
 use Rattle.uci_tool.specs.Folder.{Folder}
 use Rattle.net_settle.specs.Outside.{Outside}
-use Rattle.plane_step.specs.World.{World}
-use Rattle.plane_step.specs.Ran.{DiskRose}
+use Rattle.bus_lines.specs.World.{World}
+use Rattle.plane_step.specs.Kept.{DiskRose}
 use Rattle.plane_run.specs.declared.run_end.RunEnd.{RunEnd}
 use Rattle.plane_run.specs.declared.run_end.RunEnd.TheVariants as end
+use Rattle.plane_run.specs.Opening.{world_of}
 use Rattle.plane_run.specs.Run as run
 use Rattle.plane_run.specs.Run.{Seen, Stage, WasCut, Finds, PassesSome, NotOpened, GoesOn, RunEnds, disks_of, stage_of}
 use Rattle.plane_run.specs.Comes.{IsCalm, IsFailure, IsLong, OrLacksMemory, RunComes}
@@ -29,35 +30,35 @@ calm_disks seen calm (inl rose) = calm_rose seen.first.files.faults seen.files_n
 calm_disks seen calm (inr rose) = calm_rose seen.first.staged.faults seen.staged_now.faults rose calm.at_staged
 
 -- the output that failed behind the opening was not calm
-cut_calm : (seen : Seen) (start : World) (folder : Folder) (between : Outside)
-    → seen.first.before.out_faults ≤ between.out_faults → WasCut start (stage_of seen folder between)
+cut_calm : (seen : Seen) (start : World) (between : Outside)
+    → seen.first.before.out_faults ≤ between.out_faults → WasCut start (stage_of seen start between)
     → IsCalm seen → ⊥
-cut_calm seen start folder between first (run.in_answer line read left objects rose held) calm =
+cut_calm seen start between first (run.in_answer line read left objects rose held) calm =
     still_rose seen.first.before.out_faults between.out_faults seen.after.out_faults first rose calm.at_output
-cut_calm seen start folder between first (WasCut.in_line now stops held) calm =
+cut_calm seen start between first (WasCut.in_line now stops held) calm =
     let later = stops.stops.ran.left.later in
     still_rose seen.first.before.out_faults stops.stops.between.out_faults seen.after.out_faults
     (omega (arith, first, later)) stops.stops.stops.cause calm.at_output
 
-goes_calm : (seen : Seen) (start : World) (folder : Folder) (between : Outside) (ending : RunEnd)
+goes_calm : (seen : Seen) (start : World) (between : Outside) (ending : RunEnd)
     → seen.first.before.out_faults ≤ between.out_faults
-    → GoesOn start (stage_of seen folder between) ending
+    → GoesOn start (stage_of seen start between) ending
     → (run.IsKernelFailed ending → Rose seen.first.before.kernel_faults seen.after.kernel_faults)
     → IsCalm seen → IsFailure ending → ⊥
-goes_calm seen start folder between end.ReadFailed first goes due calm failure =
+goes_calm seen start between end.ReadFailed first goes due calm failure =
     calm_rose seen.input.faults seen.input.faults_now goes.0 calm.at_input
-goes_calm seen start folder between end.WriteFailed first goes due calm failure =
-    cut_calm seen start folder between first goes calm
-goes_calm seen start folder between end.DiskFailed first goes due calm failure =
+goes_calm seen start between end.WriteFailed first goes due calm failure =
+    cut_calm seen start between first goes calm
+goes_calm seen start between end.DiskFailed first goes due calm failure =
     calm_disks seen calm goes.stops.stops.cause
-goes_calm seen start folder between (end.KernelFailed left) first goes due calm failure =
+goes_calm seen start between (end.KernelFailed left) first goes due calm failure =
     calm_rose seen.first.before.kernel_faults seen.after.kernel_faults (due tt) calm.at_kernel
-goes_calm seen start folder between end.Done first goes due calm failure = failure
-goes_calm seen start folder between end.Refused first goes due calm failure = failure
-goes_calm seen start folder between end.OutOfMemory first goes due calm failure = failure
-goes_calm seen start folder between (end.Unreadable row_package fault) first goes due calm failure = failure
-goes_calm seen start folder between (end.TooLong limit) first goes due calm failure = failure
-goes_calm seen start folder between (end.BadSnapshot byte) first goes due calm failure = failure
+goes_calm seen start between end.Done first goes due calm failure = failure
+goes_calm seen start between end.Refused first goes due calm failure = failure
+goes_calm seen start between end.OutOfMemory first goes due calm failure = failure
+goes_calm seen start between (end.Unreadable row_package fault) first goes due calm failure = failure
+goes_calm seen start between (end.TooLong limit) first goes due calm failure = failure
+goes_calm seen start between (end.BadSnapshot byte) first goes due calm failure = failure
 
 not_opened_calm : (seen : Seen) (ending : RunEnd) → NotOpened seen ending → IsCalm seen
     → IsFailure ending → ⊥
@@ -77,7 +78,7 @@ run_calm seen ending (run.not_opened why same as_found) calm failure = not_opene
 run_calm seen ending (run.cut_in_opening is folder found network wireless rows cut held) calm failure =
     calm_rose seen.first.before.out_faults seen.after.out_faults cut.cause calm.at_output
 run_calm seen ending (run.opened between opening goes due) calm failure =
-    goes_calm seen _ opening.folder between ending opening.left.later goes due calm failure
+    goes_calm seen (world_of seen.first between opening) between ending opening.left.later goes due calm failure
 
 -- ---- files that pass a limit
 

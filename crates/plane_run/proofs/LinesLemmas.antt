@@ -1,27 +1,26 @@
 -- Lines that are carried out, and how a run ends by them.
-use Rattle.std.proofs.Common.{arith, ℕ, zero, suc, ◌≡◌, ◌≤◌, inl, inr, Bool, true, false, cond, List, [], Option, refl, ap, sym, subst, ◌∙◌}
+use Rattle.std.proofs.Common.{arith, ℕ, zero, suc, ◌≡◌, ◌≤◌, inl, inr, Bool, true, false, cond, List, [], Option, Some, None, refl, ap, sym, subst, ◌∙◌}
 use Rattle.std.specs.Prelude.{◌≢◌, Err, nat_lt}
 use Rattle.std.proofs.lemmas.Bool.Decides.{nat_tests}
 use Rattle.plane_words.specs.Causes.{Rose}
 use Rattle.plane_words.specs.Growth.{Grows, GrowsByFront}
-use Rattle.plane_disk.specs.View.{View}
 use Rattle.kern_model.specs.Kernel.{Records}
 use Rattle.kern_model.specs.ObjectOrder.{Objects}
 use Rattle.kern_calls.specs.Due.{due_count}
 use Rattle.kern_calls.proofs.KeptLemmas.{same_if_none_due, none_due_if_same}
 use Rattle.uci_text.specs.declared.line.Line.{Line}
 use Rattle.uci_tool.specs.Ends.{Stream}
-use Rattle.uci_run.specs.Folders.{IsHeld}
 use Rattle.net_rules.specs.Moment.{want_of, devices_of}
 use Rattle.net_settle.specs.Outside.{Outside}
 use Rattle.step_net.specs.Effects.{Leaves}
 use Rattle.step_net.specs.Finished.{HoldsOrFailed}
 use Rattle.step_net.proofs.GrowthLemmas.{grows_none, records_none}
-use Rattle.plane_step.specs.declared.stop.Stop.{Stop}
-use Rattle.plane_step.specs.declared.stop.Stop.TheVariants as stop
-use Rattle.plane_step.specs.World.{World}
+use Rattle.plane_lines.specs.declared.stop.Stop.{Stop}
+use Rattle.plane_lines.specs.declared.stop.Stop.TheVariants as stop
+use Rattle.bus_lines.specs.World.{World}
+use Rattle.bus_lines.specs.Words.{Supply, Uses}
 use Rattle.plane_step.specs.Moved.{Moved}
-use Rattle.plane_step.specs.Ran.{DiskFaults, Ran, ScriptEnds}
+use Rattle.plane_step.specs.Ran.{Ran, ScriptEnds}
 use Rattle.plane_run.specs.declared.run_end.RunEnd.{RunEnd}
 use Rattle.plane_run.specs.declared.run_end.RunEnd.TheVariants as end
 use Rattle.plane_run.specs.declared.script.Script.TheVariants.{Lines, Bad}
@@ -45,55 +44,64 @@ by_due P is_ok (suc due) held wanted is some none =
     (sym (one_is_due due))
     (some (suc due) is (λ same. let zero_due = none_due_if_same held wanted same in let e = is in omega (arith, zero_due, e)))
 
+-- ---- random words
+
+-- none were used up
+pub uses_none : (supply : Supply) → Uses supply [] supply
+uses_none None = refl
+uses_none (Some words) = (words, refl, λ k. refl)
+
 -- ---- lines
 
 -- the lines ran to their end
-pub lines_ended : (start : World) (lines : List Line) (disks : DiskFaults) (Images : List Line → Type 0)
-    (files_now staged_now : View) (between after : Outside) (now : World) (is_ok : Bool) (due : ℕ)
-    → Ran start lines now between after is_ok → after.objects ≡ now.net.held
-    → after.devices ≡ devices_of now.net.inputs → IsHeld files_now staged_now now.files
-    → due ≡ due_count now.net.held (want_of now.net.inputs)
-    → LinesEnd start lines disks Images files_now staged_now between after (end_of is_ok due)
-lines_ended start lines disks Images files_now staged_now between after now is_ok due ran objects devices held is =
-    by_due (LinesEnd start lines disks Images files_now staged_now between after) is_ok due now.net.held
-    (want_of now.net.inputs) is
+pub lines_ended : (start : World) (lines : List Line) (stage : Stage) (after : Supply) (now : World)
+    (is_ok : Bool) (due : ℕ)
+    → Ran start lines now (record { before = stage.words; after = after }) stage.between stage.after
+    is_ok
+    → stage.after.objects ≡ now.net.held → stage.after.devices ≡ devices_of now.net.inputs
+    → Holds stage now.files → due ≡ due_count now.net.held (want_of now.net.inputs)
+    → LinesEnd start lines stage (end_of is_ok due)
+lines_ended start lines stage after now is_ok due ran objects devices held is =
+    by_due (LinesEnd start lines stage) is_ok due now.net.held (want_of now.net.inputs) is
     (λ left count some. ended is_ok ran (IsDue left) (
       subst (λ (w : World). due_count w.net.held (want_of w.net.inputs) ≡ left) ran.next (sym count),
       λ settled. some (subst (λ (w : World). w.net.held ≡ want_of w.net.inputs) (sym ran.next) settled),
     ))
     (λ same. by_ok is_ok ran same)
   where
-    ended : (b : Bool) (r : Ran start lines now between after b) (Ends : Moved → Type 0) → Ends r.end
-        → LinesEnded start lines files_now staged_now between after Ends
+    ended : (b : Bool) (r : Ran start lines now (record { before = stage.words; after = after }) stage.between stage.after b)
+        (Ends : Moved → Type 0) → Ends r.end → LinesEnded start lines stage Ends
     ended b r Ends ends = record {
       lucks = r.lucks;
       last = r.end;
       folds = r.folds;
+      words = after;
+      used = r.used;
       left = r.left;
       objects = objects ∙ ap (λ (w : World). w.net.held) r.next;
       devices = devices ∙ ap (λ (w : World). devices_of w.net.inputs) r.next;
-      held = subst (λ (w : World). IsHeld files_now staged_now w.files) r.next held;
+      held = subst (λ (w : World). Holds stage w.files) r.next held;
       ends = ends;
     }
 
-    by_ok : (b : Bool) (r : Ran start lines now between after b) → now.net.held ≡ want_of now.net.inputs
-        → LinesEnd start lines disks Images files_now staged_now between after (cond b end.Done end.Refused)
+    by_ok : (b : Bool) (r : Ran start lines now (record { before = stage.words; after = after }) stage.between stage.after b)
+        → now.net.held ≡ want_of now.net.inputs
+        → LinesEnd start lines stage (cond b end.Done end.Refused)
     by_ok true r same = ended true r IsDone
         (sym r.answer, subst (λ (w : World). w.net.held ≡ want_of w.net.inputs) r.next same)
     by_ok false r same = ended false r IsRefused
         (sym r.answer, subst (λ (w : World). w.net.held ≡ want_of w.net.inputs) r.next same)
 
 -- the lines stopped in one of them
-pub lines_stopped : (start : World) (lines : List Line) (disks : DiskFaults) (Images : List Line → Type 0)
-    (files_now staged_now : View) (between after : Outside) (now : World) (why : Stop)
-    → ScriptEnds start lines now disks Images between after (Err why)
-    → (why ≢ stop.DiskFailed → IsHeld files_now staged_now now.files)
-    → LinesEnd start lines disks Images files_now staged_now between after (end_of_stop why)
-lines_stopped start lines disks Images files_now staged_now between after now stop.WriteFailed ends held =
-    (now, ends, held (λ e. cc e))
-lines_stopped start lines disks Images files_now staged_now between after now stop.DiskFailed ends held = ends
-lines_stopped start lines disks Images files_now staged_now between after now stop.Memory ends held =
-    (now, ends, held (λ e. cc e))
+pub lines_stopped : (start : World) (lines : List Line) (stage : Stage) (after : Supply) (now : World)
+    (why : Stop)
+    → ScriptEnds start lines now stage.disks (record { before = stage.words; after = after })
+    stage.images stage.between stage.after (Err why)
+    → (why ≢ stop.DiskFailed → Holds stage now.files)
+    → LinesEnd start lines stage (end_of_stop why)
+lines_stopped start lines stage after now stop.WriteFailed ends held = (now, ends, held (λ e. cc e))
+lines_stopped start lines stage after now stop.DiskFailed ends held = ends
+lines_stopped start lines stage after now stop.Memory ends held = (now, ends, held (λ e. cc e))
 
 -- only objects that are due tell that the kernel failed
 pub due_ended : (is_ok : Bool) (due : ℕ) (held wanted objects : Objects) (faults faults_now : ℕ)
@@ -118,48 +126,32 @@ due_stopped stop.Memory faults faults_now h = absurd h
 
 -- ---- the run behind the opening
 
+ended_goes_on : (start : World) (stage : Stage) (lines : List Line) (Ends : Moved → Type 0)
+    → HasRead stage.input (Lines lines) → LinesEnded start lines stage Ends
+    → HasEnded start stage Ends
+ended_goes_on start stage lines Ends read h = record {
+  script = Lines lines;
+  read = read;
+  lucks = h.lucks;
+  last = h.last;
+  gives = carried_out lines h.lucks h.last h.folds;
+  words = h.words;
+  used = h.used;
+  left = h.left;
+  objects = h.objects;
+  devices = h.devices;
+  held = h.held;
+  ends = h.ends;
+}
+
 -- the lines of a script that was read
 pub lines_go_on : (start : World) (stage : Stage) (lines : List Line) (ending : RunEnd)
-    → HasRead stage.input (Lines lines)
-    → LinesEnd start lines stage.disks stage.images stage.files_now stage.staged_now stage.between stage.after
-    ending
+    → HasRead stage.input (Lines lines) → LinesEnd start lines stage ending
     → GoesOn start stage ending
-lines_go_on start stage lines end.Done read h = record {
-  script = Lines lines;
-  read = read;
-  lucks = h.lucks;
-  last = h.last;
-  gives = carried_out lines h.lucks h.last h.folds;
-  left = h.left;
-  objects = h.objects;
-  devices = h.devices;
-  held = h.held;
-  ends = h.ends;
-}
-lines_go_on start stage lines end.Refused read h = record {
-  script = Lines lines;
-  read = read;
-  lucks = h.lucks;
-  last = h.last;
-  gives = carried_out lines h.lucks h.last h.folds;
-  left = h.left;
-  objects = h.objects;
-  devices = h.devices;
-  held = h.held;
-  ends = h.ends;
-}
-lines_go_on start stage lines (end.KernelFailed left) read h = record {
-  script = Lines lines;
-  read = read;
-  lucks = h.lucks;
-  last = h.last;
-  gives = carried_out lines h.lucks h.last h.folds;
-  left = h.left;
-  objects = h.objects;
-  devices = h.devices;
-  held = h.held;
-  ends = h.ends;
-}
+lines_go_on start stage lines end.Done read h = ended_goes_on start stage lines IsDone read h
+lines_go_on start stage lines end.Refused read h = ended_goes_on start stage lines IsRefused read h
+lines_go_on start stage lines (end.KernelFailed left) read h =
+    ended_goes_on start stage lines (IsDue left) read h
 lines_go_on start stage lines end.WriteFailed read h =
     WasCut.in_line h.0 (record { lines = lines; read = read; stops = h.1 }) h.2
 lines_go_on start stage lines end.DiskFailed read h =
@@ -229,6 +221,8 @@ module _ (start : World) (stage : Stage) (line : ℕ) (read : HasRead stage.inpu
     lucks = [];
     last = answered start line;
     gives = refused line;
+    words = stage.words;
+    used = uses_none stage.words;
     left = sees (bad_answer line) written;
     objects = objects ∙ net;
     devices = devices ∙ present;

@@ -1,5 +1,5 @@
 -- The whole run.
-use Rattle.std.proofs.Common.{arith, ℕ, ◌≡◌, ◌≤◌, inl, inr, false, List, [], ◌∷◌, ◌++◌, Some, refl, ap, sym, subst, ◌∙◌}
+use Rattle.std.proofs.Common.{arith, ℕ, ◌≡◌, ◌≤◌, inl, inr, false, List, [], ◌∷◌, ◌++◌, Option, Some, None, refl, ap, sym, subst, ◌∙◌}
 use Rattle.std.specs.Prelude.{Ok, Err}
 use Rattle.plane_words.specs.Causes.{Rose, RoseBy}
 use Rattle.plane_disk.specs.Files.{Files}
@@ -20,48 +20,51 @@ use Rattle.uci_store.specs.Opening.{OpenRefuses}
 use Rattle.uci_store.specs.Store.{has_failed, IsOnFiles}
 use Rattle.uci_tool.specs.Ends.{Stream}
 use Rattle.uci_tool.specs.Folder.{folder_of}
-use Rattle.uci_tool.specs.Stops.{OpensAmong, StaysOrStops}
 use Rattle.uci_run.specs.Folders.{IsFound, IsHeld, StopsAsFound}
 use Rattle.net_rules.specs.Moment.{Moment, want_of}
 use Rattle.net_settle.specs.Outside.{Outside}
+use Rattle.net_reload.specs.Loaded.{network_name, wireless_name, IsLoaded}
 use Rattle.step_net.specs.Finished.{HoldsOrFailed}
-use Rattle.plane_step.specs.FilesMoved.{script_passes}
+use Rattle.bus_access.specs.declared.acl.Acl.{Acl}
+use Rattle.rpc_session.specs.SessionList.{SessionList}
+use Rattle.rpc_session.specs.Sessions.{start as first_sessions}
+use Rattle.script_clients.specs.Bus.{BusPart, begun}
+use Rattle.local_objects.specs.Passed.{OpensIn, StaysOrStopsIn}
+use Rattle.bus_lines.specs.World.{World}
+use Rattle.bus_lines.specs.Words.{Supply, supply_of}
 use Rattle.plane_step.specs.Moved.{Moved}
-use Rattle.plane_step.specs.Loaded.{network_name, wireless_name, IsLoaded}
-use Rattle.plane_step.specs.Ran.{DiskFaults, DiskRose, faults_of}
-use Rattle.plane_step.specs.World.{World}
+use Rattle.plane_step.specs.ScriptPasses.{ScriptPasses}
+use Rattle.plane_step.specs.Kept.{DiskFaults, DiskRose, faults_of}
 use Rattle.plane_run.specs.declared.run_end.RunEnd.{RunEnd}
 use Rattle.plane_run.specs.declared.run_end.RunEnd.TheVariants as end
 use Rattle.plane_run.specs.Opening.{First, start_world}
 use Rattle.plane_run.specs.Run as run
-use Rattle.plane_run.specs.Run.{Stage, Seen, HasEnded, IsAlone, WasCut, HasLacked, StopsInLine, GoesOn, IsKernelFailed, NotOpened, RunEnds, disks_of, stage_of}
-use Rattle.plane_run.specs.Stops.{ImagesOf, RunStops, ScriptStops}
+use Rattle.plane_run.specs.Run.{Stage, Seen, HasEnded, IsAlone, WasCut, HasLacked, StopsInLine, GoesOn, IsKernelFailed, NotOpened, RunEnds, disks_of}
+use Rattle.plane_run.specs.Stops.{ImagesOf, RunStops, ScriptStops, StoreStops}
 use Rattle.plane_run.specs.Parts as parts
-use Rattle.plane_run.specs.Parts.{OpensNet, RowsRefuse, RunsOver, KeepsDisks, shut_of}
+use Rattle.plane_run.specs.Parts.{OpensNet, RowsRefuse, Over, RunsOver, KeepsDisks, StillHolds, shut_of, folder_in, world_in, stage_in}
 
 -- ---- over an open store
 
 -- why the plane was not opened on rows that were loaded
-pub net_over : (X : Type 0) (now : ℕ) (store : Store) (input : Stream) (disks : DiskFaults)
-    (stays : Type 0) (Images : List Line → Type 0) (files_now staged_now : View) (before after : Outside) (network wireless : Package) (net : Moment)
-    (why : RunEnd) → IsLoaded (folder_of store) network_name network
-    → IsLoaded (folder_of store) wireless_name wireless
-    → OpensNet {X = X} network wireless net before after (Err why)
-    → stays → IsHeld files_now staged_now (folder_of store)
-    → RunsOver now store input disks stays Images files_now staged_now before after why
-net_over X now store input disks stays Images files_now staged_now before after network wireless net end.WriteFailed one two h still held =
+pub net_over : (X : Type 0) (over : Over) (network wireless : Package) (net : Moment) (why : RunEnd)
+    → IsLoaded (folder_in over) network_name network
+    → IsLoaded (folder_in over) wireless_name wireless
+    → OpensNet {X = X} network wireless net over.before over.after (Err why) → over.stays
+    → StillHolds over → RunsOver over why
+net_over X over network wireless net end.WriteFailed one two h still held =
     parts.cut refl network wireless (record { of_network = one; of_wireless = two; within = h.0 }) h.1 held
-net_over X now store input disks stays Images files_now staged_now before after network wireless net (end.TooLong limit) one two h still held =
+net_over X over network wireless net (end.TooLong limit) one two h still held =
     parts.too_long network wireless one two limit refl h.0 h.1 still held
-net_over X now store input disks stays Images files_now staged_now before after network wireless net end.OutOfMemory one two h still held =
+net_over X over network wireless net end.OutOfMemory one two h still held =
     parts.no_rows tt h still held
-net_over X now store input disks stays Images files_now staged_now before after network wireless net end.Done one two h still held = absurd h
-net_over X now store input disks stays Images files_now staged_now before after network wireless net end.Refused one two h still held = absurd h
-net_over X now store input disks stays Images files_now staged_now before after network wireless net end.ReadFailed one two h still held = absurd h
-net_over X now store input disks stays Images files_now staged_now before after network wireless net end.DiskFailed one two h still held = absurd h
-net_over X now store input disks stays Images files_now staged_now before after network wireless net (end.KernelFailed left) one two h still held = absurd h
-net_over X now store input disks stays Images files_now staged_now before after network wireless net (end.Unreadable row_package fault) one two h still held = absurd h
-net_over X now store input disks stays Images files_now staged_now before after network wireless net (end.BadSnapshot byte) one two h still held = absurd h
+net_over X over network wireless net end.Done one two h still held = absurd h
+net_over X over network wireless net end.Refused one two h still held = absurd h
+net_over X over network wireless net end.ReadFailed one two h still held = absurd h
+net_over X over network wireless net end.DiskFailed one two h still held = absurd h
+net_over X over network wireless net (end.KernelFailed left) one two h still held = absurd h
+net_over X over network wireless net (end.Unreadable row_package fault) one two h still held = absurd h
+net_over X over network wireless net (end.BadSnapshot byte) one two h still held = absurd h
 
 rose_on : (m a b c : ℕ) → RoseBy m a b → Rose b c → Rose a c
 rose_on m a b c first second = omega (arith, first, second)
@@ -90,42 +93,80 @@ due_over start stage (end.Unreadable row_package fault) m faults objects wanted 
 due_over start stage (end.TooLong limit) m faults objects wanted first (inr rose) due goes failed = absurd failed
 due_over start stage (end.BadSnapshot byte) m faults objects wanted first (inr rose) due goes failed = absurd failed
 
--- the plane was opened, and the run went on
-pub went_over : (now : ℕ) (store : Store) (input : Stream) (disks : DiskFaults)
-    (stays : Type 0) (Images : List Line → Type 0) (files_now staged_now : View) (before between after : Outside) (network wireless : Package)
-    (net : Moment) (ending : RunEnd) → IsLoaded (folder_of store) network_name network
-    → IsLoaded (folder_of store) wireless_name wireless
-    → OpensNet {X = Unit {0}} network wireless net before between (Ok (tt {0}))
-    → between.objects ≡ net.held
-    → HoldsOrFailed between.objects (want_of net.inputs) before.kernel_faults between.kernel_faults
-    → GoesOn (record { now = now; files = folder_of store; net = net }) (record {
-      input = input;
-      disks = disks;
-      files_now = files_now;
-      staged_now = staged_now;
-      images = Images;
-      between = between;
-      after = after;
-    }) ending
-    → (between.objects ≡ want_of net.inputs → IsKernelFailed ending
-    → Rose between.kernel_faults after.kernel_faults)
-    → RunsOver now store input disks stays Images files_now staged_now before after ending
-went_over now store input disks stays Images files_now staged_now before between after network wireless net ending one two opens objects holds goes due =
-    let stage : Stage = record {
-      input = input;
-      disks = disks;
-      files_now = files_now;
-      staged_now = staged_now;
-      images = Images;
-      between = between;
-      after = after;
-    } in
-    let is = opens.1 in
-    parts.opened between network wireless (record { of_network = one; of_wireless = two; within = opens.0 })
-    is.failed_behind is.left (objects ∙ ap (λ (m : Moment). m.held) is.next)
-    (subst (λ (m : Moment). GoesOn (record { now = now; files = folder_of store; net = m }) stage ending) is.next goes)
-    (due_over (record { now = now; files = folder_of store; net = net }) stage ending _ before.kernel_faults
-    between.objects (want_of net.inputs) is.left.cause holds due goes)
+-- the plane was opened, and the run went on from a world of these sessions and this bus
+module _ (over : Over) (Images : Supply → World → List Line → Type 0) (sessions : SessionList)
+    (bus : BusPart) (words : Supply) (at_start : sessions ≡ first_sessions)
+    (is_begun : bus ≡ begun over.acl) (same : words ≡ over.words) where
+  abbrev world_at : Moment → World
+  world_at net = record {
+    now = over.now;
+    files = folder_in over;
+    sessions = sessions;
+    bus = bus;
+    net = net;
+  }
+
+  abbrev stage_at : Supply → World → Outside → Stage
+  stage_at supply start between = record (stage_in over start between) {
+    words = supply;
+    images = Images supply start;
+  }
+
+  pub went_over : (between : Outside) (network wireless : Package) (net : Moment) (ending : RunEnd)
+      → IsLoaded (folder_in over) network_name network
+      → IsLoaded (folder_in over) wireless_name wireless
+      → OpensNet {X = Unit {0}} network wireless net over.before between (Ok (tt {0}))
+      → between.objects ≡ net.held
+      → HoldsOrFailed between.objects (want_of net.inputs) over.before.kernel_faults
+      between.kernel_faults
+      → GoesOn (world_at net) (stage_at words (world_at net) between) ending
+      → (between.objects ≡ want_of net.inputs → IsKernelFailed ending
+      → Rose between.kernel_faults over.after.kernel_faults)
+      → RunsOver (record over { images = Images over.words }) ending
+  went_over between network wireless net ending one two opens objects holds goes due =
+      let is = opens.1 in
+      let there : world_at net ≡ world_in over network wireless is.failed_behind =
+      λ i. record {
+        now = over.now;
+        files = folder_in over;
+        sessions = at_start i;
+        bus = is_begun i;
+        net = is.next i;
+      } in
+      let on = subst (λ (supply : Supply). GoesOn (world_at net) (stage_at supply (world_at net) between) ending)
+      same goes in
+      parts.opened between network wireless (record { of_network = one; of_wireless = two; within = opens.0 })
+      is.failed_behind is.left (objects ∙ ap (λ (m : Moment). m.held) is.next)
+      (subst (λ (w : World). GoesOn w (stage_at over.words w between) ending) there on)
+      (due_over (world_at net) (stage_at words (world_at net) between) ending _ over.before.kernel_faults
+      between.objects (want_of net.inputs) is.left.cause holds due goes)
+
+  -- what a stop leaves
+  pub stops_behind : {D : Type 0} (view : D → View) (old new : D) (before between : Outside)
+      (network wireless : Package) (net : Moment) → IsLoaded (folder_in over) network_name network
+      → IsLoaded (folder_in over) wireless_name wireless
+      → OpensNet {X = Unit {0}} network wireless net before between (Ok (tt {0}))
+      → ScriptStops (world_at net) words over.store over.input view old new
+      → StoreStops over.now over.acl over.words over.store over.input view old new
+  stops_behind view old new before between network wireless net one two opens stops =
+      let is = opens.1 in
+      let there : world_at net ≡ world_in over network wireless is.failed_behind =
+      λ i. record {
+        now = over.now;
+        files = folder_in over;
+        sessions = at_start i;
+        bus = is_begun i;
+        net = is.next i;
+      } in
+      let on = subst (λ (supply : Supply). ScriptStops (world_at net) supply over.store over.input view old new)
+      same stops in
+      inr (
+        network,
+        wireless,
+        record { of_network = one; of_wireless = two; within = opens.0 },
+        is.failed_behind,
+        subst (λ (w : World). ScriptStops w over.words over.store over.input view old new) there on,
+      )
 
 -- ---- the whole run
 
@@ -158,25 +199,11 @@ disk_before f a b s c d one two (inl rose) = inl (rose_before f a b one rose)
 disk_before f a b s c d one two (inr rose) = inr (rose_before s c d two rose)
 
 -- a disk that failed behind the opening failed in the run, and its images are those since the start
-module _ (start : World) (input : Stream) (f a b s c d : ℕ) (one : f ≤ a) (two : s ≤ c)
-    (files_now staged_now : View) (Mid First : List Line → Type 0)
-    (carry : (lines : List Line) → Mid lines → First lines) (between after : Outside) where
-  abbrev stage_from : (List Line → Type 0) → ℕ → ℕ → Stage
-  stage_from Images x y = record {
-    input = input;
-    disks = record { files = x; files_now = b; staged = y; staged_now = d };
-    files_now = files_now;
-    staged_now = staged_now;
-    images = Images;
-    between = between;
-    after = after;
-  }
-
-  abbrev mid : Stage
-  mid = stage_from Mid a c
-
+module _ (start : World) (mid : Stage) (disks : DiskFaults)
+    (rose : DiskRose mid.disks → DiskRose disks) (First : List Line → Type 0)
+    (carry : (lines : List Line) → mid.images lines → First lines) where
   abbrev first_on : Stage
-  first_on = stage_from First f s
+  first_on = record mid { disks = disks; images = First }
 
   ended_from : (Ends : Moved → Type 0) → HasEnded start mid Ends → HasEnded start first_on Ends
   ended_from Ends h = record {
@@ -185,6 +212,8 @@ module _ (start : World) (input : Stream) (f a b s c d : ℕ) (one : f ≤ a) (t
     lucks = h.lucks;
     last = h.last;
     gives = h.gives;
+    words = h.words;
+    used = h.used;
     left = h.left;
     objects = h.objects;
     devices = h.devices;
@@ -208,9 +237,10 @@ module _ (start : World) (input : Stream) (f a b s c d : ℕ) (one : f ≤ a) (t
       parts = h.stops.parts;
       world = h.stops.world;
       is_ok = h.stops.is_ok;
+      words = h.stops.words;
       between = h.stops.between;
       ran = h.stops.ran;
-      stops = go h.stops.line h.stops.world h.stops.between after h.stops.stops;
+      stops = go h.stops.line h.stops.world h.stops.between mid.after h.stops.stops;
       images = carry (h.stops.done ++ h.stops.line ∷ []) h.stops.images;
     };
   }
@@ -233,10 +263,7 @@ module _ (start : World) (input : Stream) (f a b s c d : ℕ) (one : f ≤ a) (t
   goes_from end.ReadFailed h = (h.0, alone_from h.1)
   goes_from end.WriteFailed h = cut_from h
   goes_from end.DiskFailed h = line_from _ _
-      (λ line world x y fails. record {
-        cause = disk_before f a b s c d one two fails.cause;
-        tells = fails.tells;
-      }) h
+      (λ line world x y fails. record { cause = rose fails.cause; tells = fails.tells }) h
   goes_from end.OutOfMemory h = lacked_from h
   goes_from (end.TooLong limit) h = (h.0, h.1, alone_from h.2)
   goes_from (end.Unreadable row_package fault) h = absurd h
@@ -247,8 +274,25 @@ module _ (seen : Seen) (files_mid staged_mid : View) (store : Store)
     (one : seen.first.files.faults ≤ files_mid.faults) (two : seen.first.staged.faults ≤ staged_mid.faults)
     (found : IsFound seen.first.files seen.first.staged seen.first.now (folder_of store))
     (stays : Type 0) (as_found : stays → StopsAsFound seen.first.now seen.first.files seen.files_now)
-    (Images : List Line → Type 0)
-    (carry : (lines : List Line) → Images lines → ImagesOf seen.first seen.files_now (folder_of store) lines) where
+    (Images : World → List Line → Type 0)
+    (carry : (start : World) (lines : List Line) → Images start lines
+    → ImagesOf seen.first seen.files_now start lines) where
+  abbrev over : Over
+  over = record {
+    now = seen.first.now;
+    acl = seen.first.acl;
+    words = seen.first.words;
+    store = store;
+    input = seen.input;
+    disks = faults_of files_mid seen.files_now staged_mid seen.staged_now;
+    stays = stays;
+    images = Images;
+    files_now = seen.files_now;
+    staged_now = seen.staged_now;
+    before = seen.first.before;
+    after = seen.after;
+  }
+
   no_rows_end : (ending : RunEnd) → RowsRefuse (folder_of store) ending
       → IsHeld seen.files_now seen.staged_now (folder_of store) → NotOpened seen ending
   no_rows_end (end.Unreadable row_package fault) lacks held = (folder_of store, found, lacks, held)
@@ -262,11 +306,7 @@ module _ (seen : Seen) (files_mid staged_mid : View) (store : Store)
   no_rows_end (end.TooLong limit) lacks held = absurd lacks
   no_rows_end (end.BadSnapshot byte) lacks held = absurd lacks
 
-  pub over_ends : (ending : RunEnd)
-      → RunsOver seen.first.now store seen.input
-      (faults_of files_mid seen.files_now staged_mid seen.staged_now) stays Images seen.files_now
-      seen.staged_now seen.first.before seen.after ending
-      → RunEnds seen ending
+  pub over_ends : (ending : RunEnd) → RunsOver over ending → RunEnds seen ending
   over_ends ending (parts.no_rows lacks same still held) =
       run.not_opened (no_rows_end ending lacks held) same (as_found still)
   over_ends ending (parts.too_long network wireless first second limit is passed same still held) =
@@ -276,6 +316,7 @@ module _ (seen : Seen) (files_mid staged_mid : View) (store : Store)
   over_ends ending (parts.cut is network wireless rows cut held) =
       run.cut_in_opening is (folder_of store) found network wireless rows cut held
   over_ends ending (parts.opened between network wireless rows failed_behind left objects goes due) =
+      let start = world_in over network wireless failed_behind in
       run.opened between
       (record {
         folder = folder_of store;
@@ -287,21 +328,27 @@ module _ (seen : Seen) (files_mid staged_mid : View) (store : Store)
         left = left;
         objects = objects;
       })
-      (goes_from (start_world seen.first.now (folder_of store) network wireless failed_behind) seen.input
-      seen.first.files.faults files_mid.faults seen.files_now.faults seen.first.staged.faults
-      staged_mid.faults seen.staged_now.faults one two seen.files_now seen.staged_now Images
-      (ImagesOf seen.first seen.files_now (folder_of store)) carry between seen.after
-      ending goes)
+      (goes_from start (stage_in over start between) (disks_of seen)
+      (disk_before seen.first.files.faults files_mid.faults seen.files_now.faults seen.first.staged.faults
+      staged_mid.faults seen.staged_now.faults one two)
+      (ImagesOf seen.first seen.files_now start) (carry start) ending goes)
       due
 
 -- ---- stops
 
-module _ {D : Type 0} (view : D → View) (now : ℕ) (staged : View) (before : Outside) (input : Stream)
-    (store : Store) (old mid new : D)
+module _ {D : Type 0} (view : D → View) (now : ℕ) (acl : Acl) (words : Supply) (staged : View)
+    (before : Outside) (store : Store) (old mid new : D)
     (images : (read : Files) → (view old).seen ≡ Some read
     → LeavesOnly (view old) (view mid) (FromImage now (view old))) where
   abbrev first : First
-  first = record { now = now; files = view old; staged = staged; before = before }
+  first = record {
+    now = now;
+    acl = acl;
+    words = words;
+    files = view old;
+    staged = staged;
+    before = before;
+  }
 
   pub stops_as_found : new ≡ mid → StopsAsFound now (view old) (view new)
   stops_as_found same read tells =
@@ -309,31 +356,39 @@ module _ {D : Type 0} (view : D → View) (now : ℕ) (staged : View) (before : 
       (images read tells)
 
   pub images_over : SameDisk (view old) (view mid) → IsOnFiles store (view mid)
-      → has_failed store ≡ false → (lines : List Line)
-      → StaysOrStops store view mid new (script_passes now (folder_of store) lines)
-      → ImagesOf first (view new) (folder_of store) lines
-  images_over same on ready lines (inl e) read tells =
+      → has_failed store ≡ false → (start : World) (lines : List Line)
+      → StaysOrStopsIn store view mid new (ScriptPasses start words lines)
+      → ImagesOf first (view new) start lines
+  images_over same on ready start lines (inl e) read tells =
       widens (view old) (view new) (FromImage now (view old)) _ (stops_as_found e read tells)
       (λ image from. inl from)
-  images_over same on ready lines (inr stops) read tells =
+  images_over same on ready start lines (inr stops) read tells =
       let seen = same.tells read tells in
       joins (view old) (view mid) (view new) (FromImage now (view old))
-      (OpensAmong (view mid).names (script_passes now (folder_of store) lines)) _
+      (OpensIn (view mid).names (ScriptPasses start words lines)) _
       (images read tells) (stops (on.ready ready) seen.0 seen.1) (λ image from. inl from)
-      (λ image opens. inr (subst (λ (ns : List (List ℕ)). OpensAmong ns (script_passes now (folder_of store) lines) image)
+      (λ image opens. inr (subst (λ (ns : List (List ℕ)). OpensIn ns (ScriptPasses start words lines) image)
       same.names opens))
 
-  pub stops_over : SameDisk (view old) (view mid) → IsOnFiles store (view mid)
+  pub stops_over : (input : Stream) → SameDisk (view old) (view mid) → IsOnFiles store (view mid)
       → has_failed store ≡ false → IsFound (view old) staged now (folder_of store)
-      → ScriptStops now store input view mid new → RunStops first input (view new)
-  stops_over same on ready found (inl e) = inl (stops_as_found e)
-  stops_over same on ready found (inr h) = inr (record {
-    folder = folder_of store;
-    found = found;
-    lines = h.0;
-    read = h.1;
-    images = images_over same on ready h.0 (inr h.2);
-  })
+      → StoreStops now acl words store input view mid new → RunStops first input (view new)
+  stops_over input same on ready found (inl e) = inl (stops_as_found e)
+  stops_over input same on ready found (inr (network, wireless, rows, failed_behind, inl e)) =
+      inl (stops_as_found e)
+  stops_over input same on ready found (inr (network, wireless, rows, failed_behind, inr h)) =
+      inr (record {
+        folder = folder_of store;
+        found = found;
+        network = network;
+        wireless = wireless;
+        rows = rows;
+        failed_behind = failed_behind;
+        lines = h.0;
+        read = h.1;
+        images = images_over same on ready
+            (start_world now acl (folder_of store) network wireless failed_behind) h.0 (inr h.2);
+      })
 
 pub keeps_both : (a b c d e f : View) → SameDisk a b → ReadsOn d e → KeepsDisks b c e f
     → KeepsDisks a c d f
@@ -357,3 +412,8 @@ keeps_read a b c d same reads = record {
     later = reads.later;
   };
 }
+
+-- where no word is at hand, the words to come are those of the source
+pub no_spare : (source : Supply) → supply_of None source ≡ source
+no_spare None = refl
+no_spare (Some words) = refl

@@ -2,6 +2,9 @@
 use Rattle.std.specs.Prelude.{ℕ, ◌≡◌, List, Option, None, is_some}
 use Rattle.std.specs.FinSet as set
 use Rattle.plane_disk.specs.View.{View}
+use Rattle.bus_access.specs.declared.acl.Acl.{Acl}
+use Rattle.rpc_session.specs.Sessions.{start as first_sessions}
+use Rattle.script_clients.specs.Bus.{begun}
 use Rattle.uci_tree.specs.declared.fault.Fault.{Fault}
 use Rattle.uci_tree.specs.declared.package.Package.{Package}
 use Rattle.uci_tool.specs.Folder.{Folder}
@@ -17,8 +20,9 @@ use Rattle.step_net.specs.Acted.{asks_after}
 use Rattle.step_net.specs.Effects.{Leaves}
 use Rattle.step_net.specs.Moved as net
 use Rattle.step_net.specs.Moved.{once_if}
-use Rattle.plane_step.specs.World.{World}
-use Rattle.plane_step.specs.Loaded.{network_name, wireless_name, IsLoaded, DoesNotLoad}
+use Rattle.bus_lines.specs.World.{World}
+use Rattle.bus_lines.specs.Words.{Supply}
+use Rattle.net_reload.specs.Loaded.{network_name, wireless_name, IsLoaded, DoesNotLoad}
 use Rattle.plane_run.specs.declared.run_end.RowPackage.{RowPackage}
 use Rattle.plane_run.specs.declared.run_end.RowPackage.TheVariants.{Network, Wireless}
 
@@ -48,14 +52,22 @@ abbrev pub opened : Package → Package → Option ℕ → net.Moved
 opened network wireless failed_behind =
     net.opening (loaded_net network wireless) (opening_asks network wireless) failed_behind
 
--- the world behind it
-abbrev pub start_world : ℕ → Folder → Package → Package → Option ℕ → World
-start_world now folder network wireless failed_behind =
-    record { now = now; files = folder; net = (opened network wireless failed_behind).net }
+-- the world behind it: the default session is alone, and the bus has this access list and no client
+abbrev pub start_world : ℕ → Acl → Folder → Package → Package → Option ℕ → World
+start_world now acl folder network wireless failed_behind = record {
+  now = now;
+  files = folder;
+  sessions = first_sessions;
+  bus = begun acl;
+  net = (opened network wireless failed_behind).net;
+}
 
--- what a run finds: the moment, the disks of the packages and of staged changes, the output and the kernel
+-- what a run finds: the moment, the access list of the bus, the random words to come, the disks of the packages and of staged changes, the
+-- output and the kernel
 pub record First : Type 1 where
   pub now : ℕ
+  pub acl : Acl
+  pub words : Supply
   pub files : View
   pub staged : View
   pub before : Outside
@@ -74,7 +86,8 @@ pub record HasOpened (first : First) (between : Outside) : Type 0 where
 
 abbrev pub world_of : (first : First) → (between : Outside) → HasOpened first between → World
 world_of first between opening =
-    start_world first.now opening.folder opening.network opening.wireless opening.failed_behind
+    start_world first.now first.acl opening.folder opening.network opening.wireless
+    opening.failed_behind
 
 -- one of the two packages does not read; where both do not, it is `network`
 pub data LacksRows (folder : Folder) (fault : Fault) : RowPackage → Type 0 where

@@ -22,14 +22,17 @@ use Rattle.net_conf.specs.Limits.{passed_limit}
 use Rattle.net_rules.specs.Moment.{Moment, devices_of}
 use Rattle.net_settle.specs.Outside.{Outside}
 use Rattle.step_net.specs.Effects.{Leaves}
+use Rattle.bus_access.specs.declared.acl.Acl.{Acl}
+use Rattle.bus_lines.specs.World.{World}
+use Rattle.bus_lines.specs.Words.{Supply, Uses}
 use Rattle.step_net.specs.Finished.{IsOpened, IsOpenedInPart}
-use Rattle.step_net.specs.Moved.{Luck, once_if}
-use Rattle.plane_step.specs.declared.stop.Stop.{Stop}
-use Rattle.plane_step.specs.declared.stop.Stop.TheVariants as stop
-use Rattle.plane_step.specs.World.{World}
-use Rattle.plane_step.specs.Loaded.{network_name, wireless_name, IsLoaded, DoesNotLoad}
-use Rattle.plane_step.specs.Moved.{Moved, Folds, failures}
-use Rattle.plane_step.specs.Ran.{DiskFaults, StopsIn, CutShort, FailedOnDisk, LackedMemory}
+use Rattle.step_net.specs.Moved.{once_if}
+use Rattle.plane_lines.specs.declared.stop.Stop.{Stop}
+use Rattle.plane_lines.specs.declared.stop.Stop.TheVariants as stop
+use Rattle.net_reload.specs.Loaded.{network_name, wireless_name, IsLoaded, DoesNotLoad}
+use Rattle.plane_step.specs.Kept.{DiskFaults}
+use Rattle.plane_step.specs.Moved.{Luck, Moved, Folds, failures}
+use Rattle.plane_step.specs.Ran.{StopsIn, CutShort, FailedOnDisk, LackedMemory}
 use Rattle.plane_run.specs.declared.run_end.RowPackage.{RowPackage}
 use Rattle.plane_run.specs.declared.run_end.RunEnd.{RunEnd}
 use Rattle.plane_run.specs.declared.run_end.RunEnd.TheVariants as end
@@ -39,7 +42,7 @@ use Rattle.plane_run.specs.declared.script.TheConstants.{SCRIPT_LIMIT}
 use Rattle.plane_run.specs.RunEnd.{name_of}
 use Rattle.plane_run.specs.Opening.{HasRows, LacksRows, loaded_net, opening_asks, start_world, opened as rows_opened}
 use Rattle.plane_run.specs.Script.{bad_answer}
-use Rattle.plane_run.specs.Run.{IsDone, IsRefused, IsDue, GoesOn, IsKernelFailed}
+use Rattle.plane_run.specs.Run.{Stage, Holds, IsDone, IsRefused, IsDue, GoesOn, IsKernelFailed}
 
 -- why no script was read
 abbrev pub ReadRefuses : Stream → RunEnd → Type 0
@@ -126,68 +129,101 @@ pub record KeepsDisks (files files_now staged staged_now : View) : Type 0 where
   pub follows : Follows staged staged_now
 
 -- the lines were carried out to their end, with some luck
-pub record LinesEnded (start : World) (lines : List Line) (files_now staged_now : View)
-    (between after : Outside) (Ends : Moved → Type 0) : Type 0 where
+pub record LinesEnded (start : World) (lines : List Line) (stage : Stage) (Ends : Moved → Type 0)
+    : Type 0 where
   pub lucks : List Luck
   pub last : Moved
   pub folds : Folds start lines lucks last
-  pub left : Leaves last.effects (failures lucks) between after
-  pub objects : after.objects ≡ last.world.net.held
-  pub devices : after.devices ≡ devices_of last.world.net.inputs
-  pub held : IsHeld files_now staged_now last.world.files
+  pub words : Supply
+  pub used : Uses stage.words last.words words
+  pub left : Leaves last.effects (failures lucks) stage.between stage.after
+  pub objects : stage.after.objects ≡ last.world.net.held
+  pub devices : stage.after.devices ≡ devices_of last.world.net.inputs
+  pub held : Holds stage last.world.files
   pub ends : Ends last
 
--- how a run ends in which lines were carried out
-abbrev pub LinesEnd : World → List Line → DiskFaults → (List Line → Type 0) → View → View → Outside
-    → Outside → RunEnd → Type 0
-LinesEnd start lines disks Images files_now staged_now between after end.Done =
-    LinesEnded start lines files_now staged_now between after IsDone
-LinesEnd start lines disks Images files_now staged_now between after end.Refused =
-    LinesEnded start lines files_now staged_now between after IsRefused
-LinesEnd start lines disks Images files_now staged_now between after (end.KernelFailed left) =
-    LinesEnded start lines files_now staged_now between after (IsDue left)
-LinesEnd start lines disks Images files_now staged_now between after end.WriteFailed = (now : World)
-    × StopsIn (λ line world b a. CutShort line world now b a) Images start lines between after
-    × IsHeld files_now staged_now now.files
-LinesEnd start lines disks Images files_now staged_now between after end.DiskFailed =
-    StopsIn (λ line world b a. FailedOnDisk line world disks b a) Images start lines between after
-LinesEnd start lines disks Images files_now staged_now between after end.OutOfMemory = (now : World)
-    × StopsIn (λ line world b a. LackedMemory line world now b a) Images start lines between after
-    × IsHeld files_now staged_now now.files
-LinesEnd start lines disks Images files_now staged_now between after _ = ⊥
+-- they stopped so in one of them
+abbrev pub LinesStop : World → List Line → Stage → (Line → World → Outside → Outside → Type 0) → Type 0
+LinesStop start lines stage Stops =
+    StopsIn Stops stage.images start lines stage.words stage.between stage.after
 
--- How a run over an open store ends, where `stays` says that the disk of packages is the value that it
--- was, and `Images` what its images are where so many lines were begun. The rows do not load, or pass a
--- limit; or the output failed in the opening; or the plane was opened, and the run went on.
-pub data RunsOver (now : ℕ) (store : Store) (input : Stream) (disks : DiskFaults)
-    (stays : Type 0) (Images : List Line → Type 0) (files_now staged_now : View)
-    (before after : Outside) (ending : RunEnd) : Type 0 where
-  no_rows : RowsRefuse (folder_of store) ending → after ≡ before → stays
-      → IsHeld files_now staged_now (folder_of store)
-      → RunsOver now store input disks stays Images files_now staged_now before after ending
-  too_long : (network wireless : Package) → IsLoaded (folder_of store) network_name network
-      → IsLoaded (folder_of store) wireless_name wireless → (limit : ℕ) → ending ≡ end.TooLong limit
-      → passed_limit (conf network wireless) ≡ Some limit → after ≡ before
-      → stays → IsHeld files_now staged_now (folder_of store)
-      → RunsOver now store input disks stays Images files_now staged_now before after ending
+-- how a run ends in which lines were carried out
+abbrev pub LinesEnd : World → List Line → Stage → RunEnd → Type 0
+LinesEnd start lines stage end.Done = LinesEnded start lines stage IsDone
+LinesEnd start lines stage end.Refused = LinesEnded start lines stage IsRefused
+LinesEnd start lines stage (end.KernelFailed left) = LinesEnded start lines stage (IsDue left)
+LinesEnd start lines stage end.WriteFailed = (now : World)
+    × LinesStop start lines stage (λ line world before after. CutShort line world now before after)
+    × Holds stage now.files
+LinesEnd start lines stage end.DiskFailed =
+    LinesStop start lines stage
+    (λ line world before after. FailedOnDisk line world stage.disks before after)
+LinesEnd start lines stage end.OutOfMemory = (now : World)
+    × LinesStop start lines stage
+    (λ line world before after. LackedMemory line world now before after)
+    × Holds stage now.files
+LinesEnd start lines stage _ = ⊥
+
+-- A run over an open store: its moment, the access list of the bus and the random words to come, the store and the input, the counts of the
+-- disks and what they hold now, and the output and the kernel then and now. `stays` says that the disk of packages is the value that it
+-- was, and `images` what its images are where so many lines were begun in this world.
+pub record Over : Type 1 where
+  pub now : ℕ
+  pub acl : Acl
+  pub words : Supply
+  pub store : Store
+  pub input : Stream
+  pub disks : DiskFaults
+  pub stays : Type 0
+  pub images : World → List Line → Type 0
+  pub files_now : View
+  pub staged_now : View
+  pub before : Outside
+  pub after : Outside
+
+abbrev pub folder_in : Over → Folder
+folder_in over = folder_of over.store
+
+abbrev pub world_in : Over → Package → Package → Option ℕ → World
+world_in over = start_world over.now over.acl (folder_in over)
+
+-- behind the opening that led to this world
+abbrev pub stage_in : Over → World → Outside → Stage
+stage_in over start between = record {
+  words = over.words;
+  input = over.input;
+  disks = over.disks;
+  files_now = over.files_now;
+  staged_now = over.staged_now;
+  images = over.images start;
+  between = between;
+  after = over.after;
+}
+
+-- the disks hold the folder that was found
+abbrev pub StillHolds : Over → Type 0
+StillHolds over = IsHeld over.files_now over.staged_now (folder_in over)
+
+-- How it ends. The rows do not load, or pass a limit, or there was no memory; or the output failed in the opening; or the plane was
+-- opened, and the run went on.
+pub data RunsOver (over : Over) (ending : RunEnd) : Type 0 where
+  no_rows : RowsRefuse (folder_in over) ending → over.after ≡ over.before → over.stays
+      → StillHolds over → RunsOver over ending
+  too_long : (network wireless : Package) → IsLoaded (folder_in over) network_name network
+      → IsLoaded (folder_in over) wireless_name wireless → (limit : ℕ)
+      → ending ≡ end.TooLong limit → passed_limit (conf network wireless) ≡ Some limit
+      → over.after ≡ over.before → over.stays → StillHolds over → RunsOver over ending
   cut : ending ≡ end.WriteFailed → (network wireless : Package)
-      → HasRows (folder_of store) network wireless
-      → IsOpenedInPart (loaded_net network wireless) (opening_asks network wireless) before after
-      → IsHeld files_now staged_now (folder_of store)
-      → RunsOver now store input disks stays Images files_now staged_now before after ending
+      → HasRows (folder_in over) network wireless
+      → IsOpenedInPart (loaded_net network wireless) (opening_asks network wireless) over.before
+      over.after
+      → StillHolds over → RunsOver over ending
   opened : (between : Outside) (network wireless : Package)
-      → HasRows (folder_of store) network wireless → (failed_behind : Option ℕ)
+      → HasRows (folder_in over) network wireless → (failed_behind : Option ℕ)
       → Leaves (rows_opened network wireless failed_behind).effects (once_if (is_some failed_behind))
-      before between
+      over.before between
       → between.objects ≡ (rows_opened network wireless failed_behind).net.held
-      → GoesOn (start_world now (folder_of store) network wireless failed_behind) (record {
-        input = input;
-        disks = disks;
-        files_now = files_now;
-        staged_now = staged_now;
-        images = Images;
-        between = between;
-        after = after;
-      }) ending
-      → (IsKernelFailed ending → Rose before.kernel_faults after.kernel_faults)
-      → RunsOver now store input disks stays Images files_now staged_now before after ending
+      → GoesOn (world_in over network wireless failed_behind)
+      (stage_in over (world_in over network wireless failed_behind) between) ending
+      → (IsKernelFailed ending → Rose over.before.kernel_faults over.after.kernel_faults)
+      → RunsOver over ending

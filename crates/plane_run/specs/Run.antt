@@ -18,11 +18,12 @@ use Rattle.net_rules.specs.Moment.{Moment, want_of, devices_of}
 use Rattle.net_settle.specs.Outside.{Outside}
 use Rattle.step_net.specs.Effects.{Leaves, LeavesInPart}
 use Rattle.step_net.specs.Finished.{IsOpenedInPart}
-use Rattle.step_net.specs.Moved.{Luck}
-use Rattle.plane_step.specs.World.{World}
-use Rattle.plane_step.specs.Loaded.{network_name, wireless_name, IsLoaded}
-use Rattle.plane_step.specs.Moved.{Moved, failures}
-use Rattle.plane_step.specs.Ran.{DiskFaults, DiskRose, StopsIn, CutShort, FailedOnDisk, LackedMemory, faults_of}
+use Rattle.bus_lines.specs.World.{World}
+use Rattle.bus_lines.specs.Words.{Supply, Uses}
+use Rattle.net_reload.specs.Loaded.{network_name, wireless_name, IsLoaded}
+use Rattle.plane_step.specs.Kept.{DiskFaults, DiskRose, faults_of}
+use Rattle.plane_step.specs.Moved.{Luck, Moved, failures}
+use Rattle.plane_step.specs.Ran.{StopsIn, CutShort, FailedOnDisk, LackedMemory}
 use Rattle.plane_run.specs.declared.run_end.RunEnd.{RunEnd}
 use Rattle.plane_run.specs.declared.run_end.RunEnd.TheVariants as end
 use Rattle.plane_run.specs.declared.script.Script.{Script}
@@ -34,9 +35,10 @@ use Rattle.plane_run.specs.Stops.{ImagesOf}
 
 -- ---- behind the opening
 
--- the input, the counts of the disks, what the disks hold now, what is said of the images of the files
--- where so many lines were begun, and the output and the kernel then and now
+-- the random words to come, the input, the counts of the disks, what the disks hold now, what is said of the images of the files where so
+-- many lines were begun, and the output and the kernel then and now
 pub record Stage : Type 1 where
+  pub words : Supply
   pub input : Stream
   pub disks : DiskFaults
   pub files_now : View
@@ -49,13 +51,15 @@ pub record Stage : Type 1 where
 abbrev pub Holds : Stage → Folder → Type 0
 Holds stage folder = IsHeld stage.files_now stage.staged_now folder
 
--- The script was read to its end, and then carried out to its end, with some luck.
+-- The script was read to its end, and then carried out to its end, with some luck. The random words that it used up are the next ones.
 pub record HasEnded (start : World) (stage : Stage) (Ends : Moved → Type 0) : Type 0 where
   pub script : Script
   pub read : HasRead stage.input script
   pub lucks : List Luck
   pub last : Moved
   pub gives : Gives start script lucks last
+  pub words : Supply
+  pub used : Uses stage.words last.words words
   pub left : Leaves last.effects (failures lucks) stage.between stage.after
   pub objects : stage.after.objects ≡ last.world.net.held
   pub devices : stage.after.devices ≡ devices_of last.world.net.inputs
@@ -89,7 +93,7 @@ pub record StopsInLine (start : World) (stage : Stage)
     (Stops : Line → World → Outside → Outside → Type 0) : Type 0 where
   pub lines : List Line
   pub read : HasRead stage.input (Lines lines)
-  pub stops : StopsIn Stops stage.images start lines stage.between stage.after
+  pub stops : StopsIn Stops stage.images start lines stage.words stage.between stage.after
 
 -- The output failed, at the one answer to a script without lines or in a line.
 pub data WasCut (start : World) (stage : Stage) : Type 0 where
@@ -137,14 +141,15 @@ pub record Seen : Type 1 where
 abbrev pub disks_of : Seen → DiskFaults
 disks_of seen = faults_of seen.first.files seen.files_now seen.first.staged seen.staged_now
 
--- behind the opening of this folder
-abbrev pub stage_of : Seen → Folder → Outside → Stage
-stage_of seen folder between = record {
+-- behind the opening that led to this world
+abbrev pub stage_of : Seen → World → Outside → Stage
+stage_of seen start between = record {
+  words = seen.first.words;
   input = seen.input;
   disks = disks_of seen;
   files_now = seen.files_now;
   staged_now = seen.staged_now;
-  images = ImagesOf seen.first seen.files_now folder;
+  images = ImagesOf seen.first seen.files_now start;
   between = between;
   after = seen.after;
 }
@@ -193,6 +198,7 @@ pub data RunEnds (seen : Seen) (ending : RunEnd) : Type 0 where
       seen.first.before seen.after
       → StillHolds seen folder → RunEnds seen ending
   opened : (between : Outside) (opening : HasOpened seen.first between)
-      → GoesOn (world_of seen.first between opening) (stage_of seen opening.folder between) ending
+      → GoesOn (world_of seen.first between opening)
+      (stage_of seen (world_of seen.first between opening) between) ending
       → (IsKernelFailed ending → Rose seen.first.before.kernel_faults seen.after.kernel_faults)
       → RunEnds seen ending

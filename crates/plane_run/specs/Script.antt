@@ -10,9 +10,8 @@ use Rattle.uci_tree.specs.Fault.{fault_of_text}
 use Rattle.uci_tool.specs.Ends.{Stream}
 use Rattle.line_texts.specs.declared.line_error.LineError.TheVariants as error
 use Rattle.line_texts.specs.ErrorLine.{error_line}
-use Rattle.step_net.specs.Moved.{Luck}
-use Rattle.plane_step.specs.World.{World}
-use Rattle.plane_step.specs.Moved.{Moved, Folds}
+use Rattle.bus_lines.specs.World.{World}
+use Rattle.plane_step.specs.Moved.{Luck, Moved, Folds}
 use Rattle.plane_run.specs.declared.script.Script.{Script}
 use Rattle.plane_run.specs.declared.script.Script.TheVariants.{Lines, Bad}
 use Rattle.plane_run.specs.declared.script.TheConstants.{SCRIPT_LIMIT}
@@ -50,6 +49,7 @@ answered start line = record {
   world = start;
   effects = record { asked = []; calls = []; text = bad_answer line };
   is_ok = false;
+  words = [];
 }
 
 -- what a script comes to on the world behind the opening, each of its lines with its luck

@@ -2,16 +2,15 @@
 ghost use Rattle.std.specs.Prelude.{◌≡◌, []};
 ghost use Rattle.net_rules.specs.Moment.{want_of};
 ghost use Rattle.net_settle.specs.Outside.{outside_of};
-ghost use Rattle.net_plane.specs.Network.{IsOf, moment_of};
+ghost use Rattle.net_plane.specs.Network.{IsOf};
 ghost use Rattle.uci_tool.specs.Answers.{IsOpen};
-ghost use Rattle.uci_tool.specs.Ends.{source_of};
-ghost use Rattle.uci_tool.specs.Folder.{folder_of};
-ghost use Rattle.uci_tool.specs.Stops.{StaysOrStops};
+ghost use Rattle.uci_tool.specs.Ends.{Stream, source_of};
 ghost use Rattle.plane_words.specs.Causes.{Rose};
-ghost use Rattle.plane_step.specs.FilesMoved.{script_passes};
-ghost use Rattle.plane_step.specs.Kept.{StaysOn};
-ghost use Rattle.plane_step.specs.Ran.{faults_of};
-ghost use Rattle.plane_step.specs.World.{world_of};
+ghost use Rattle.local_objects.specs.Passed.{StaysOrStopsIn};
+ghost use Rattle.bus_lines.specs.Words.{supply_of};
+ghost use Rattle.bus_lines.specs.Ended.{world_of};
+ghost use Rattle.plane_step.specs.ScriptPasses.{ScriptPasses};
+ghost use Rattle.plane_step.specs.Kept.{faults_of};
 ghost use Rattle.plane_run.specs.Run.{GoesOn, IsKernelFailed};
 ghost use Rattle.plane_run.specs.Parts.{AnswersBad, LinesEnd, KeepsDisks};
 ghost use Rattle.plane_run.specs.Stops.{ScriptStops};
@@ -24,15 +23,17 @@ use line_texts::{LineError, append_error_line};
 use net_plane::Net;
 use plane_disk::Disk;
 use plane_io::{Sink, Source};
-use plane_step::run_lines;
+use plane_outside::Random;
+use plane_step::{Callers, run_lines};
 use std::alloc::Global;
 use uci_store::Store;
 use uci_text::Line;
 
 /// Reads the script to its end, and then carries it out.
-pub(crate) fn carry_script<S: Source, O: Sink, D: Disk, T: Disk, K: Kernel>(
+pub(crate) fn carry_script<S: Source, O: Sink, D: Disk, T: Disk, K: Kernel, R: Random>(
     alloc: Global,
     now: u64,
+    callers: &mut Callers,
     store: &mut Store,
     net: &mut Net,
     input: &mut S,
@@ -40,31 +41,36 @@ pub(crate) fn carry_script<S: Source, O: Sink, D: Disk, T: Disk, K: Kernel>(
     files: &mut D,
     staged: &mut T,
     kernel: &mut K,
+    random: &mut R,
 ) -> RunEnd
     requires open { IsOpen store.old (D.view files.old) (T.view staged.old) }
     requires told { net.old.notices ≡ [] }
     requires of { IsOf K.Kernel kernel.old net.old }
-    ensures goes { GoesOn (world_of now store.old net.old) (record {
-      input = source_of S.Source input.old input.new;
-      disks = faults_of (D.view files.old) (D.view files.new) (T.view staged.old) (T.view staged.new);
-      files_now = D.view files.new;
-      staged_now = T.view staged.new;
-      images = λ lines. StaysOrStops store.old D.view files.old files.new
-          (script_passes now (folder_of store.old) lines);
-      between = outside_of O.Sink K.Kernel out.old kernel.old;
-      after = outside_of O.Sink K.Kernel out.new kernel.new;
-    }) result }
+    ensures goes { let start = world_of now store.old callers.old net.old in
+        let words = supply_of callers.old.spare.word (R.words random.old) in GoesOn start (record {
+          words = words;
+          input = source_of S.Source input.old input.new;
+          disks = faults_of (D.view files.old) (D.view files.new) (T.view staged.old) (T.view staged.new);
+          files_now = D.view files.new;
+          staged_now = T.view staged.new;
+          images = λ lines. StaysOrStopsIn store.old D.view files.old files.new
+              (ScriptPasses start words lines);
+          between = outside_of O.Sink K.Kernel out.old kernel.old;
+          after = outside_of O.Sink K.Kernel out.new kernel.new;
+        }) result }
     ensures due { K.objects kernel.old ≡ want_of net.old.inputs → IsKernelFailed result →
         Rose (K.faults kernel.old) (K.faults kernel.new) }
     ensures disks { KeepsDisks (D.view files.old) (D.view files.new)
         (T.view staged.old) (T.view staged.new) }
-    ensures images { ScriptStops now store.old (source_of S.Source input.old input.new)
-        D.view files.old files.new }
+    ensures images { ScriptStops (world_of now store.old callers.old net.old)
+        (supply_of callers.old.spare.word (R.words random.old)) store.old
+        (source_of S.Source input.old input.new) D.view files.old files.new }
 {
     match read_script(alloc, input) {
         Ok(Script::Lines { lines }) => carry_lines(
             alloc,
             now,
+            callers,
             store,
             net,
             lines.as_slice(),
@@ -72,6 +78,7 @@ pub(crate) fn carry_script<S: Source, O: Sink, D: Disk, T: Disk, K: Kernel>(
             files,
             staged,
             kernel,
+            random,
         ),
         Ok(Script::Bad { line }) => match answer_bad(alloc, line, out) {
             Ok(()) => end_of(false, net.due()),
@@ -82,9 +89,10 @@ pub(crate) fn carry_script<S: Source, O: Sink, D: Disk, T: Disk, K: Kernel>(
 }
 
 // Carries the lines out.
-fn carry_lines<O: Sink, D: Disk, T: Disk, K: Kernel>(
+fn carry_lines<O: Sink, D: Disk, T: Disk, K: Kernel, R: Random>(
     alloc: Global,
     now: u64,
+    callers: &mut Callers,
     store: &mut Store,
     net: &mut Net,
     lines: &[Line],
@@ -92,34 +100,45 @@ fn carry_lines<O: Sink, D: Disk, T: Disk, K: Kernel>(
     files: &mut D,
     staged: &mut T,
     kernel: &mut K,
+    random: &mut R,
 ) -> RunEnd
     requires open { IsOpen store.old (D.view files.old) (T.view staged.old) }
     requires told { net.old.notices ≡ [] }
     requires of { IsOf K.Kernel kernel.old net.old }
-    ensures ends { LinesEnd (world_of now store.old net.old) lines.now
-        (faults_of (D.view files.old) (D.view files.new) (T.view staged.old) (T.view staged.new))
-        (λ front. StaysOrStops store.old D.view files.old files.new
-        (script_passes now (folder_of store.old) front))
-        (D.view files.new) (T.view staged.new)
-        (outside_of O.Sink K.Kernel out.old kernel.old)
-        (outside_of O.Sink K.Kernel out.new kernel.new) result }
+    ensures ends { (input : Stream) → let start = world_of now store.old callers.old net.old in
+        let words = supply_of callers.old.spare.word (R.words random.old) in
+        LinesEnd start lines.now (record {
+          words = words;
+          input = input;
+          disks = faults_of (D.view files.old) (D.view files.new)
+              (T.view staged.old) (T.view staged.new);
+          files_now = D.view files.new;
+          staged_now = T.view staged.new;
+          images = λ front. StaysOrStopsIn store.old D.view files.old files.new
+              (ScriptPasses start words front);
+          between = outside_of O.Sink K.Kernel out.old kernel.old;
+          after = outside_of O.Sink K.Kernel out.new kernel.new;
+        }) result }
     ensures due { K.objects kernel.old ≡ want_of net.old.inputs → IsKernelFailed result →
         Rose (K.faults kernel.old) (K.faults kernel.new) }
     ensures disks { KeepsDisks (D.view files.old) (D.view files.new)
         (T.view staged.old) (T.view staged.new) }
-    ensures images { StaysOrStops store.old D.view files.old files.new
-        (script_passes now (folder_of store.old) lines.now) }
+    ensures images { StaysOrStopsIn store.old D.view files.old files.new
+        (ScriptPasses (world_of now store.old callers.old net.old)
+        (supply_of callers.old.spare.word (R.words random.old)) lines.now) }
 {
     let mut moment = now;
     match run_lines(
         alloc,
         &mut moment,
+        callers,
         store,
         files,
         staged,
         net,
         lines,
         kernel,
+        random,
         out,
     ) {
         Ok(is_ok) => end_of(is_ok, net.due()),

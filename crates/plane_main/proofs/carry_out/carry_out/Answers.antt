@@ -1,4 +1,5 @@
-use Rattle.std.proofs.Common.{ℕ, List, map, string_bytes, sym, subst}
+use Rattle.std.proofs.Common.{◌≡◌, ℕ, List, map, string_bytes, refl, ap, sym, subst, ◌∙◌}
+use Rattle.std.specs.Prelude.{Err}
 use Rattle.plane_main.specs.declared.command.Command.TheVariants.{Start, Uci, Run, Show}
 use Rattle.net_settle.specs.Outside.{outside_of}
 use Rattle.uci_run.specs.Run.{RunEnds}
@@ -7,8 +8,10 @@ use Rattle.plane_main.specs.Outside.{Seen, input_of, errors_of}
 use Rattle.plane_main.specs.Command.{AskFor}
 use Rattle.plane_main.specs.Start.{StartEnds}
 use Rattle.plane_main.specs.Page.{PageEnds}
-use Rattle.plane_main.specs.Run.{of_command}
-use Rattle.plane_main.proofs.RunLemmas.{script_ends}
+use Rattle.plane_main.specs.Run.{of_command, Devices}
+use Rattle.bus_access.specs.Form.{acl_of}
+use Rattle.plane_main.specs.Script.{ReadsAcl}
+use Rattle.plane_main.proofs.RunLemmas.{script_ends, has_acl, run_alone, no_acl_ends, no_acl_alone}
 use Rattle.plane_main.proofs.carry_out.carry_out.Goals as goal
 
 pub returns-in-Start-clause-cause : goal.returns-in-Start-clause-cause
@@ -32,8 +35,8 @@ returns-in-Uci-clause-cause g c =
       record { same = c.run_uci-status.ensures.same; follows = c.run_uci-status.ensures.follows },
     )
 
-pub returns-in-Run-clause-cause : goal.returns-in-Run-clause-cause
-returns-in-Run-clause-cause g c =
+pub returns-in-Ok-clause-cause : goal.returns-in-Ok-clause-cause
+returns-in-Ok-clause-cause g c =
     let words : List (List ℕ) = map string_bytes c.args.words.now in
     let asked : AskFor words c.in-Ok-Some.command = rw c.in-Ok-Some.field-0-is at c.in-Ok-Some.ensures.found in
     let seen : Seen = record {
@@ -48,10 +51,45 @@ returns-in-Run-clause-cause g c =
         staged_now = g.T.Disk.view c.run_script-end.new.staged;
         moments = g.C.Clock.moments c.args.clock.now;
       };
+      random = g.R.Random.words c.args.random.now;
     } in
     of_command (Run c.in-Run.asked) (subst (AskFor words) c.in-Run.is asked)
-    (script_ends c.in-Run.asked.moment seen c.run_script-end.result c.report-in-Run.result
-    c.report-in-Run.ensures.same c.run_script-end.ensures.ended c.run_script-end.ensures.stops c.run_script-end.ensures.disks)
+    (script_ends c.in-Run.asked c.in-Ok.acl seen c.run_script-end.result c.report-in-Run.result
+    (ap acl_of (sym c.as_bytes.ensures) ∙ c.in-Ok.ensures) c.report-in-Run.ensures.same
+    c.run_script-end.ensures.ended c.run_script-end.ensures.stops c.run_script-end.ensures.disks)
+
+pub returns-in-Ok-clause-alone : goal.returns-in-Ok-clause-alone
+returns-in-Ok-clause-alone g c =
+    let words : List (List ℕ) = map string_bytes c.args.words.now in
+    let asked : AskFor words c.in-Ok-Some.command = rw c.in-Ok-Some.field-0-is at c.in-Ok-Some.ensures.found in
+    let reads = ap acl_of (sym c.as_bytes.ensures) ∙ c.in-Ok.ensures in
+    run_alone words c.in-Run.asked (subst (AskFor words) c.in-Run.is asked) _ _ c.run_script-end.result c.report-in-Run.result
+    (has_acl c.in-Run.asked c.in-Ok.acl reads) c.report-in-Run.ensures.same refl
+
+pub returns-in-Ok-clause-random : goal.returns-in-Ok-clause-random
+returns-in-Ok-clause-random g c = λ none.
+    let words : List (List ℕ) = map string_bytes c.args.words.now in
+    let asked : AskFor words c.in-Ok-Some.command = rw c.in-Ok-Some.field-0-is at c.in-Ok-Some.ensures.found in
+    let reads = ap acl_of (sym c.as_bytes.ensures) ∙ c.in-Ok.ensures in
+    absurd (none (Run c.in-Run.asked) (subst (AskFor words) c.in-Run.is asked) (has_acl c.in-Run.asked c.in-Ok.acl reads))
+
+pub returns-in-Err-read_acl-clause-cause : goal.returns-in-Err-read_acl-clause-cause
+returns-in-Err-read_acl-clause-cause g c =
+    let words : List (List ℕ) = map string_bytes c.args.words.now in
+    let asked : AskFor words c.in-Ok-Some.command = rw c.in-Ok-Some.field-0-is at c.in-Ok-Some.ensures.found in
+    let why = c.in-Err-read_acl.ending in
+    no_acl_ends words c.in-Run.asked _ _ why c.report-in-Err-read_acl.result (subst (AskFor words) c.in-Run.is asked)
+    (subst (λ text. ReadsAcl (acl_of text) (Err why)) c.as_bytes.ensures c.in-Err-read_acl.ensures)
+    c.report-in-Err-read_acl.ensures.same refl (refl, refl, refl, refl)
+
+pub returns-in-Err-read_acl-clause-alone : goal.returns-in-Err-read_acl-clause-alone
+returns-in-Err-read_acl-clause-alone g c =
+    let words : List (List ℕ) = map string_bytes c.args.words.now in
+    let asked : AskFor words c.in-Ok-Some.command = rw c.in-Ok-Some.field-0-is at c.in-Ok-Some.ensures.found in
+    let why = c.in-Err-read_acl.ending in
+    no_acl_alone words c.in-Run.asked (subst (AskFor words) c.in-Run.is asked) _ why c.report-in-Err-read_acl.result
+    (subst (λ text. ReadsAcl (acl_of text) (Err why)) c.as_bytes.ensures c.in-Err-read_acl.ensures)
+    c.report-in-Err-read_acl.ensures.same
 
 pub returns-in-Show-clause-cause : goal.returns-in-Show-clause-cause
 returns-in-Show-clause-cause g c =
