@@ -1,10 +1,11 @@
 //! Calls of the objects `session` and `uci` as rows of tables.
 ghost use Rattle.std.specs.Prelude.{◌≡◌, false, IfOk, IfSome};
+ghost use Rattle.plane_disk.specs.MemDisk.{view_of};
 ghost use Rattle.uci_store.specs.Store.{has_failed, IsOnFiles, IsOnStaged};
 
 use crate::disks::{files, staged};
 use blob_json::{blob_of_json, json_of_blob};
-use plane_disk::Disk;
+use plane_disk::{Disk, MemDisk};
 use rpc_session::{Grant, Sessions};
 use rpc_uci::{Reply, RpcError, serve};
 use serde_json::Value;
@@ -148,7 +149,45 @@ fn call<D: Disk, T: Disk>(
     }
 }
 
-/// Opens the disks at moment 0 and makes the calls. The disk of the packages does so many calls, and then fails, which ends them.
+/// Opens the disks at a moment and makes the calls, and answers how many were made before a disk failed.
+pub(crate) fn run_on<A: Abort>(
+    rt: &A,
+    alloc: Global,
+    files: &mut MemDisk,
+    staged: &mut MemDisk,
+    now: u64,
+    rows: &[Row],
+) -> Result<usize, Fail>
+    requires { (view_of staged.old).names ≡ (view_of files.old).names }
+{
+    let mut sessions = Sessions::new(alloc)?;
+    let Ok(mut store) = Store::open(alloc, files, staged, now) else {
+        return Ok(0);
+    };
+    let mut made = 0usize;
+    for row in rows {
+        let (now, name, args, by, wanted) = *row;
+        let text = arguments(alloc, by, args)?;
+        let Some(told) = call(
+            alloc,
+            &mut sessions,
+            &mut store,
+            files,
+            staged,
+            now,
+            name,
+            &text,
+        )?
+        else {
+            return Ok(made);
+        };
+        assert_eq!(rt; told.as_slice(), wanted.as_bytes(), "{name} {args}");
+        made = made.saturating_add(1);
+    }
+    Ok(made)
+}
+
+/// Makes the calls on disks that are opened at moment 0. The disk of the packages does so many calls, and then fails, which ends them.
 pub(crate) fn run<A: Abort>(
     rt: &A,
     alloc: Global,
@@ -158,26 +197,9 @@ pub(crate) fn run<A: Abort>(
     let mut files = files(rt, alloc, fuse)?;
     let mut staged = staged(rt, alloc)?;
     assert!(rt; have_same_packages(&files, &staged));
-    let mut sessions = Sessions::new(alloc)?;
-    let mut store = Store::open(alloc, &mut files, &mut staged, 0)?;
-    for row in rows {
-        let (now, name, args, by, wanted) = *row;
-        let text = arguments(alloc, by, args)?;
-        let Some(told) = call(
-            alloc,
-            &mut sessions,
-            &mut store,
-            &mut files,
-            &mut staged,
-            now,
-            name,
-            &text,
-        )?
-        else {
-            assert_eq!(rt; "disk", wanted, "{name} {args}");
-            return Ok(());
-        };
-        assert_eq!(rt; told.as_slice(), wanted.as_bytes(), "{name} {args}");
+    let made = run_on(rt, alloc, &mut files, &mut staged, 0, rows)?;
+    if let Some(row) = rows.get(made) {
+        assert_eq!(rt; "disk", row.4, "{made}");
     }
     Ok(())
 }

@@ -60,7 +60,7 @@ const STAGED: [Row; 9] = [
         "changes",
         "\"config\":\"network\",",
         Nobody,
-        "{\"changes\":{\"network\":[]}}",
+        "{\"changes\":{}}",
     ),
 ];
 
@@ -235,13 +235,7 @@ const REFUSED: [Row; 32] = [
     (0, "revert", "", Nobody, "2"),
     (0, "revert", "\"config\":\"absent\",", Nobody, "4"),
     (0, "commit", "\"config\":\"absent\",", Nobody, "4"),
-    (
-        0,
-        "changes",
-        "",
-        Nobody,
-        "{\"changes\":{\"broken\":[],\"network\":[],\"system\":[]}}",
-    ),
+    (0, "changes", "", Nobody, "{\"changes\":{}}"),
 ];
 
 #[test]

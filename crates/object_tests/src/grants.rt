@@ -178,14 +178,14 @@ const HOLDERS: [Row; 7] = [
         "changes",
         "",
         Nobody,
-        "{\"changes\":{\"broken\":[],\"network\":[[\"set\",\"wan\",\"mtu\",\"1400\"]],\"system\":[]}}",
+        "{\"changes\":{\"network\":[[\"set\",\"wan\",\"mtu\",\"1400\"]]}}",
     ),
     (
         0,
         "changes",
         "\"config\":\"network\",",
         Session(1),
-        "{\"changes\":{\"network\":[]}}",
+        "{\"changes\":{}}",
     ),
 ];
 

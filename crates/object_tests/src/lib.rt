@@ -13,3 +13,9 @@ mod edits;
 mod grants;
 #[cfg(test)]
 mod reads;
+#[cfg(test)]
+mod refusals;
+#[cfg(test)]
+mod stops;
+#[cfg(test)]
+mod unwritten;

@@ -1,9 +1,12 @@
 -- What a call comes to before anything changes.
-use Rattle.std.specs.Prelude.{ℕ, ◌≡◌, List, [], ◌∷◌, Option, Some, None, Result, Ok, Err, Bool, true, false, is_some, map, filter, if◌then◌else◌}
+use Rattle.std.specs.Prelude.{ℕ, ◌≡◌, List, [], ◌∷◌, Option, Some, None, Result, Ok, Err, Bool, true, false, ◌&&◌, is_some, map, filter, if◌then◌else◌}
 use Rattle.blob_codec.specs.declared.blob.Attr.{Attr}
 use Rattle.uci_tree.specs.declared.package.Package.{Package}
+use Rattle.uci_delta.specs.declared.delta.Delta.{Delta}
 use Rattle.uci_store.specs.declared.store.Store.{Store}
 use Rattle.uci_store.specs.Store.{names_of, file_of}
+use Rattle.rpc_session.specs.SessionList.{SessionList}
+use Rattle.rpc_rules.specs.declared.caller.Caller.{Caller}
 use Rattle.rpc_rules.specs.declared.method.Question.{Question}
 use Rattle.rpc_rules.specs.declared.method.Question.TheVariants.{Configs, Get, Changes}
 use Rattle.rpc_rules.specs.declared.method.Edit.{Edit}
@@ -15,7 +18,7 @@ use Rattle.rpc_rules.specs.Told.{get_told, configs_told}
 use Rattle.rpc_rules.specs.Changes.{package_changes, changes_told}
 use Rattle.rpc_rules.specs.Edits.{planned}
 use Rattle.rpc_uci.specs.Call.{Call}
-use Rattle.rpc_uci.specs.Sight.{deltas_named, Sees}
+use Rattle.rpc_uci.specs.Sight.{deltas_named, are_some, Sees}
 
 -- What is seen of the package that the arguments name. Arguments that are missing or of another form go first, and the package is
 -- one of them.
@@ -39,11 +42,22 @@ GetComesTo store holder args outcome = ComesOf store holder (question_fits Get a
 abbrev pub changes_of : Store → ℕ → List ℕ → Attr
 changes_of store holder name = package_changes name (deltas_named holder store name)
 
--- `changes`: of the package that is named, or of all that may be read
+-- something of the package is staged, and the caller may read it
+abbrev pub is_told : Store → SessionList → Caller → ℕ → List ℕ → Bool
+is_told store list caller now name =
+    are_some (deltas_named (holder_of caller) store name) && may_read list caller now name
+
+-- a package with its changes, where there are some
+abbrev pub package_told : List ℕ → List Delta → List Attr
+package_told name deltas = if are_some deltas then package_changes name deltas ∷ [] else []
+
+-- `changes`: of the package that is named, or of all that may be read; one of which nothing is staged is left out
 abbrev pub changes_asked : Store → Call → Option (List ℕ) → Result (List Attr) ℕ
-changes_asked store call None = Ok (changes_told (map (changes_of store (holder_of call.caller)) (filter (may_read call.list call.caller call.now) (names_of store))))
+changes_asked store call None =
+    Ok (changes_told (map (changes_of store (holder_of call.caller)) (filter (is_told store call.list call.caller call.now) (names_of store))))
 changes_asked store call (Some name) =
-    if is_some (file_of (names_of store) name) then Ok (changes_told (changes_of store (holder_of call.caller) name ∷ [])) else Err not_found
+    if is_some (file_of (names_of store) name)
+    then Ok (changes_told (package_told name (deltas_named (holder_of call.caller) store name))) else Err not_found
 
 abbrev pub changes_outcome : Store → Call → Result (List Attr) ℕ
 changes_outcome store call = if question_fits Changes call.args then changes_asked store call (config_in call.args) else Err bad_argument

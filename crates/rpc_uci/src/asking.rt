@@ -3,14 +3,13 @@ ghost use Rattle.std.specs.Prelude.{◌≡◌, Ok, Err, IfOk, IfErr, map, filter
 ghost use Rattle.uci_store.specs.Store.{names_of, IsStore};
 ghost use Rattle.rpc_rules.specs.Status.{IsStatusOf};
 ghost use Rattle.rpc_rules.specs.Arguments.{holder_of};
-ghost use Rattle.rpc_rules.specs.Grants.{may_read as may_be_read};
 ghost use Rattle.rpc_uci.specs.Call.{call_by};
 ghost use Rattle.rpc_uci.specs.Outcome as spec;
 ghost use Rattle.rpc_uci.specs.Done.{IsStatusFor, AskAnswers};
 
 use crate::refused::{BAD_ARGUMENT, NOT_FOUND};
 use crate::reply::Reply;
-use crate::seeing::{deltas_named, see_named};
+use crate::seeing::{are_some, deltas_named, has_staged, see_named};
 use blob_codec::Attr;
 use plane_io::Memory;
 use rpc_rules::{
@@ -20,6 +19,7 @@ use rpc_rules::{
 use rpc_session::Sessions;
 use sqlite_items::Items;
 use std::alloc::Global;
+use uci_delta::Delta;
 use uci_store::{Store, StoreError};
 
 /// Answers a question.
@@ -67,7 +67,7 @@ fn get(alloc: Global, store: &Store, holder: u128, args: &[Attr]) -> Result<Item
     }
 }
 
-/// What is staged of the package that is named, or of all that may be read.
+/// What is staged of the package that is named, or of all that may be read. One of which nothing is staged is left out.
 fn changes(
     alloc: Global,
     sessions: &Sessions,
@@ -94,9 +94,19 @@ fn changes(
         Err(StoreError::NoPackage) => return Err(RpcError::Status(NOT_FOUND)),
         Err(_) => return Err(RpcError::Memory),
     };
-    let mut packages = Items::new(alloc);
-    packages.push(package_changes(alloc, name, deltas.as_slice())?)?;
+    let packages = package_told(alloc, name, deltas.as_slice())?;
     Ok(changes_told(alloc, packages)?)
+}
+
+/// A package with its changes, where there are some.
+fn package_told(alloc: Global, name: &[u8], deltas: &[Delta]) -> Result<Items<Attr>, Memory>
+    ensures { IfOk result (λ told. told ≡ spec.package_told name.now deltas.now) }
+{
+    let mut told = Items::new(alloc);
+    if are_some(deltas) {
+        told.push(package_changes(alloc, name, deltas)?)?;
+    }
+    Ok(told)
 }
 
 /// What is staged of each package that the caller may read.
@@ -110,17 +120,36 @@ fn readable_changes(
     requires { IsStore store.now }
     ensures { IfOk result (λ packages. packages
         ≡ map (spec.changes_of store.now (holder_of caller))
-        (filter (may_be_read sessions.now caller now) (names_of store.now))) }
+        (filter (spec.is_told store.now sessions.now caller now) (names_of store.now))) }
 {
     let holder = caller.holder();
     let names = store.packages();
     let mut told = Items::new(alloc);
     for name in names {
-        if may_read(alloc, sessions, caller, now, name.as_bytes())? {
+        if is_told(alloc, sessions, store, caller, now, name.as_bytes())? {
             told.push(changes_of(alloc, store, holder, name.as_bytes())?)?;
         }
     }
     Ok(told)
+}
+
+/// Whether something of the package is staged, and the caller may read it.
+fn is_told(
+    alloc: Global,
+    sessions: &Sessions,
+    store: &Store,
+    caller: Caller,
+    now: u64,
+    name: &[u8],
+) -> Result<bool, Memory>
+    requires { IsStore store.now }
+    ensures { IfOk result (λ told.
+        told ≡ spec.is_told store.now sessions.now caller now name.now) }
+{
+    if !has_staged(alloc, store, caller.holder(), name)? {
+        return Ok(false);
+    }
+    may_read(alloc, sessions, caller, now, name)
 }
 
 /// What the holder has staged of the package of that name.

@@ -88,7 +88,13 @@ pub(crate) fn staged_names(alloc: Global, store: &Store, holder: u128) -> Result
     Ok(names)
 }
 
-fn has_staged(alloc: Global, store: &Store, holder: u128, name: &[u8]) -> Result<bool, Memory>
+/// Whether the holder has staged something of the package of that name.
+pub(crate) fn has_staged(
+    alloc: Global,
+    store: &Store,
+    holder: u128,
+    name: &[u8],
+) -> Result<bool, Memory>
     requires { IsStore store.now }
     ensures { IfOk result (λ some.
         some ≡ spec.are_some (spec.deltas_named holder store.now name.now)) }
@@ -97,7 +103,8 @@ fn has_staged(alloc: Global, store: &Store, holder: u128, name: &[u8]) -> Result
     Ok(are_some(deltas.as_slice()))
 }
 
-fn are_some(deltas: &[Delta]) -> bool
+/// Whether there are some.
+pub(crate) fn are_some(deltas: &[Delta]) -> bool
     ensures { result ≡ spec.are_some deltas.now }
 {
     match deltas {
