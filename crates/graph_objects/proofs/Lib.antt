@@ -1,0 +1,12 @@
+pub mod SteadyLemmas
+pub mod SlotLemmas
+pub mod LineLemmas
+pub mod TurnLemmas
+pub mod ChangeLemmas
+pub mod EachLemmas
+pub mod DueLemmas
+pub mod FirstLemmas
+pub mod LookupLemmas
+pub mod KeyLemmas
+pub mod WalkLemmas
+pub mod GrowLemmas

@@ -1,0 +1,15 @@
+use Rattle.std.proofs.Common.{◌≡◌, OnOk, ap, subst, ◌∙◌}
+use Rattle.std.specs.FinSet as set
+use Rattle.graph_objects.specs.declared.slot.Side.TheVariants.{Held}
+use Rattle.graph_objects.specs.Slots.{set_on}
+use Rattle.graph_objects.specs.Marks.{Marks, held_of}
+use Rattle.graph_objects.proofs.objects.DeviceObjects.keep_all.Goals as goal
+
+pub keep_all-requires-clause-none : goal.keep_all-requires-clause-none
+keep_all-requires-clause-none c = ap set.from_list (ap (λ (m : Marks). m.held) c.self.view_is ∙ c.requires)
+
+pub returns-clause-ok : goal.returns-clause-ok
+returns-clause-ok c = subst (λ (m : Marks). OnOk c.keep_all.result (set_on Held c.keep_all.new.slots.entries ≡ held_of m)) c.old.view_is c.keep_all.ensures.ok
+
+pub returns-clause-wishes : goal.returns-clause-wishes
+returns-clause-wishes c = c.keep_all.ensures.wishes ∙ ap (λ (m : Marks). m.wishes) c.self.view_is

@@ -1,0 +1,26 @@
+-- The objects that are held and wanted on devices, each at its key.
+
+-- keys of objects
+pub mod Keys
+-- sets with one object of each key
+pub mod Steady
+-- slots by key, and the sets on their two sides
+pub mod Slots
+-- what a look-up by a key finds
+pub mod Lookup
+-- links of names
+pub mod Links
+-- slots that are written
+pub mod Changed
+-- slots and wishes with one more
+pub mod Grown
+-- what is held, and what may be wanted
+pub mod Marks
+-- objects on one side alone
+pub mod Alone
+-- the first of the takes, and the first of the puts
+pub mod Turns
+-- the place of a call among others
+pub mod Places
+-- how slots are kept
+pub mod Inside

@@ -1,0 +1,106 @@
+//! Slots are made for objects that may be wanted, and for those that are held from before.
+ghost use Rattle.std.specs.Prelude.{◌≡◌, Some, IfOk, OnOk, OnErr};
+ghost use Rattle.std.specs.FinSet as set;
+ghost use Rattle.graph_objects.specs.Keys as key;
+ghost use Rattle.graph_objects.specs.Slots.{AreSlots, listed, set_on, wishes};
+ghost use Rattle.graph_objects.specs.Grown as spec;
+
+use crate::form::has_form;
+use crate::key::{ObjectKey, key_of};
+use crate::slot::{Side, Slot, Wish};
+use indexmap::IndexMap;
+use kern_model::{LinkKind, Object};
+use plane_io::Memory;
+
+/// The place of an object's slot, which is made where there is none.
+fn slot_for(slots: &mut IndexMap<ObjectKey, Slot>, object: &Object) -> Result<usize, Memory>
+    ensures ok { IfOk result (spec.HasSlot slots.old.entries slots.new.entries
+        (key.key_of object.now)) }
+    ensures err { OnErr result (slots.new.entries ≡ slots.old.entries) }
+{
+    // A put into a map is proved only where a local names the enums within.
+    let _named: Option<LinkKind> = None;
+    let key = key_of(object);
+    if let Some(index) = slots.get_index_of(&key) {
+        return Ok(index);
+    }
+    let index = slots.len();
+    let slot = Slot {
+        held: None,
+        wish: None,
+        leaves: false,
+    };
+    let _none = slots.insert(key, slot)?;
+    Ok(index)
+}
+
+/// An object may be wanted, where the names of two ids are used. Another of its key may not.
+pub(crate) fn expect(slots: &mut IndexMap<ObjectKey, Slot>, wish: Wish) -> Result<(), Memory>
+    requires slots { AreSlots slots.old.entries }
+    requires fits { spec.CanExpect (wishes slots.old.entries) wish }
+    ensures slots { AreSlots slots.new.entries }
+    ensures held { listed Side.Held slots.new.entries ≡ listed Side.Held slots.old.entries }
+    ensures ok { OnOk result (spec.HasMore (wishes slots.old.entries) (wishes slots.new.entries)
+        wish) }
+    ensures err { OnErr result (wishes slots.new.entries ≡ wishes slots.old.entries) }
+{
+    has_form(&wish.object);
+    match slot_for(slots, &wish.object) {
+        Ok(index) => {
+            slots[index].wish = Some(wish);
+            Ok(())
+        }
+        Err(error) => Err(error),
+    }
+}
+
+/// An object is held from before. No other of its key is.
+pub(crate) fn keep(slots: &mut IndexMap<ObjectKey, Slot>, object: &Object) -> Result<(), Memory>
+    requires slots { AreSlots slots.old.entries }
+    requires fits { spec.CanKeep (set_on Side.Held slots.old.entries) object.now }
+    ensures slots { AreSlots slots.new.entries }
+    ensures ok { OnOk result (set_on Side.Held slots.new.entries
+        ≡ set.insert (set_on Side.Held slots.old.entries) object.now) }
+    ensures wishes { wishes slots.new.entries ≡ wishes slots.old.entries }
+{
+    has_form(object);
+    let index = slot_for(slots, object)?;
+    slots[index].held = Some(*object);
+    Ok(())
+}
+
+/// What a slot holds is held from before, if anything.
+fn keep_held(slots: &mut IndexMap<ObjectKey, Slot>, object: Option<Object>) -> Result<(), Memory>
+    requires slots { AreSlots slots.old.entries }
+    requires fits { (o : Object) → object ≡ Some o
+        → spec.CanKeep (set_on Side.Held slots.old.entries) o }
+    ensures slots { AreSlots slots.new.entries }
+    ensures ok { OnOk result (set_on Side.Held slots.new.entries
+        ≡ spec.with_held (set_on Side.Held slots.old.entries) object) }
+    ensures wishes { wishes slots.new.entries ≡ wishes slots.old.entries }
+{
+    match object {
+        Some(object) => keep(slots, &object),
+        None => Ok(()),
+    }
+}
+
+/// What other slots hold is held from before, where nothing is held yet.
+pub(crate) fn keep_all(
+    slots: &mut IndexMap<ObjectKey, Slot>,
+    old: &IndexMap<ObjectKey, Slot>,
+) -> Result<(), Memory>
+    requires slots { AreSlots slots.old.entries }
+    requires old { AreSlots old.now.entries }
+    requires none { set_on Side.Held slots.old.entries ≡ set.empty }
+    ensures slots { AreSlots slots.new.entries }
+    ensures ok { OnOk result (set_on Side.Held slots.new.entries
+        ≡ set_on Side.Held old.now.entries) }
+    ensures wishes { wishes slots.new.entries ≡ wishes slots.old.entries }
+{
+    for index in 0..old.len() {
+        let held = old[index].held;
+        keep_held(slots, held)?;
+    }
+    Ok(())
+}

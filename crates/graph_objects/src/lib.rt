@@ -1,0 +1,17 @@
+//! The objects of a kernel that are held and wanted on devices, each at its key: what is due between them, and in which order.
+#![tactic(auto)]
+
+mod changes;
+mod due;
+mod form;
+mod growth;
+mod key;
+mod line;
+mod objects;
+mod slot;
+mod slots;
+mod turn;
+mod walks;
+
+pub use objects::DeviceObjects;
+pub use slot::Wish;

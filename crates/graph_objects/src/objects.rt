@@ -1,0 +1,159 @@
+ghost use Rattle.std.specs.Prelude.{◌≡◌, map, IfSome, IfNone, OnOk, OnErr, true, []};
+ghost use Rattle.std.specs.FinSet as set;
+ghost use Rattle.kern_model.specs.ObjectOrder.{Has};
+ghost use Rattle.kern_model.specs.Standing.{gone};
+ghost use Rattle.kern_model.specs.Kernel.{after_call};
+ghost use Rattle.kern_model.specs.Touched as touched;
+ghost use Rattle.kern_calls.specs.Due.{due_count};
+ghost use Rattle.graph_objects.specs.Marks.{no_marks, held_of, wanted_of, judged};
+ghost use Rattle.graph_objects.specs.Turns.{IsFirst};
+ghost use Rattle.graph_objects.specs.Grown.{CanExpect, HasMore};
+
+use crate::key::ObjectKey;
+use crate::slot::{Side, Slot, Wish};
+use crate::slots::has;
+use crate::turn::{Turn, first};
+use crate::{changes, due, growth};
+use indexmap::IndexMap;
+use kern_model::{Call, DevName, Object};
+use plane_io::Memory;
+use std::alloc::Global;
+use std::marker::Model;
+
+/// The objects that are held on devices, and those that may be wanted there.
+#[derive(Drop)]
+pub struct DeviceObjects {
+    slots: IndexMap<ObjectKey, Slot>,
+}
+
+impl Model for DeviceObjects {
+    ghost use Rattle.graph_objects.specs.Marks.{Marks};
+
+    ghost Value = { Marks };
+
+    ghost use Rattle.graph_objects.specs.Inside.{marks_of, IsKept};
+
+    ghost view = { marks_of };
+
+    ghost invariant = { IsKept };
+}
+
+impl DeviceObjects {
+    /// No objects.
+    pub fn new(alloc: Global) -> DeviceObjects
+        ensures { result ≡ no_marks }
+    {
+        DeviceObjects {
+            slots: IndexMap::new(alloc),
+        }
+    }
+
+    /// An object may be wanted, where the names of its two ids are used. No other of its key may.
+    ///
+    /// # Errors
+    ///
+    /// `Memory` where there is not enough of it. Then all stays.
+    pub fn expect(&mut self, wish: Wish) -> Result<(), Memory>
+        requires { CanExpect self.old.wishes wish }
+        ensures held { self.new.held ≡ self.old.held }
+        ensures ok { OnOk result (HasMore self.old.wishes self.new.wishes wish) }
+        ensures err { OnErr result (self.new.wishes ≡ self.old.wishes) }
+    {
+        growth::expect(&mut self.slots, wish)
+    }
+
+    /// What others hold is held, where nothing is held yet.
+    ///
+    /// # Errors
+    ///
+    /// `Memory` where there is not enough of it. Then a part of it may be held.
+    pub fn keep_all(&mut self, old: &DeviceObjects) -> Result<(), Memory>
+        requires { self.old.held ≡ [] }
+        ensures ok { OnOk result (held_of self.new ≡ held_of old.now) }
+        ensures wishes { self.new.wishes ≡ self.old.wishes }
+    {
+        growth::keep_all(&mut self.slots, &old.slots)
+    }
+
+    /// Whether an object is held.
+    pub fn held(&self, object: &Object) -> bool
+        ensures { result ≡ set.contains (held_of self.now) object.now }
+    {
+        has(&self.slots, Side::Held, object)
+    }
+
+    /// Whether an object is wanted.
+    pub fn wanted(&self, object: &Object) -> bool
+        ensures { result ≡ set.contains (wanted_of self.now) object.now }
+    {
+        has(&self.slots, Side::Wanted, object)
+    }
+
+    /// Whether a name is that of a link that is taken, or over one.
+    pub fn falls(&self, name: &DevName) -> bool
+        ensures { result ≡ touched.falls (held_of self.now) (wanted_of self.now) name.now }
+    {
+        due::falls(&self.slots, name)
+    }
+
+    /// The object that is taken first.
+    pub fn first_take(&self) -> Option<Object>
+        ensures some { IfSome result (IsFirst Turn.Takes (held_of self.now) (wanted_of self.now)) }
+        ensures none { IfNone result ((o : Object)
+            → touched.is_taken (held_of self.now) (wanted_of self.now) o ≡ true → ⊥) }
+    {
+        first(&self.slots, Turn::Takes)
+    }
+
+    /// The object that is put first.
+    pub fn first_put(&self) -> Option<Object>
+        ensures some { IfSome result (IsFirst Turn.Puts (held_of self.now) (wanted_of self.now)) }
+        ensures none { IfNone result ((o : Object)
+            → touched.is_put (held_of self.now) (wanted_of self.now) o ≡ true → ⊥) }
+    {
+        first(&self.slots, Turn::Puts)
+    }
+
+    /// How many objects are held and not wanted, or wanted and not held.
+    pub fn due(&self) -> u64
+        ensures { result ≡ due_count (held_of self.now) (wanted_of self.now) }
+    {
+        due::count(&self.slots)
+    }
+
+    /// A held object was taken.
+    pub fn take(&mut self, object: &Object)
+        requires { Has (held_of self.old) object.now }
+        ensures held { held_of self.new ≡ set.remove (held_of self.old) object.now }
+        ensures wishes { self.new.wishes ≡ self.old.wishes }
+    {
+        changes::take(&mut self.slots, object);
+    }
+
+    /// A wanted object was put, where none was to be taken.
+    pub fn put(&mut self, object: &Object)
+        requires wanted { Has (wanted_of self.old) object.now }
+        requires taken { (o : Object)
+            → touched.is_taken (held_of self.old) (wanted_of self.old) o ≡ true → ⊥ }
+        ensures held { held_of self.new ≡ after_call (held_of self.old) (Call.Put object.now) }
+        ensures wishes { self.new.wishes ≡ self.old.wishes }
+    {
+        changes::put(&mut self.slots, object);
+    }
+
+    /// A device of that name is gone, and what stands on it with it.
+    pub fn leave(&mut self, name: &DevName)
+        ensures held { held_of self.new ≡ gone (held_of self.old) name.now }
+        ensures wishes { self.new.wishes ≡ self.old.wishes }
+    {
+        changes::leave(&mut self.slots, name);
+    }
+
+    /// An object is wanted where the names of its two ids are used.
+    pub fn judge(&mut self, used: &[bool])
+        ensures held { self.new.held ≡ self.old.held }
+        ensures wishes { self.new.wishes ≡ map (judged used.now) self.old.wishes }
+    {
+        changes::judge(&mut self.slots, used);
+    }
+}
