@@ -47,14 +47,15 @@ _plane() {
 		_plane_uci
 		return
 	fi
-	# Options of `plane run`, each once; a folder behind -c and -t.
+	# Options of `plane run`, each once; a folder behind -c and -t, and the empty access list behind -a.
 	if [ "${COMP_WORDS[1]}" = run ]; then
 		case ${COMP_WORDS[COMP_CWORD - 1]} in
 		-c | -t) mapfile -t COMPREPLY < <(compgen -d -- "$word") ;;
+		-a) mapfile -t COMPREPLY < <(compgen -W '[]' -- "$word") ;;
 		-w) ;;
 		*)
 			local option place
-			for option in -c -t -w; do
+			for option in -c -t -a -w; do
 				for ((place = 2; place < COMP_CWORD; place += 2)); do
 					[ "${COMP_WORDS[place]}" = "$option" ] && continue 2
 				done
