@@ -1,5 +1,5 @@
 //! Scripts by the whole program.
-use crate::run_rows::ROWS;
+use crate::run_rows::{MORE_ROWS, ROWS};
 use crate::session::{Failing, Folder, Session, run_over};
 use std::alloc::Global;
 use std::process::Abort;
@@ -27,6 +27,37 @@ fn scripts_print(rt: HostRuntime) -> Result<(), Fail> {
         assert_eq!(rt; ran.err.bytes(), row.told.as_bytes(), "{}", row.script);
         assert_eq!(rt; ran.status, row.status, "{}", row.script);
     }
+    Ok(())
+}
+
+#[test]
+fn more_scripts_print(rt: HostRuntime) -> Result<(), Fail> {
+    let alloc = rt.alloc();
+    for row in MORE_ROWS {
+        let contents: [&[u8]; 4] = [
+            b"\0\0",
+            b"",
+            row.network.as_bytes(),
+            row.wireless.as_bytes(),
+        ];
+        let mut folder = Folder::with_wireless(alloc, contents, [&[], &[]])?;
+        let failing = Failing {
+            apply: row.apply,
+            environment: row.environment,
+            ..Failing::default()
+        };
+        let script = row.script.as_bytes();
+        let ran = run_over(alloc, row.words, script, failing, &mut folder)?;
+        assert_eq!(rt; ran.out.bytes(), row.printed.as_bytes(), "{}", row.script);
+        assert_eq!(rt; ran.err.bytes(), row.told.as_bytes(), "{}", row.script);
+        assert_eq!(rt; ran.status, row.status, "{}", row.script);
+    }
+    Ok(())
+}
+
+#[test]
+fn a_script_has_a_limit(rt: HostRuntime) -> Result<(), Fail> {
+    let alloc = rt.alloc();
     assert_eq!(rt; play_long(alloc, 16_777_216)?.status, 0);
     let ran = play_long(alloc, 16_777_217)?;
     assert_eq!(rt; ran.status, 10);

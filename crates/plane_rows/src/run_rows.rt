@@ -419,6 +419,10 @@ ok
 ",
         ..NOTHING
     },
+];
+
+/// Further scripts, as those of `ROWS`.
+pub const MORE_ROWS: &[Row] = &[
     Row {
         network: EMPTY_BRIDGE,
         script: "at 'x\n",
