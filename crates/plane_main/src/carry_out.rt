@@ -1,6 +1,8 @@
 ghost use Rattle.std.specs.Prelude.{◌≡◌, map, string_bytes};
 ghost use Rattle.net_settle.specs.Outside.{outside_of};
 ghost use Rattle.net_start.specs.BringUp.{IsBare};
+ghost use Rattle.uci_tool.specs.Ends.{source_of};
+ghost use Rattle.plane_run.specs.Script.{StaysUnlessCalled};
 ghost use Rattle.plane_main.specs.Outside.{input_of, errors_of};
 ghost use Rattle.plane_main.specs.Command.{AskForNone, MakesSessions};
 ghost use Rattle.plane_main.specs.Ending.{status_of, text_of, IsTold, IsOfUci};
@@ -72,6 +74,8 @@ pub fn carry_out<S: Source, O: Sink, E: Sink, D: Disk, T: Disk, K: Kernel, C: Cl
         }) }
     ensures random { AskForNone MakesSessions (map string_bytes words.now) →
         random.new ≡ random.old }
+    ensures uncalled { StaysUnlessCalled (source_of S.Source input.old input.new)
+        (random.new ≡ random.old) }
 {
     let command = match read_command(alloc, words) {
         Ok(Some(command)) => command,

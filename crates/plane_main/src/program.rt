@@ -1,6 +1,8 @@
 ghost use Rattle.std.specs.Prelude.{◌≡◌, map, string_bytes};
 ghost use Rattle.net_settle.specs.Outside.{outside_of};
 ghost use Rattle.net_start.specs.BringUp.{IsBare};
+ghost use Rattle.uci_tool.specs.Ends.{source_of};
+ghost use Rattle.plane_run.specs.Script.{StaysUnlessCalled};
 ghost use Rattle.plane_main.specs.Outside.{input_of, errors_of};
 ghost use Rattle.plane_main.specs.Command.{AskForNone, MakesSessions};
 ghost use Rattle.plane_main.specs.Ending.{status_of, text_of, IsTold};
@@ -77,6 +79,10 @@ pub fn plane<S: Source, O: Sink, E: Sink, D: Disk, T: Disk, K: Kernel, H: Hub, C
         }) }
     ensures unused { (hub.new ≡ hub.old)
         × (AskForNone MakesSessions (map string_bytes words.now) → random.new ≡ random.old) }
+
+    // The random words stay, unless a script was read and a caller asks a line of it.
+    ensures uncalled { StaysUnlessCalled (source_of S.Source input.old input.new)
+        (random.new ≡ random.old) }
 
     // With 0 nothing was written to the error output.
     ensures silent { result ≡ 0 → err.new ≡ err.old }

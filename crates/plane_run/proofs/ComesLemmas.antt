@@ -12,7 +12,7 @@ use Rattle.plane_run.specs.declared.run_end.RunEnd.{RunEnd}
 use Rattle.plane_run.specs.declared.run_end.RunEnd.TheVariants as end
 use Rattle.plane_run.specs.Opening.{world_of}
 use Rattle.plane_run.specs.Run as run
-use Rattle.plane_run.specs.Run.{Seen, Stage, WasCut, Finds, PassesSome, NotOpened, GoesOn, RunEnds, disks_of, stage_of}
+use Rattle.plane_run.specs.Run.{Seen, WasCut, Finds, PassesSome, NotOpened, GoesOn, RunEnds, disks_of, stage_of}
 use Rattle.plane_run.specs.Comes.{IsCalm, IsFailure, IsLong, OrLacksMemory, RunComes}
 
 within_passes : (packages : Files) (number : ℕ) → IsWithin packages → PassesLimit packages number → ⊥

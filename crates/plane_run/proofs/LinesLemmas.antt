@@ -11,7 +11,6 @@ use Rattle.kern_calls.proofs.KeptLemmas.{same_if_none_due, none_due_if_same}
 use Rattle.uci_text.specs.declared.line.Line.{Line}
 use Rattle.uci_tool.specs.Ends.{Stream}
 use Rattle.net_rules.specs.Moment.{want_of, devices_of}
-use Rattle.net_settle.specs.Outside.{Outside}
 use Rattle.step_net.specs.Effects.{Leaves}
 use Rattle.step_net.specs.Finished.{HoldsOrFailed}
 use Rattle.step_net.proofs.GrowthLemmas.{grows_none, records_none}

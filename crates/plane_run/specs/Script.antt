@@ -1,5 +1,5 @@
 -- The script of a run: its text, and what it comes to.
-use Rattle.std.specs.Prelude.{ℕ, ◌≡◌, ◌≤◌, List, [], Some, length, false}
+use Rattle.std.specs.Prelude.{ℕ, ◌≡◌, ◌≤◌, ◌⊎◌, List, [], Some, length, false}
 use Rattle.plane_io.specs.Source.{IsAllThatWasLeft}
 use Rattle.uci_text.specs.declared.line.Line.{Line}
 use Rattle.uci_text.specs.declared.text_error.TextError.{TextError}
@@ -11,6 +11,7 @@ use Rattle.uci_tool.specs.Ends.{Stream}
 use Rattle.line_texts.specs.declared.line_error.LineError.TheVariants as error
 use Rattle.line_texts.specs.ErrorLine.{error_line}
 use Rattle.bus_lines.specs.World.{World}
+use Rattle.plane_step.specs.Plain.{ArePlain}
 use Rattle.plane_step.specs.Moved.{Luck, Moved, Folds}
 use Rattle.plane_run.specs.declared.script.Script.{Script}
 use Rattle.plane_run.specs.declared.script.Script.TheVariants.{Lines, Bad}
@@ -39,6 +40,11 @@ pub record HasRead (input : Stream) (script : Script) : Type 0 where
   pub text : List ℕ
   pub read : IsRead input text
   pub says : Says text script
+
+-- Something stays as it was, or a script was read, and it stays where no caller asks a line.
+abbrev pub StaysUnlessCalled : Stream → Type 0 → Type 0
+StaysUnlessCalled input Stays =
+    Stays ⊎ ((lines : List Line) × HasRead input (Lines lines) × (ArePlain lines → Stays))
 
 -- the one answer to a script that has no lines
 abbrev pub bad_answer : ℕ → List ℕ

@@ -9,8 +9,10 @@ ghost use Rattle.plane_words.specs.Causes.{Rose};
 ghost use Rattle.local_objects.specs.Passed.{StaysOrStopsIn};
 ghost use Rattle.bus_lines.specs.Words.{supply_of};
 ghost use Rattle.bus_lines.specs.Ended.{world_of};
+ghost use Rattle.plane_step.specs.Plain.{ArePlain};
 ghost use Rattle.plane_step.specs.ScriptPasses.{ScriptPasses};
 ghost use Rattle.plane_step.specs.Kept.{faults_of};
+ghost use Rattle.plane_run.specs.Script.{StaysUnlessCalled};
 ghost use Rattle.plane_run.specs.Run.{GoesOn, IsKernelFailed};
 ghost use Rattle.plane_run.specs.Parts.{AnswersBad, LinesEnd, KeepsDisks};
 ghost use Rattle.plane_run.specs.Stops.{ScriptStops};
@@ -65,6 +67,8 @@ pub(crate) fn carry_script<S: Source, O: Sink, D: Disk, T: Disk, K: Kernel, R: R
     ensures images { ScriptStops (world_of now store.old callers.old net.old)
         (supply_of callers.old.spare.word (R.words random.old)) store.old
         (source_of S.Source input.old input.new) D.view files.old files.new }
+    ensures random { StaysUnlessCalled (source_of S.Source input.old input.new)
+        (random.new ≡ random.old) }
 {
     match read_script(alloc, input) {
         Ok(Script::Lines { lines }) => carry_lines(
@@ -126,6 +130,7 @@ fn carry_lines<O: Sink, D: Disk, T: Disk, K: Kernel, R: Random>(
     ensures images { StaysOrStopsIn store.old D.view files.old files.new
         (ScriptPasses (world_of now store.old callers.old net.old)
         (supply_of callers.old.spare.word (R.words random.old)) lines.now) }
+    ensures random { ArePlain lines.now → random.new ≡ random.old }
 {
     let mut moment = now;
     match run_lines(

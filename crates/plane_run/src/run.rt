@@ -1,14 +1,13 @@
 //! The whole run.
-ghost use Rattle.std.specs.Prelude.{◌≡◌, ◌⊎◌};
+ghost use Rattle.std.specs.Prelude.{◌≡◌};
 ghost use Rattle.net_settle.specs.Outside.{outside_of};
 ghost use Rattle.net_start.specs.BringUp.{IsBare};
-ghost use Rattle.snap_disk.specs.Images.{SameDisk};
-ghost use Rattle.uci_staged.specs.Kept.{Follows};
 ghost use Rattle.uci_tool.specs.Answers.{IsOpen};
 ghost use Rattle.uci_tool.specs.Ends.{source_of};
 ghost use Rattle.local_objects.specs.Passed.{StaysOrStopsIn};
 ghost use Rattle.plane_step.specs.ScriptPasses.{ScriptPasses};
 ghost use Rattle.plane_step.specs.Kept.{faults_of};
+ghost use Rattle.plane_run.specs.Script.{StaysUnlessCalled};
 ghost use Rattle.plane_run.specs.Run.{RunEnds};
 ghost use Rattle.plane_run.specs.Parts as spec;
 ghost use Rattle.plane_run.specs.Parts.{RunsOver, KeepsDisks};
@@ -77,6 +76,10 @@ pub fn run_script<S: Source, O: Sink, D: Disk, T: Disk, K: Kernel, R: Random>(
     // The same disks.
     ensures disks { KeepsDisks (D.view files.old) (D.view files.new)
         (T.view staged.old) (T.view staged.new) }
+
+    // The random words stay, unless the script was read and a caller asks a line of it.
+    ensures random { StaysUnlessCalled (source_of S.Source input.old input.new)
+        (random.new ≡ random.old) }
 {
     match Store::open(alloc, files, staged, now) {
         Ok(mut store) => run_over(
@@ -120,6 +123,8 @@ fn run_over<S: Source, O: Sink, D: Disk, T: Disk, K: Kernel, R: Random>(
         (T.view staged.old) (T.view staged.new) }
     ensures images { StoreStops now acl (R.words random.old) store.old
         (source_of S.Source input.old input.new) D.view files.old files.new }
+    ensures random { StaysUnlessCalled (source_of S.Source input.old input.new)
+        (random.new ≡ random.old) }
 {
     let (network, wireless) = match load_rows(alloc, store) {
         Ok(rows) => rows,

@@ -1,27 +1,22 @@
 -- What lines did, as lines of a script.
-use Rattle.std.proofs.Common.{arith, ℕ, ◌≡◌, ◌<◌, ◌≤◌, ◌⊎◌, false, inl, inr, List, [], ◌∷◌, Bool, Option, Some, None, refl, ap, sym, subst, ◌∙◌}
+use Rattle.std.proofs.Common.{arith, ℕ, ◌≡◌, ◌<◌, ◌≤◌, ◌⊎◌, false, inl, inr, List, [], ◌∷◌, Option, Some, None, refl, ap, sym, subst, ◌∙◌}
 use Rattle.std.specs.Prelude.{Result, Ok, Err, OnOk}
 use Rattle.std.proofs.lemmas.Bool.{cases_lt}
-use Rattle.plane_words.specs.Causes.{RoseBy}
 use Rattle.plane_disk.specs.View.{View}
 use Rattle.script_lines.specs.declared.script_line.ScriptLine.{ScriptLine}
 use Rattle.script_lines.specs.declared.script_line.ScriptLine.TheVariants as line
-use Rattle.uci_staged.specs.declared.change.StagedChange.{StagedChange}
-use Rattle.uci_store.specs.declared.store.Store.{Store}
-use Rattle.uci_tool.specs.Folder.{Folder, folder_of}
-use Rattle.rpc_session.specs.SessionList.{SessionList}
+use Rattle.uci_tool.specs.Folder.{Folder}
 use Rattle.net_rules.specs.Moment.{Moment}
 use Rattle.net_plane.specs.Network.{Network, moment_of}
 use Rattle.step_net.specs.declared.told.Told.{Told}
 use Rattle.step_net.specs.Acted.{acted}
-use Rattle.step_net.specs.Moved.{Telling, once_if, failed_events}
-use Rattle.step_net.specs.Taken.{Telled, Asks, IsLeft}
+use Rattle.step_net.specs.Moved.{Telling, once_if}
+use Rattle.step_net.specs.Taken.{Asks, IsLeft}
 use Rattle.plane_lines.specs.declared.stop.Stop.{Stop}
 use Rattle.plane_lines.specs.declared.stop.Stop.TheVariants as stop
-use Rattle.plane_lines.specs.FilesMoved.{files_moved}
 use Rattle.plane_lines.specs.Faults as plain
 use Rattle.plane_lines.proofs.PassLemmas.{front_passed}
-use Rattle.plane_lines.specs.Done.{Front, Behind, IsDone as PlainIsDone, IsUndone, IsNetUndone, IsFailed, Does as PlainLineDoes}
+use Rattle.plane_lines.specs.Done.{Front, Behind, IsDone as PlainIsDone, IsNetUndone, Does as PlainLineDoes}
 use Rattle.local_answers.specs.declared.uci_answer.CallStop.{CallStop}
 use Rattle.local_answers.specs.declared.uci_answer.CallStop.TheVariants as call
 use Rattle.script_clients.specs.Bus.{part_of}
@@ -33,13 +28,13 @@ use Rattle.bus_lines.specs.declared.caller_line.CallerLine.TheVariants as caller
 use Rattle.bus_lines.specs.declared.handled.Handled.{Handled}
 use Rattle.bus_lines.specs.World.{World}
 use Rattle.bus_lines.specs.Words.{Supply}
-use Rattle.bus_lines.specs.Did.{Did}
 use Rattle.bus_lines.specs.CallerLine.{LineDoes as CallerDoes}
 use Rattle.bus_lines.specs.Passed.{CallLinePasses, BytesPass, LinePasses as CallerPasses}
 use Rattle.bus_lines.specs.Cut.{CallLineCuts, BytesCut, LineCuts as CallerCuts}
 use Rattle.bus_lines.specs.Ended.{Seen, Ends as CallerEnds, world_of}
 use Rattle.plane_step.specs.Expiry.{Goes, Reached, Expired}
-use Rattle.plane_step.specs.Does.{PlainDoes, plain_did}
+use Rattle.plane_step.specs.Plain.{IsPlain}
+use Rattle.plane_step.specs.Does.{plain_did}
 use Rattle.plane_step.specs.Passed.{PlainPasses, AtPasses, PlainCuts, AtCuts, Passes, Cuts}
 use Rattle.plane_step.specs.Done.{Ends, PlainEnds, or_stop, line_for, IsNobodys}
 use Rattle.plane_step.proofs.WordLemmas.{uses_none}
@@ -347,3 +342,10 @@ is_nobodys line.Dump no_at no_call no_open no_bytes no_close = tt
 is_nobodys (line.InterfaceStatus name) no_at no_call no_open no_bytes no_close = tt
 is_nobodys (line.DeviceStatus name) no_at no_call no_open no_bytes no_close = tt
 is_nobodys (line.RadioStatus name) no_at no_call no_open no_bytes no_close = tt
+
+-- a line of a caller is asked by one
+pub caller_is_not_plain : (asked : CallerLine) → IsPlain (line_for asked) → ⊥
+caller_is_not_plain (caller.Call words) plain = plain
+caller_is_not_plain (caller.Open client user group) plain = plain
+caller_is_not_plain (caller.Bytes client bytes) plain = plain
+caller_is_not_plain (caller.Close client) plain = plain

@@ -1,5 +1,5 @@
 -- Lines that are carried out.
-use Rattle.std.proofs.Common.{arith, ℕ, ◌≡◌, ◌≤◌, ◌+◌, List, [], ◌∷◌, ◌++◌, Option, None, Bool, ap, sym, subst, ◌∙◌, append_assoc, append-nil, refl}
+use Rattle.std.proofs.Common.{arith, ℕ, ◌≡◌, ◌≤◌, ◌+◌, List, [], ◌++◌, Option, None, Bool, ap, sym, subst, ◌∙◌, append_assoc, append-nil, refl}
 use Rattle.std.specs.Prelude.{Result, Ok, Err, OnOk, OnErr, is_some, ◌≢◌}
 use Rattle.plane_words.specs.Causes.{Rose, RoseBy, HasCause}
 use Rattle.plane_words.specs.Growth.{Grows, GrowsByFront}
@@ -11,8 +11,8 @@ use Rattle.net_settle.specs.Outside.{Outside}
 use Rattle.step_net.specs.Effects.{Effects, joined, Leaves}
 use Rattle.step_net.specs.Moved.{Moved as NetMoved, Telling, finished, asking, once_if, failed_events}
 use Rattle.step_net.specs.Taken.{telling_in}
-use Rattle.step_net.specs.Finished.{IsFinished, IsCutShort, KeepsPace}
-use Rattle.step_net.proofs.GrowthLemmas.{grows_none, grows_more, records_none}
+use Rattle.step_net.specs.Finished.{IsFinished, IsCutShort}
+use Rattle.step_net.proofs.GrowthLemmas.{grows_none, records_none}
 use Rattle.plane_lines.specs.declared.stop.Stop.{Stop}
 use Rattle.plane_lines.specs.declared.stop.Stop.TheVariants as stop
 use Rattle.plane_lines.specs.Faults.{DiskFaults, DiskRose}
@@ -20,15 +20,14 @@ use Rattle.local_objects.specs.Kept as objects
 use Rattle.local_objects.specs.Cut.{Cut, IsCutSo}
 use Rattle.bus_lines.specs.declared.handled.Handled.{Handled}
 use Rattle.bus_lines.specs.World.{World}
-use Rattle.bus_lines.specs.Words.{Supply}
 use Rattle.bus_lines.specs.Did.{Did}
-use Rattle.bus_lines.specs.Ended.{Seen, IsDone, IsHalted, HasFailed}
+use Rattle.bus_lines.specs.Ended.{Seen, IsDone}
 use Rattle.script_lines.specs.Lines.{line_of}
 use Rattle.plane_step.specs.Does.{LineDoes}
 use Rattle.plane_step.specs.Passed.{LineCuts, LineFails}
-use Rattle.plane_step.specs.Moved.{Moved, Luck, moved, telling_of, writing, failures_of}
+use Rattle.plane_step.specs.Moved.{Luck, moved, telling_of, writing}
 use Rattle.plane_step.specs.Done.{Ends}
-use Rattle.plane_step.specs.Ran.{Words, CarriedOut, CutShort, PacesBehind, IsCutWith, LackedMemory, FailedOnDisk, Tells, TellsHalt, LineEnds, memory_line, disk_line, IsWritten}
+use Rattle.plane_step.specs.Ran.{Words, CarriedOut, CutShort, PacesBehind, IsCutWith, Tells, TellsHalt, LineEnds, memory_line, disk_line}
 use Rattle.plane_step.proofs.ScriptLemmas.{leaves_both}
 
 abbrev pub with_net : World → Moment → World

@@ -14,8 +14,8 @@ use Rattle.plane_lines.specs.Faults.{DiskRose}
 use Rattle.bus_lines.specs.World.{World}
 use Rattle.bus_lines.specs.Words.{Supply}
 use Rattle.plane_step.specs.Does.{LineDoes}
-use Rattle.plane_step.specs.Moved.{Luck, Moved, moved, still, followed, failures, failures_of, Folds}
-use Rattle.plane_step.specs.Ran.{Words, CarriedOut, CutShort, LackedMemory, FailedOnDisk, Ran, StopsIn, LineEnds, ScriptEnds}
+use Rattle.plane_step.specs.Moved.{Luck, moved, still, followed, failures, failures_of, Folds}
+use Rattle.plane_step.specs.Ran.{CarriedOut, CutShort, LackedMemory, FailedOnDisk, Ran, StopsIn, LineEnds, ScriptEnds}
 use Rattle.plane_step.proofs.WordLemmas.{uses_none, uses_join}
 
 pub none_ran : (start : World) (supply : Supply) (now : Outside)

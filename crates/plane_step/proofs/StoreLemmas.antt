@@ -1,5 +1,5 @@
 -- A store on its disks, before and behind lines.
-use Rattle.std.proofs.Common.{◌≡◌, ◌≢◌, ap, subst, ◌∙◌, sym, refl}
+use Rattle.std.proofs.Common.{◌≡◌, ◌≢◌, ap, refl}
 use Rattle.std.specs.Prelude.{Result, Ok, Err}
 use Rattle.plane_disk.specs.View.{View}
 use Rattle.uci_store.specs.declared.store.Store.{Store}

@@ -1,5 +1,5 @@
 -- Random words that are used up.
-use Rattle.std.proofs.Common.{ℕ, ◌≡◌, ◌+◌, List, [], ◌∷◌, ◌++◌, Option, Some, None, refl, subst, ◌∙◌}
+use Rattle.std.proofs.Common.{ℕ, ◌≡◌, ◌+◌, List, [], ◌∷◌, ◌++◌, Some, None, refl, subst, ◌∙◌}
 use Rattle.bus_lines.specs.Words.{Supply, AreNext, Uses}
 
 pub uses_none : (supply : Supply) → Uses supply [] supply

@@ -10,7 +10,6 @@ use Rattle.step_net.specs.Moved.{fails_first}
 use Rattle.plane_lines.specs.Ground.{Ground}
 use Rattle.plane_lines.specs.FilesMoved.{files_moved}
 use Rattle.plane_lines.specs.Means.{Means}
-use Rattle.bus_lines.specs.declared.caller_line.CallerLine.{CallerLine}
 use Rattle.bus_lines.specs.declared.caller_line.CallerLine.TheVariants as caller
 use Rattle.bus_lines.specs.World.{World}
 use Rattle.bus_lines.specs.Did.{Did}

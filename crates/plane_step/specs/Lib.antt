@@ -2,6 +2,8 @@
 
 -- sessions that expire
 pub mod Expiry
+-- lines that no caller asks
+pub mod Plain
 -- what a line does
 pub mod Does
 -- the folders that a line passes through, and where it may be cut

@@ -1,5 +1,5 @@
 -- The folders that a line passes through, and what it had done where it was cut.
-use Rattle.std.specs.Prelude.{ℕ, ◌≡◌, List, Bool, Option, Some, None}
+use Rattle.std.specs.Prelude.{ℕ, ◌≡◌, Bool, Option, Some, None}
 use Rattle.uci_text.specs.declared.line.Line.{Line}
 use Rattle.uci_tool.specs.Folder.{Folder}
 use Rattle.script_lines.specs.declared.script_line.ScriptLine.{ScriptLine}

@@ -8,6 +8,7 @@ ghost use Rattle.local_objects.specs.Kept.{faults_of as disk_faults};
 ghost use Rattle.bus_lines.specs.Words.{Supply, supply_of};
 ghost use Rattle.bus_lines.specs.declared.callers.Callers.{Callers as CallersAre};
 ghost use Rattle.bus_lines.specs.Ended.{world_of};
+ghost use Rattle.plane_step.specs.Plain.{IsPlain};
 ghost use Rattle.plane_step.specs.Kept.{StaysOn};
 ghost use Rattle.plane_step.specs.Passed.{Passes, PlainPasses};
 ghost use Rattle.plane_step.specs.Done as spec;
@@ -60,6 +61,7 @@ pub(crate) fn act<K: Kernel, D: Disk, T: Disk, R: Random>(
     ensures of { IsOf K.Kernel kernel.new net.new }
     ensures calls { K.calls kernel.new ≡ K.calls kernel.old }
     ensures told { OnOk result (net.new.notices ≡ []) }
+    ensures random { IsPlain line → random.new ≡ random.old }
 {
     match who_asks(line) {
         Asking::Moment(next) => go_to(

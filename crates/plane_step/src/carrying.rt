@@ -12,7 +12,8 @@ ghost use Rattle.local_objects.specs.Passed.{StaysOrStopsIn};
 ghost use Rattle.local_objects.specs.Kept.{faults_of as disk_faults};
 ghost use Rattle.bus_lines.specs.Words.{supply_of};
 ghost use Rattle.bus_lines.specs.Ended.{world_of};
-ghost use Rattle.plane_step.specs.Passed.{Passes, LinePasses};
+ghost use Rattle.plane_step.specs.Plain.{IsPlain};
+ghost use Rattle.plane_step.specs.Passed.{LinePasses};
 ghost use Rattle.plane_step.specs.Done.{Ends};
 ghost use Rattle.plane_step.specs.Kept.{StaysOn, faults_of};
 ghost use Rattle.plane_step.specs.Ran.{LineEnds, TellsHalt};
@@ -70,6 +71,7 @@ pub fn carry_out<K: Kernel, O: Sink, D: Disk, T: Disk, R: Random>(
     ensures due { OnOk result (HoldsOrFailed (K.objects kernel.new) (want_of net.new.inputs)
         (K.faults kernel.old) (K.faults kernel.new)) }
     ensures told { OnOk result (net.new.notices ≡ []) }
+    ensures random { IsPlain (line_of line.now.words) → random.new ≡ random.old }
 {
     match read_and_act(
         alloc, moment, callers, store, files, staged, net, line, kernel, random,
@@ -153,6 +155,7 @@ fn read_and_act<K: Kernel, D: Disk, T: Disk, R: Random>(
     ensures of { IsOf K.Kernel kernel.new net.new }
     ensures calls { K.calls kernel.new ≡ K.calls kernel.old }
     ensures told { OnOk result (net.new.notices ≡ []) }
+    ensures random { IsPlain (line_of line.now.words) → random.new ≡ random.old }
 {
     let Ok(read) = read_line(alloc, line.words.as_slice()) else {
         return Err(Stop::Memory);

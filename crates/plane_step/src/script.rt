@@ -7,6 +7,7 @@ ghost use Rattle.uci_tool.specs.Answers.{IsOpen};
 ghost use Rattle.local_objects.specs.Passed.{StaysOrStopsIn};
 ghost use Rattle.bus_lines.specs.Words.{supply_of};
 ghost use Rattle.bus_lines.specs.Ended.{world_of};
+ghost use Rattle.plane_step.specs.Plain.{ArePlain};
 ghost use Rattle.plane_step.specs.ScriptPasses.{ScriptPasses};
 ghost use Rattle.plane_step.specs.Kept.{StaysOn, faults_of};
 ghost use Rattle.plane_step.specs.Ran.{ScriptEnds};
@@ -65,6 +66,7 @@ pub fn run_lines<K: Kernel, O: Sink, D: Disk, T: Disk, R: Random>(
     ensures due { K.objects kernel.old ≡ want_of net.old.inputs → OnOk result
         (HoldsOrFailed (K.objects kernel.new) (want_of net.new.inputs)
         (K.faults kernel.old) (K.faults kernel.new)) }
+    ensures random { ArePlain lines.now → random.new ≡ random.old }
 {
     let mut is_ok = true;
     let mut rest = lines;

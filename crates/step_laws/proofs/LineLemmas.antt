@@ -14,7 +14,7 @@ use Rattle.bus_lines.specs.World.{World}
 use Rattle.bus_lines.specs.Did.{Did}
 use Rattle.plane_step.specs.Expiry.{Goes, Reached, Expired, keeping}
 use Rattle.plane_step.specs.Does.{Does, PlainDoes, AtDoes, ground_of, plain_did}
-use Rattle.step_laws.specs.Plain.{IsPlain}
+use Rattle.plane_step.specs.Plain.{IsPlain}
 
 -- ---- sessions that expire
 

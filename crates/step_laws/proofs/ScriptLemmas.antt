@@ -7,7 +7,7 @@ use Rattle.bus_lines.specs.World.{World}
 use Rattle.bus_lines.specs.Did.{Did}
 use Rattle.plane_step.specs.Does.{Does}
 use Rattle.plane_step.specs.Moved.{Luck, Moved, moved, followed, Folds}
-use Rattle.step_laws.specs.Plain.{IsPlain, ArePlain}
+use Rattle.plane_step.specs.Plain.{IsPlain, ArePlain}
 
 -- lists with one item more are equal where their parts are
 not_nil : {X : Type 0} (xs : List X) (x : X) → [] ≡ xs ++ x ∷ [] → ⊥

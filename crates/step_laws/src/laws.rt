@@ -9,7 +9,7 @@ ghost use Rattle.bus_lines.specs.World.{World};
 ghost use Rattle.bus_lines.specs.Did.{Did};
 ghost use Rattle.plane_step.specs.Does.{Does};
 ghost use Rattle.plane_step.specs.Moved.{Luck, Moved, Folds};
-ghost use Rattle.step_laws.specs.Plain.{IsPlain, ArePlain};
+ghost use Rattle.plane_step.specs.Plain.{IsPlain, ArePlain};
 
 use net_addr::{one_address, one_cidr};
 use uci_tree::{no_package_with_fault, one_package};

@@ -1,4 +1,4 @@
-use Rattle.std.proofs.Common.{◌≡◌, ℕ, List, map, string_bytes, refl, ap, sym, subst, ◌∙◌}
+use Rattle.std.proofs.Common.{ℕ, inl, List, map, string_bytes, refl, ap, sym, subst, ◌∙◌}
 use Rattle.std.specs.Prelude.{Err}
 use Rattle.plane_main.specs.declared.command.Command.TheVariants.{Start, Uci, Run, Show}
 use Rattle.net_settle.specs.Outside.{outside_of}
@@ -8,7 +8,7 @@ use Rattle.plane_main.specs.Outside.{Seen, input_of, errors_of}
 use Rattle.plane_main.specs.Command.{AskFor}
 use Rattle.plane_main.specs.Start.{StartEnds}
 use Rattle.plane_main.specs.Page.{PageEnds}
-use Rattle.plane_main.specs.Run.{of_command, Devices}
+use Rattle.plane_main.specs.Run.{of_command}
 use Rattle.bus_access.specs.Form.{acl_of}
 use Rattle.plane_main.specs.Script.{ReadsAcl}
 use Rattle.plane_main.proofs.RunLemmas.{script_ends, has_acl, run_alone, no_acl_ends, no_acl_alone}
@@ -98,3 +98,15 @@ returns-in-Show-clause-cause g c =
     let before = outside_of g.O.Sink g.K.Kernel c.args.out.now c.args.kernel.now in
     let after = outside_of g.O.Sink g.K.Kernel c.show.new.out c.args.kernel.now in
     of_command (Show c.in-Show.page) (subst (AskFor words) c.in-Show.is asked) (subst (PageEnds c.in-Show.page before after) (sym c.report-in-Show.ensures.same) c.show.ensures.ends)
+
+pub returns-in-Start-clause-uncalled : goal.returns-in-Start-clause-uncalled
+returns-in-Start-clause-uncalled g c = inl refl
+
+pub returns-in-Uci-clause-uncalled : goal.returns-in-Uci-clause-uncalled
+returns-in-Uci-clause-uncalled g c = inl refl
+
+pub returns-in-Err-read_acl-clause-uncalled : goal.returns-in-Err-read_acl-clause-uncalled
+returns-in-Err-read_acl-clause-uncalled g c = inl refl
+
+pub returns-in-Show-clause-uncalled : goal.returns-in-Show-clause-uncalled
+returns-in-Show-clause-uncalled g c = inl refl

@@ -1,4 +1,4 @@
-use Rattle.std.proofs.Common.{inl, false, refl, sym, subst}
+use Rattle.std.proofs.Common.{inl, inr, false, refl, sym, subst}
 use Rattle.kern_model.specs.ObjectOrder.{set_of}
 use Rattle.uci_tool.specs.Ends.{source_of}
 use Rattle.uci_run.proofs.RunLemmas.{held}
@@ -37,6 +37,15 @@ returns-in-Ok-Lines-clause-goes g c =
     (subst (λ lines. HasRead input (Lines lines)) (sym c.as_slice.ensures)
     (subst (HasRead input) c.in-Ok-Lines.field-0-is c.in-Ok-Lines.ensures.read))
     (c.carry_lines.ensures.ends input)
+
+pub returns-in-Ok-Lines-clause-random : goal.returns-in-Ok-Lines-clause-random
+returns-in-Ok-Lines-clause-random g c =
+    let input = source_of g.S.Source c.args.input.now c.read_script.new.input in inr (
+      c.as_slice.result.now,
+      subst (λ lines. HasRead input (Lines lines)) (sym c.as_slice.ensures)
+          (subst (HasRead input) c.in-Ok-Lines.field-0-is c.in-Ok-Lines.ensures.read),
+      c.carry_lines.ensures.random,
+    )
 
 pub returns-in-Ok-clause-goes : goal.returns-in-Ok-clause-goes
 returns-in-Ok-clause-goes g c =
@@ -124,3 +133,12 @@ returns-in-Err-clause-goes g c =
     let opening = c.requires.open in
     unread_goes_on start stage c.in-Err.end c.in-Err.ensures.refused refl
     (held files staged c.args.store.now opening.files opening.staged opening.ready)
+
+pub returns-in-Ok-clause-random : goal.returns-in-Ok-clause-random
+returns-in-Ok-clause-random g c = inl refl
+
+pub returns-in-Err-answer_bad-clause-random : goal.returns-in-Err-answer_bad-clause-random
+returns-in-Err-answer_bad-clause-random g c = inl refl
+
+pub returns-in-Err-clause-random : goal.returns-in-Err-clause-random
+returns-in-Err-clause-random g c = inl refl

@@ -1,4 +1,4 @@
-use Rattle.std.proofs.Common.{◌≡◌, [], Option, Some, refl, sym, subst}
+use Rattle.std.proofs.Common.{◌≡◌, [], Option, Some, sym, subst}
 use Rattle.std.specs.Prelude.{Result}
 use Rattle.script_lines.specs.declared.script_line.ScriptLine.{ScriptLine}
 use Rattle.script_lines.specs.declared.script_line.ScriptLine.TheVariants as line
@@ -14,7 +14,8 @@ use Rattle.bus_lines.specs.Passed.{LinePasses as CallerPasses}
 use Rattle.bus_lines.specs.Ended.{Seen, world_of}
 use Rattle.plane_step.specs.Passed.{Passes, PlainPasses}
 use Rattle.plane_step.specs.Done.{Ends, line_for}
-use Rattle.plane_step.proofs.LiftLemmas.{read_ends, caller_ends, caller_passes, call_tells, nobodys_ends, nobodys_passes}
+use Rattle.plane_step.specs.Plain.{IsPlain}
+use Rattle.plane_step.proofs.LiftLemmas.{read_ends, caller_is_not_plain, caller_ends, caller_passes, call_tells, nobodys_ends, nobodys_passes}
 use Rattle.plane_step.proofs.StoreLemmas.{call_stays}
 use Rattle.plane_step.proofs.PassLemmas.{images_more}
 use Rattle.plane_step.proofs.act.act.Goals as goal
@@ -81,6 +82,10 @@ returns-in-Caller-clause-images g c =
 pub returns-in-Caller-clause-told : goal.returns-in-Caller-clause-told
 returns-in-Caller-clause-told g c =
     call_tells (c.carry_caller_line.new.net.notices ≡ []) c.carry_caller_line.result c.or_stop.result c.or_stop.ensures c.carry_caller_line.ensures.told
+
+pub returns-in-Caller-clause-random : goal.returns-in-Caller-clause-random
+returns-in-Caller-clause-random g c = λ plain.
+    absurd (caller_is_not_plain c.in-Caller.asked (subst IsPlain c.in-Caller.ensures plain))
 
 pub returns-in-Nobody-clause-ends : goal.returns-in-Nobody-clause-ends
 returns-in-Nobody-clause-ends g c =

@@ -1,4 +1,4 @@
-use Rattle.std.proofs.Common.{inl, inr, refl, Some}
+use Rattle.std.proofs.Common.{inl, refl, Some}
 use Rattle.std.specs.Prelude.{Ok, Err}
 use Rattle.script_lines.specs.declared.script_line.ScriptLine.TheVariants as line
 use Rattle.step_net.specs.Taken.{telled_of}

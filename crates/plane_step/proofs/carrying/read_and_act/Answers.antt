@@ -1,4 +1,4 @@
-use Rattle.std.proofs.Common.{Option, ap, subst, ◌∙◌}
+use Rattle.std.proofs.Common.{Option, ap, sym, subst, ◌∙◌}
 use Rattle.script_lines.specs.declared.script_line.ScriptLine.{ScriptLine}
 use Rattle.script_lines.specs.Lines.{line_of}
 use Rattle.net_reload.proofs.AskLemmas.{asks_nothing}
@@ -7,6 +7,7 @@ use Rattle.local_objects.specs.Passed.{StaysOrStopsIn}
 use Rattle.step_net.specs.Taken.{telled_of}
 use Rattle.bus_lines.specs.Words.{supply_of}
 use Rattle.bus_lines.specs.Ended.{Seen, world_of}
+use Rattle.plane_step.specs.Plain.{IsPlain}
 use Rattle.plane_step.specs.Passed.{Passes}
 use Rattle.plane_step.specs.Done.{Ends}
 use Rattle.plane_step.proofs.LiftLemmas.{nothing_ends}
@@ -46,3 +47,7 @@ returns-clause-ends g c =
     Ends (world_of c.args.moment.now c.args.store.now c.args.callers.now c.args.net.now) c.args.line.now.line read
     (world_of new.moment new.store new.callers new.net) seen c.act.result)
     (c.in-Ok.ensures ∙ ap line_of c.as_slice.ensures) c.act.ensures.ends
+
+pub returns-clause-random : goal.returns-clause-random
+returns-clause-random g c = λ plain.
+    c.act.ensures.random (subst IsPlain (sym (c.in-Ok.ensures ∙ ap line_of c.as_slice.ensures)) plain)

@@ -1,8 +1,6 @@
 use Rattle.std.proofs.Common.{sym, subst, ◌∙◌}
-use Rattle.std.specs.Prelude.{Some}
 use Rattle.uci_store.specs.Store.{staged_in}
 use Rattle.rpc_session.specs.SessionList.{SessionList}
-use Rattle.local_answers.specs.SessionCall.{StaysOpen}
 use Rattle.plane_step.specs.Expiry.{Goes}
 use Rattle.plane_step.proofs.ExpiryLemmas.{one_more, destroyed_done, destroyed_not, destroyed_shorter, stays_itself, stays_both}
 use Rattle.plane_step.proofs.expiry.end_expired.Goals as goal

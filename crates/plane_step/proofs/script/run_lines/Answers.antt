@@ -1,12 +1,12 @@
 use Rattle.std.proofs.Common.{◌≡◌, inl, [], ◌∷◌, ◌++◌, refl, ap, sym, subst, ◌∙◌, append_assoc}
 use Rattle.std.specs.Prelude.{Ok, Err}
-use Rattle.uci_tool.specs.Folder.{folder_of}
 use Rattle.net_settle.specs.Outside.{outside_of}
 use Rattle.plane_lines.proofs.StoreLemmas.{stays_itself, stays_both, stays_as}
 use Rattle.local_objects.specs.Passed.{StaysOrStopsIn}
 use Rattle.bus_lines.specs.Words.{supply_of}
 use Rattle.bus_lines.specs.Ended.{world_of}
 use Rattle.plane_step.specs.Passed.{LinePasses}
+use Rattle.plane_step.specs.Plain.{ArePlain}
 use Rattle.plane_step.specs.ScriptPasses.{ScriptPasses}
 use Rattle.plane_step.specs.Ran.{Ran}
 use Rattle.plane_step.proofs.PassLemmas.{images_join, front_passes, line_passes}
@@ -27,6 +27,7 @@ loop-line-init g c = record {
   of = c.requires.of;
   stays = stays_itself (Ok (tt {0})) c.args.store.now (g.D.Disk.view c.args.files.now) (g.T.Disk.view c.args.staged.now) c.requires.open;
   due = λ holds. inl holds;
+  random = λ plain. (refl, plain);
 }
 
 pub loop-line-preserved : goal.loop-line-preserved
@@ -71,6 +72,10 @@ loop-line-preserved g c =
           (g.T.Disk.view c.loop-line.staged) (g.T.Disk.view c.carry_out.new.staged) c.in-Ok.ensures.disks);
       due = λ holds. due_more _ (g.K.Kernel.faults c.args.kernel.now) (g.K.Kernel.faults c.loop-line.kernel)
           (g.K.Kernel.faults c.carry_out.new.kernel) _ _ so_far.2.left.cause c.in-Ok.ensures.due;
+      random = λ plain.
+          let so = c.loop-line.invariant.random plain in
+          let here = subst ArePlain c.in-Some.ensures.cases.0 so.1 in
+          (c.carry_out.ensures.random here.0 ∙ so.0, here.1);
     }
 
 pub returns-in-Err-clause-ends : goal.returns-in-Err-clause-ends
@@ -111,6 +116,11 @@ returns-in-Err-clause-disks g c =
     (g.D.Disk.view c.args.files.now) (g.D.Disk.view c.loop-line.files) (g.D.Disk.view c.carry_out.new.files)
     (g.T.Disk.view c.args.staged.now) (g.T.Disk.view c.loop-line.staged) (g.T.Disk.view c.carry_out.new.staged)
     c.loop-line.invariant.stays c.in-Err.ensures.disks
+
+pub returns-in-Err-clause-random : goal.returns-in-Err-clause-random
+returns-in-Err-clause-random g c = λ plain.
+    let so = c.loop-line.invariant.random plain in
+    c.carry_out.ensures.random (subst ArePlain c.in-Some.ensures.cases.0 so.1).0 ∙ so.0
 
 pub returns-in-Err-clause-images : goal.returns-in-Err-clause-images
 returns-in-Err-clause-images g c =
@@ -169,3 +179,6 @@ returns-clause-images g c =
     subst (λ lines. StaysOrStopsIn c.args.store.now g.D.Disk.view c.args.files.now c.loop-line.files
     (ScriptPasses start supply lines))
     (all_done c.args.lines.now so_far.0 c.loop-line.rest.now so_far.1 c.in_default.ensures.cases) so_far.3
+
+pub returns-clause-random : goal.returns-clause-random
+returns-clause-random g c = λ plain. (c.loop-line.invariant.random plain).0

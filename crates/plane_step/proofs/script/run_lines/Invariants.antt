@@ -8,6 +8,7 @@ use Rattle.net_plane.specs.Network.{IsOf}
 use Rattle.local_objects.specs.Passed.{StaysOrStopsIn}
 use Rattle.bus_lines.specs.Words.{supply_of}
 use Rattle.bus_lines.specs.Ended.{world_of}
+use Rattle.plane_step.specs.Plain.{ArePlain}
 use Rattle.plane_step.specs.ScriptPasses.{ScriptPasses}
 use Rattle.plane_step.specs.Kept.{StaysOn}
 use Rattle.plane_step.specs.Ran.{Ran}
@@ -35,6 +36,7 @@ invariant-loop-line g l = record {
   due : g.K.Kernel.objects l.fn.kernel ≡ want_of l.fn.net.inputs
       → HoldsOrFailed (g.K.Kernel.objects l.kernel) (want_of l.net.inputs)
       (g.K.Kernel.faults l.fn.kernel) (g.K.Kernel.faults l.kernel);
+  random : ArePlain l.fn.lines → (l.random ≡ l.fn.random) × ArePlain l.rest;
 }
 
 abbrev pub decreases-loop-line : goal.decreases-loop-line

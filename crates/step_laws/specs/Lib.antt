@@ -1,4 +1,0 @@
--- Lines that no caller asks.
-
--- of which lines the laws speak
-pub mod Plain
