@@ -1,6 +1,7 @@
-use crate::session::{Failing, LAN, Session, run};
+use crate::texts::LAN;
 use plane_io::MemSink;
 use plane_main::lack_memory;
+use plane_session::{Failing, Session, run};
 use std::alloc::Global;
 use std::test::Fail;
 
@@ -36,7 +37,7 @@ const DUE: [&str; 10] = [
 ];
 
 fn five(alloc: Global, failing: Failing) -> Result<Session, Fail> {
-    run(alloc, WORDS, FIVE.as_bytes(), failing)
+    Ok(run(alloc, WORDS, FIVE.as_bytes(), failing)?)
 }
 
 /// These lines, one behind the other.

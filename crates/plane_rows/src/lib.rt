@@ -2,8 +2,6 @@
 #![tactic(auto)]
 
 #[cfg(test)]
-mod examples;
-#[cfg(test)]
 mod faults;
 #[cfg(test)]
 mod pages;
@@ -12,8 +10,8 @@ mod run;
 #[cfg(test)]
 mod run_rows;
 #[cfg(test)]
-mod session;
-#[cfg(test)]
 mod start;
+#[cfg(test)]
+mod texts;
 #[cfg(test)]
 mod uci;

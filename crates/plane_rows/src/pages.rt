@@ -1,4 +1,5 @@
-use crate::session::{Failing, LAN, run};
+use crate::texts::LAN;
+use plane_session::{Failing, run};
 use std::test::Fail;
 
 const HELP: &str = "plane: the configuration plane of an OpenWrt router as verified software\n";

@@ -1,28 +1,29 @@
 //! Scripts by the whole program.
-use crate::run_rows::{MORE_ROWS, ROWS};
-use crate::session::{Failing, Folder, Session, run_over};
+use crate::run_rows::{FAILURES, LINES, REFUSED, Row, SHOWN};
+use plane_session::{Failing, Folder, Session, run_over};
 use std::alloc::Global;
 use std::process::Abort;
 use std::test::Fail;
 
-#[test]
-fn scripts_print(rt: HostRuntime) -> Result<(), Fail> {
-    let alloc = rt.alloc();
-    for row in ROWS {
-        let contents: [&[u8]; 4] = [
-            b"\0\0",
-            b"",
-            row.network.as_bytes(),
-            row.wireless.as_bytes(),
-        ];
-        let mut folder = Folder::with_wireless(alloc, contents, [&[], &[]])?;
-        let failing = Failing {
-            apply: row.apply,
-            environment: row.environment,
-            ..Failing::default()
-        };
-        let script = row.script.as_bytes();
-        let ran = run_over(alloc, row.words, script, failing, &mut folder)?;
+/// Runs a row over a folder of its own.
+fn play_row(alloc: Global, row: &Row) -> Result<Session, Fail> {
+    let packages = [
+        ("network", row.network.as_bytes()),
+        ("wireless", row.wireless.as_bytes()),
+    ];
+    let mut folder = Folder::new(alloc, &packages)?;
+    let failing = Failing {
+        apply: row.apply,
+        environment: row.environment,
+        ..Failing::default()
+    };
+    let script = row.script.as_bytes();
+    Ok(run_over(alloc, row.words, script, failing, &mut folder)?)
+}
+
+fn rows_print(rt: &impl Abort, alloc: Global, rows: &[Row]) -> Result<(), Fail> {
+    for row in rows {
+        let ran = play_row(alloc, row)?;
         assert_eq!(rt; ran.out.bytes(), row.printed.as_bytes(), "{}", row.script);
         assert_eq!(rt; ran.err.bytes(), row.told.as_bytes(), "{}", row.script);
         assert_eq!(rt; ran.status, row.status, "{}", row.script);
@@ -31,28 +32,23 @@ fn scripts_print(rt: HostRuntime) -> Result<(), Fail> {
 }
 
 #[test]
-fn more_scripts_print(rt: HostRuntime) -> Result<(), Fail> {
-    let alloc = rt.alloc();
-    for row in MORE_ROWS {
-        let contents: [&[u8]; 4] = [
-            b"\0\0",
-            b"",
-            row.network.as_bytes(),
-            row.wireless.as_bytes(),
-        ];
-        let mut folder = Folder::with_wireless(alloc, contents, [&[], &[]])?;
-        let failing = Failing {
-            apply: row.apply,
-            environment: row.environment,
-            ..Failing::default()
-        };
-        let script = row.script.as_bytes();
-        let ran = run_over(alloc, row.words, script, failing, &mut folder)?;
-        assert_eq!(rt; ran.out.bytes(), row.printed.as_bytes(), "{}", row.script);
-        assert_eq!(rt; ran.err.bytes(), row.told.as_bytes(), "{}", row.script);
-        assert_eq!(rt; ran.status, row.status, "{}", row.script);
-    }
-    Ok(())
+fn scripts_print(rt: HostRuntime) -> Result<(), Fail> {
+    rows_print(&rt, rt.alloc(), LINES)
+}
+
+#[test]
+fn failures_of_the_kernel_are_told(rt: HostRuntime) -> Result<(), Fail> {
+    rows_print(&rt, rt.alloc(), FAILURES)
+}
+
+#[test]
+fn scripts_show(rt: HostRuntime) -> Result<(), Fail> {
+    rows_print(&rt, rt.alloc(), SHOWN)
+}
+
+#[test]
+fn files_and_words_are_refused(rt: HostRuntime) -> Result<(), Fail> {
+    rows_print(&rt, rt.alloc(), REFUSED)
 }
 
 #[test]
@@ -67,15 +63,10 @@ fn a_script_has_a_limit(rt: HostRuntime) -> Result<(), Fail> {
 
 /// A script of so many bytes, which says nothing.
 fn play_long(alloc: Global, size: usize) -> Result<Session, Fail> {
-    let mut folder = Folder::with_wireless(alloc, [b"\0\0", b"", b"", b""], [&[], &[]])?;
+    let mut folder = Folder::new(alloc, &[])?;
     let script = vec![in alloc; b'#'; size]?;
-    run_over(
-        alloc,
-        "run -c etc",
-        &script,
-        Failing::default(),
-        &mut folder,
-    )
+    let words = "run -c etc";
+    Ok(run_over(alloc, words, &script, Failing::default(), &mut folder)?)
 }
 
 /// A bridge of one port.
@@ -157,10 +148,17 @@ const CALLS_BEFORE: u64 = 16;
 
 const EVENTS: u64 = 4;
 
-fn play(alloc: Global, failing: Failing, disks: [&[u64]; 2]) -> Result<Session, Fail> {
-    let contents: [&[u8]; 4] = [b"\0\0", b"", LONE.as_bytes(), b""];
-    let mut folder = Folder::with_wireless(alloc, contents, disks)?;
-    run_over(alloc, "run -c etc", SCRIPT.as_bytes(), failing, &mut folder)
+/// Runs the script, where the calls of these numbers fail at the disk of packages and at that of staged changes.
+fn play(
+    alloc: Global,
+    failing: Failing,
+    of_files: &[u64],
+    of_staged: &[u64],
+) -> Result<Session, Fail> {
+    let packages = [("network", LONE.as_bytes())];
+    let mut folder = Folder::with_failing(alloc, &packages, of_files, of_staged)?;
+    let script = SCRIPT.as_bytes();
+    Ok(run_over(alloc, "run -c etc", script, failing, &mut folder)?)
 }
 
 /// The run is done, or it ended so, and what it printed is the front of a whole run's, with this line behind it.
@@ -185,7 +183,7 @@ fn reads_fail(rt: &impl Abort, alloc: Global) -> Result<u64, Fail> {
             input,
             ..Failing::default()
         };
-        let ran = play(alloc, failing, [&[], &[]])?;
+        let ran = play(alloc, failing, &[], &[])?;
         if is_over(rt, &ran, 3, "plane: read failed\n", b"") {
             return Ok(number);
         }
@@ -202,7 +200,7 @@ fn writes_fail(rt: &impl Abort, alloc: Global) -> Result<u64, Fail> {
             out,
             ..Failing::default()
         };
-        let ran = play(alloc, failing, [&[], &[]])?;
+        let ran = play(alloc, failing, &[], &[])?;
         if is_over(rt, &ran, 4, "plane: write failed\n", b"") {
             return Ok(number);
         }
@@ -213,9 +211,11 @@ fn writes_fail(rt: &impl Abort, alloc: Global) -> Result<u64, Fail> {
 /// Each call of a disk fails in turn, until none is left.
 fn disk_fails(rt: &impl Abort, alloc: Global, of_staged: bool) -> Result<u64, Fail> {
     for number in 1..200 {
-        let call: &[u64] = &[number];
-        let disks: [&[u64]; 2] = if of_staged { [&[], call] } else { [call, &[]] };
-        let ran = play(alloc, Failing::default(), disks)?;
+        let ran = if of_staged {
+            play(alloc, Failing::default(), &[], &[number])?
+        } else {
+            play(alloc, Failing::default(), &[number], &[])?
+        };
         if is_over(rt, &ran, 5, "plane: disk failed\n", b"error 30 disk\n") {
             return Ok(number);
         }
@@ -243,7 +243,7 @@ fn each_call_of_the_kernel_fails_in_turn(rt: HostRuntime) -> Result<(), Fail> {
             apply,
             ..Failing::default()
         };
-        let ran = play(alloc, failing, [&[], &[]])?;
+        let ran = play(alloc, failing, &[], &[])?;
         let status = if number <= CALLS_BEFORE {
             1
         } else if number <= CALLS {
@@ -259,7 +259,7 @@ fn each_call_of_the_kernel_fails_in_turn(rt: HostRuntime) -> Result<(), Fail> {
             environment,
             ..Failing::default()
         };
-        let ran = play(alloc, failing, [&[], &[]])?;
+        let ran = play(alloc, failing, &[], &[])?;
         assert_eq!(rt;
             ran.status,
             if number <= EVENTS { 1 } else { 0 },
@@ -363,8 +363,8 @@ uci get network.lan.ipaddr
 fn an_apply_is_undone_at_its_deadline(rt: HostRuntime) -> Result<(), Fail> {
     let alloc = rt.alloc();
     for (snapshot, words, printed, status, told) in UNDONE {
-        let contents: [&[u8]; 4] = [b"OO", snapshot, APPLIED.as_bytes(), b""];
-        let mut folder = Folder::with_wireless(alloc, contents, [&[], &[]])?;
+        let packages = [("network", APPLIED.as_bytes())];
+        let mut folder = Folder::with_snapshot(alloc, b"OO", snapshot, &packages, None)?;
         let ran = run_over(alloc, words, DEADLINE, Failing::default(), &mut folder)?;
         assert_eq!(rt; ran.out.bytes(), printed.as_bytes(), "{words}");
         assert_eq!(rt; ran.err.bytes(), told.as_bytes(), "{words}");

@@ -1,5 +1,5 @@
 //! What `plane run` prints, tells and ends with, as a table.
-use crate::start::ROUTER;
+use crate::texts::ROUTER;
 
 /// One run of a script.
 pub struct Row {
@@ -119,82 +119,9 @@ config interface 'ring'
 \toption ipaddr '10.0.0.1/24'
 ";
 
-pub const ROWS: &[Row] = &[
+/// Lines that are carried out or refused.
+pub const LINES: &[Row] = &[
     NOTHING,
-    // a bridge gains a port
-    Row {
-        network: BRIDGE,
-        script: "dev add lan1
-dev add lan4
-uci add_list network.brlan.ports=lan4
-uci commit
-reload
-",
-        printed: "link add name br-lan type bridge
-link set dev lan1 master br-lan
-link set dev br-lan up
-link set dev lan1 up
-addr add 192.168.1.1/24 dev br-lan
-ok
-ok
-ok
-ok
-link set dev lan4 master br-lan
-link set dev lan4 up
-ok
-",
-        ..NOTHING
-    },
-    // an ask is lost with its device, and an answer to it comes too late
-    Row {
-        network: WAN,
-        script: "dev add eth1
-dev del eth1
-dev add eth1
-answer wan 1 '{\"up\":true,\"addresses\":[\"192.0.2.5/24\"]}'
-answer wan 2 '{\"up\":true,\"addresses\":[\"192.0.2.5/24\"]}'
-",
-        printed: "link set dev eth1 up
-ask 1 interface wan dhcp eth1 {}
-ok
-drop 1
-ok
-link set dev eth1 up
-ask 2 interface wan dhcp eth1 {}
-ok
-error 91 stale 1 2
-addr add 192.0.2.5/24 dev eth1
-ok
-",
-        status: 1,
-        ..NOTHING
-    },
-    // a line that is cut, and comes back
-    Row {
-        network: WAN,
-        script: "dev add eth1
-answer wan 1 '{\"up\":true,\"addresses\":[\"192.0.2.5/24\"],\"routes\":[{\"target\":\"0.0.0.0/0\",\"gateway\":\"192.0.2.1\"}]}'
-carrier eth1 0
-carrier eth1 1
-answer wan 2 '{\"up\":true,\"addresses\":[\"192.0.2.6/24\"]}'
-",
-        printed: "link set dev eth1 up
-ask 1 interface wan dhcp eth1 {}
-ok
-addr add 192.0.2.5/24 dev eth1
-route add 0.0.0.0/0 via 192.0.2.1 dev eth1
-ok
-route del 0.0.0.0/0 via 192.0.2.1 dev eth1
-addr del 192.0.2.5/24 dev eth1
-drop 1
-ok
-ask 2 interface wan dhcp eth1 {}
-ok
-addr add 192.0.2.6/24 dev eth1
-ok
-",
-        ..NOTHING
-    },
     // commands of the operator, lines that are refused, and a moment that has passed
     Row {
         network: PAIR,
@@ -233,42 +160,6 @@ error 92 no device
         status: 1,
         ..NOTHING
     },
-    // the kernel fails at the third call, and the next line goes on
-    Row {
-        network: WAITING,
-        script: "dev add lan1\ndev add lan2\nup lan\nat 1\n",
-        apply: &[3],
-        printed: "ok
-ok
-link add name br-lan type bridge
-link set dev lan1 master br-lan
-error 93 kernel
-link set dev lan2 master br-lan
-link set dev br-lan up
-link set dev lan1 up
-link set dev lan2 up
-addr add 10.0.0.1/24 dev br-lan
-ok
-",
-        status: 1,
-        ..NOTHING
-    },
-    // it fails at an event, and then at a call: each is told by itself
-    Row {
-        network: WAN,
-        script: "dev add eth1\ndev add eth1\ndev add eth1\nat 1\n",
-        apply: &[1],
-        environment: &[1],
-        printed: "error 93 kernel
-ask 1 interface wan dhcp eth1 {}
-error 93 kernel
-link set dev eth1 up
-error 94 known
-ok
-",
-        status: 1,
-        ..NOTHING
-    },
     // a device that leaves takes with it what stands on it
     Row {
         network: VLAN,
@@ -282,60 +173,6 @@ ok
 error 92 no device
 ",
         status: 1,
-        ..NOTHING
-    },
-    // it fails at the second call
-    Row {
-        network: PAIR,
-        script: "dev add eth0\nat 1\n",
-        apply: &[2],
-        printed: "link set dev eth0 up
-error 93 kernel
-addr add 10.0.0.1/24 dev eth0
-addr add 10.0.0.2/24 dev eth0
-ok
-",
-        status: 1,
-        ..NOTHING
-    },
-    Row {
-        network: PAIR,
-        script: "dev add eth0\n",
-        apply: &[2],
-        printed: "link set dev eth0 up\nerror 93 kernel\n",
-        status: 6,
-        told: "plane: kernel: 2 due\n",
-        ..NOTHING
-    },
-    // no line goes on
-    Row {
-        network: WAITING,
-        script: "dev add lan1\ndev add lan2\nup lan\n",
-        apply: &[3],
-        printed: "ok
-ok
-link add name br-lan type bridge
-link set dev lan1 master br-lan
-error 93 kernel
-",
-        status: 6,
-        told: "plane: kernel: 5 due\n",
-        ..NOTHING
-    },
-    // the line that goes on is refused, and the kernel fails once more
-    Row {
-        network: WAITING,
-        script: "dev add lan1\ndev add lan2\nup lan\nup none\n",
-        apply: &[2, 4],
-        printed: "ok
-ok
-link add name br-lan type bridge
-error 93 kernel
-link set dev lan1 master br-lan
-error 90 no interface
-",
-        status: 6,
-        told: "plane: kernel: 5 due\n",
         ..NOTHING
     },
     // a script that is no text of words is refused as a whole
@@ -407,55 +244,6 @@ ok
         status: 1,
         ..NOTHING
     },
-    // the kernel fails in the opening, which is told by no line
-    Row {
-        network: EMPTY_BRIDGE,
-        script: "at 0\n",
-        apply: &[2],
-        printed: "link add name br0 type bridge
-link set dev br0 up
-addr add 10.0.0.1/24 dev br0
-ok
-",
-        ..NOTHING
-    },
-];
-
-/// Further scripts, as those of `ROWS`.
-pub const MORE_ROWS: &[Row] = &[
-    Row {
-        network: EMPTY_BRIDGE,
-        script: "at 'x\n",
-        apply: &[2],
-        printed: "link add name br0 type bridge\nerror 97 bad line 1\n",
-        status: 6,
-        told: "plane: kernel: 2 due\n",
-        ..NOTHING
-    },
-    // a reload touches the one address that changed
-    Row {
-        network: ROUTER,
-        script: "dev add lan1
-uci set network.lan.ipaddr=10.0.0.1
-reload
-uci commit
-reload
-",
-        printed: "link add name br-lan type bridge
-link set dev lan1 master br-lan
-link set dev br-lan up
-link set dev lan1 up
-addr add 192.168.1.1/24 dev br-lan
-ok
-ok
-ok
-ok
-addr del 192.168.1.1/24 dev br-lan
-addr add 10.0.0.1/24 dev br-lan
-ok
-",
-        ..NOTHING
-    },
     // commands of `uci` that print or are refused, and an import of nothing
     Row {
         network: PAIR,
@@ -491,7 +279,126 @@ ok
         status: 1,
         ..NOTHING
     },
-    // a radio with a port, and what is shown of it
+];
+
+/// Calls of the kernel and device events that fail.
+pub const FAILURES: &[Row] = &[
+    // the kernel fails at the third call, and the next line goes on
+    Row {
+        network: WAITING,
+        script: "dev add lan1\ndev add lan2\nup lan\nat 1\n",
+        apply: &[3],
+        printed: "ok
+ok
+link add name br-lan type bridge
+link set dev lan1 master br-lan
+error 93 kernel
+link set dev lan2 master br-lan
+link set dev br-lan up
+link set dev lan1 up
+link set dev lan2 up
+addr add 10.0.0.1/24 dev br-lan
+ok
+",
+        status: 1,
+        ..NOTHING
+    },
+    // it fails at an event, and then at a call: each is told by itself
+    Row {
+        network: WAN,
+        script: "dev add eth1\ndev add eth1\ndev add eth1\nat 1\n",
+        apply: &[1],
+        environment: &[1],
+        printed: "error 93 kernel
+ask 1 interface wan dhcp eth1 {}
+error 93 kernel
+link set dev eth1 up
+error 94 known
+ok
+",
+        status: 1,
+        ..NOTHING
+    },
+    // it fails at the second call, with a line behind that and without one
+    Row {
+        network: PAIR,
+        script: "dev add eth0\nat 1\n",
+        apply: &[2],
+        printed: "link set dev eth0 up
+error 93 kernel
+addr add 10.0.0.1/24 dev eth0
+addr add 10.0.0.2/24 dev eth0
+ok
+",
+        status: 1,
+        ..NOTHING
+    },
+    Row {
+        network: PAIR,
+        script: "dev add eth0\n",
+        apply: &[2],
+        printed: "link set dev eth0 up\nerror 93 kernel\n",
+        status: 6,
+        told: "plane: kernel: 2 due\n",
+        ..NOTHING
+    },
+    // no line goes on
+    Row {
+        network: WAITING,
+        script: "dev add lan1\ndev add lan2\nup lan\n",
+        apply: &[3],
+        printed: "ok
+ok
+link add name br-lan type bridge
+link set dev lan1 master br-lan
+error 93 kernel
+",
+        status: 6,
+        told: "plane: kernel: 5 due\n",
+        ..NOTHING
+    },
+    // the line that goes on is refused, and the kernel fails once more
+    Row {
+        network: WAITING,
+        script: "dev add lan1\ndev add lan2\nup lan\nup none\n",
+        apply: &[2, 4],
+        printed: "ok
+ok
+link add name br-lan type bridge
+error 93 kernel
+link set dev lan1 master br-lan
+error 90 no interface
+",
+        status: 6,
+        told: "plane: kernel: 5 due\n",
+        ..NOTHING
+    },
+    // it fails in the opening, which is told by no line
+    Row {
+        network: EMPTY_BRIDGE,
+        script: "at 0\n",
+        apply: &[2],
+        printed: "link add name br0 type bridge
+link set dev br0 up
+addr add 10.0.0.1/24 dev br0
+ok
+",
+        ..NOTHING
+    },
+    Row {
+        network: EMPTY_BRIDGE,
+        script: "at 'x\n",
+        apply: &[2],
+        printed: "link add name br0 type bridge\nerror 97 bad line 1\n",
+        status: 6,
+        told: "plane: kernel: 2 due\n",
+        ..NOTHING
+    },
+];
+
+/// What is shown.
+pub const SHOWN: &[Row] = &[
+    // a radio that gets a port
     Row {
         network: BRIDGE,
         wireless: RADIO,
@@ -524,7 +431,7 @@ ok
         status: 1,
         ..NOTHING
     },
-    // what is shown
+    // interfaces and devices
     Row {
         network: ROUTER,
         script: "dev add lan1
@@ -566,6 +473,10 @@ ok
         printed: "{\"interface\":[]}\nok\n",
         ..NOTHING
     },
+];
+
+/// Files that do not read, and words of no command.
+pub const REFUSED: &[Row] = &[
     // files that do not read
     Row {
         network: "\nconfig x a-b",

@@ -1,4 +1,5 @@
-use crate::session::{Failing, LAN, run};
+use crate::texts::{LAN, ROUTER};
+use plane_session::{Failing, run};
 use std::test::Fail;
 
 const TWO: &str =
@@ -12,10 +13,6 @@ const IPV6: &str =
 
 const TWICE: &str =
     "config interface a\noption device eth0\noption proto static\noption ipaddr 10.0.0.1\noption netmask 255.0.0.0\nconfig interface b\noption device eth0\noption proto static\noption ipaddr 10.0.0.1\noption netmask 255.0.0.0\n";
-
-/// The network file of a router with one bridge, as OpenWrt ships it.
-pub const ROUTER: &str =
-    "config interface 'loopback'\n\toption device 'lo'\n\toption proto 'static'\n\toption ipaddr '127.0.0.1'\n\toption netmask '255.0.0.0'\n\nconfig globals 'globals'\n\toption ula_prefix 'fd12:3456:789a::/48'\n\nconfig device\n\toption name 'br-lan'\n\toption type 'bridge'\n\tlist ports 'lan1'\n\tlist ports 'lan2'\n\tlist ports 'lan3'\n\tlist ports 'lan4'\n\nconfig interface 'lan'\n\toption device 'br-lan'\n\toption proto 'static'\n\toption ipaddr '192.168.1.1'\n\toption netmask '255.255.255.0'\n\toption ip6assign '60'\n\nconfig interface 'wan'\n\toption device 'wan'\n\toption proto 'dhcp'\n\nconfig interface 'wan6'\n\toption device 'wan'\n\toption proto 'dhcpv6'\n";
 
 /// The interface of the examples in the whole grammar of UCI files: comments, quotes, escapes, a section that goes on, an
 /// option that is given twice, and one that is removed.

@@ -1,5 +1,5 @@
 //! OpenWrt's `uci` by the whole program.
-use crate::session::{Failing, Folder, run_over};
+use plane_session::{Failing, Folder, run_over};
 use std::alloc::Global;
 use std::process::Abort;
 use std::test::Fail;
@@ -77,7 +77,7 @@ const DELETED: &[Row] = &[
 ];
 
 fn play(rt: &impl Abort, alloc: Global, rows: &[Row]) -> Result<Folder, Fail> {
-    let mut folder = Folder::new(alloc, b"\0\0", b"", NETWORK, None)?;
+    let mut folder = Folder::new(alloc, &[("network", NETWORK)])?;
     for (words, printed, told, status) in rows {
         let ran = run_over(alloc, words, b"", Failing::default(), &mut folder)?;
         assert_eq!(rt; ran.status, *status, "{words}");
@@ -113,7 +113,13 @@ fn a_folder_that_is_not_opened_is_told(rt: HostRuntime) -> Result<(), Fail> {
         ),
     ];
     for (gates, snapshot, network, told, status) in rows {
-        let mut folder = Folder::new(alloc, gates, snapshot, network, None)?;
+        let mut folder = Folder::with_snapshot(
+            alloc,
+            gates,
+            snapshot,
+            &[("network", network)],
+            None,
+        )?;
         let ran = run_over(
             alloc,
             "uci show network",
@@ -135,7 +141,7 @@ fn inputs_and_failures_of_uci_are_told(rt: HostRuntime) -> Result<(), Fail> {
         input: &[1],
         ..Failing::default()
     };
-    let mut folder = Folder::new(alloc, b"\0\0", b"", NETWORK, None)?;
+    let mut folder = Folder::new(alloc, &[("network", NETWORK)])?;
     let ran = run_over(
         alloc,
         "uci import network",
@@ -155,7 +161,7 @@ fn inputs_and_failures_of_uci_are_told(rt: HostRuntime) -> Result<(), Fail> {
     let ran = run_over(alloc, "uci batch", batch, Failing::default(), &mut folder)?;
     assert_eq!(rt; ran.status, 0);
     assert_eq!(rt; ran.out.bytes(), b"1400\n".as_slice());
-    let mut folder = Folder::new(alloc, b"\0\0", b"", NETWORK, Some(0))?;
+    let mut folder = Folder::with_snapshot(alloc, b"\0\0", b"", &[("network", NETWORK)], Some(0))?;
     let ran = run_over(alloc, "uci show", b"", Failing::default(), &mut folder)?;
     assert_eq!(rt; ran.status, 5);
     assert_eq!(rt; ran.err.bytes(), b"uci: I/O error\n".as_slice());

@@ -1,0 +1,8 @@
+//! The whole program over devices in memory, as the crates of its examples run it.
+#![tactic(auto)]
+
+mod folder;
+mod session;
+
+pub use folder::Folder;
+pub use session::{Failing, Session, run, run_over};
