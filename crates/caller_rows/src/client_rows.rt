@@ -1,0 +1,165 @@
+//! What lines of clients of the message bus print.
+use crate::row::Row;
+
+/// Clients that come, send bytes, and leave.
+pub const CLIENT_ROWS: &[Row] = &[
+    // a client looks the object `session` up
+    Row {
+        network: "",
+        script: "client 1 open root root
+client 1 bytes 0004000100000000000000100200000c73657373696f6e00
+",
+        printed: "send 1 000000000000040100000004
+ok
+send 1 0002000100000000000000240200000c73657373696f6e000300000800000002050000080000000206000004
+send 1 00010001000000000000000c0100000800000000
+ok
+",
+        status: 0,
+    },
+    // the same bytes in pieces
+    Row {
+        network: "",
+        script: "client 1 open root root
+client 1 bytes 0004000100
+client 1 bytes 000000000000100200000c73657373696f6e
+client 1 bytes 00
+",
+        printed: "send 1 000000000000040100000004
+ok
+ok
+ok
+send 1 0002000100000000000000240200000c73657373696f6e000300000800000002050000080000000206000004
+send 1 00010001000000000000000c0100000800000000
+ok
+",
+        status: 0,
+    },
+    // a client that is open, one that is not, and lines of no row
+    Row {
+        network: "",
+        script: "client 1 open root root
+client 1 open root root
+client 2 close
+client 1 close
+client 1 bytes 00
+client 3 open
+client x close
+client 4294967296 close
+client 1 bytes 0
+",
+        printed: "send 1 000000000000040100000004
+ok
+error 64 client open
+error 61 no client
+ok
+error 61 no client
+error 97 bad line 6
+error 97 bad line 7
+error 97 bad line 8
+error 97 bad line 9
+",
+        status: 1,
+    },
+    // bytes with a fault close their client, behind the frames in front of it
+    Row {
+        network: "",
+        script: "client 1 open root root
+client 1 bytes 01
+client 1 bytes 00
+client 1 open root root
+client 1 bytes 000000000000000000100001
+client 1 open root root
+client 1 bytes 0004000100000000000000100200000c73657373696f6e00000000000000000000000003
+client 1 open root root
+client 1 bytes 000000000000000080000004
+client 1 open root root
+client 1 bytes 000000000000000000100000
+",
+        printed: "send 1 000000000000040100000004
+ok
+error 50 version
+error 61 no client
+send 1 000000000000040200000004
+ok
+error 51 too long
+send 1 000000000000040300000004
+ok
+send 1 0002000100000000000000240200000c73657373696f6e000300000800000002050000080000000206000004
+send 1 00010001000000000000000c0100000800000000
+error 52 bad blob
+send 1 000000000000040400000004
+ok
+error 52 bad blob
+send 1 000000000000040500000004
+ok
+ok
+",
+        status: 1,
+    },
+    // a frame behind the fault is not served
+    Row {
+        network: "",
+        script: "client 1 open root root
+client 1 bytes 0100000000000000000000040004000100000000000000100200000c73657373696f6e00
+client 1 bytes 00
+",
+        printed: "send 1 000000000000040100000004
+ok
+error 50 version
+error 61 no client
+",
+        status: 1,
+    },
+    // a call of a client's object is answered, and its owner leaves
+    Row {
+        network: "",
+        script: "client 1 open root root
+client 2 open root root
+client 1 bytes 0006000100000000000000100200000964656d6f00000000
+client 2 bytes 0005000500000000000000240300000800000401040000066d000000070000108500000c0001780000000001
+client 1 bytes 000200050000040200000014070000108500000c0001780000000001
+client 1 bytes 00010005000004020000000c0100000800000000
+client 1 close
+",
+        printed: "send 1 000000000000040100000004
+ok
+send 2 000000000000040200000004
+ok
+send 1 00020001000000000000001403000008000004010500000800000401
+send 1 00010001000000000000000c0100000800000000
+ok
+send 1 00050005000004020000003c0300000800000401040000066d000000070000108500000c00017800000000010c000009726f6f74000000000d000009726f6f7400000000
+ok
+send 2 000200050000040100000014070000108500000c0001780000000001
+ok
+send 2 00010005000004010000000c0100000800000000
+ok
+ok
+",
+        status: 0,
+    },
+    // its owner leaves before
+    Row {
+        network: "",
+        script: "client 1 open root root
+client 2 open root root
+client 1 bytes 0006000100000000000000100200000964656d6f00000000
+client 2 bytes 0005000500000000000000240300000800000401040000066d000000070000108500000c0001780000000001
+client 1 close
+",
+        printed: "send 1 000000000000040100000004
+ok
+send 2 000000000000040200000004
+ok
+send 1 00020001000000000000001403000008000004010500000800000401
+send 1 00010001000000000000000c0100000800000000
+ok
+send 1 00050005000004020000003c0300000800000401040000066d000000070000108500000c00017800000000010c000009726f6f74000000000d000009726f6f7400000000
+ok
+send 2 00010005000004010000000c010000080000000a
+ok
+",
+        status: 0,
+    },
+];
