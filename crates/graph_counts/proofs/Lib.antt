@@ -9,3 +9,4 @@ pub mod CostLemmas
 pub mod FewLemmas
 pub mod TellLemmas
 pub mod LoadLemmas
+pub mod GrowLemmas

@@ -2,7 +2,7 @@ ghost use Rattle.std.specs.Prelude.{◌≡◌, ◌<◌, ◌≤◌, ◌+◌, ◌*
 ghost use Rattle.std.specs.Option.{option_map};
 ghost use Rattle.kern_model.specs.Kernel.{with_carrier};
 ghost use Rattle.graph_rules.specs.State.{place_among, names_in};
-ghost use Rattle.graph_rules.specs.After.{known_of, name_at, with_claims, with_device};
+ghost use Rattle.graph_rules.specs.After.{known_of, name_at, with_claims, with_device, with_name};
 ghost use Rattle.graph_rules.specs.Conditions.{ArePorts, CanLoad};
 ghost use Rattle.graph_counts.specs.Told.{HasFewClaims};
 ghost use Rattle.graph_rules.specs.Answers as spec;
@@ -10,8 +10,8 @@ ghost use Rattle.graph_rules.specs.Edges.{changed_edges};
 ghost use Rattle.graph_counts.specs.Counted.{name_of};
 
 use crate::edges::port_edges;
-use crate::loading::counts_of;
-use graph_names::{Names, kept_names};
+use crate::loading::{counts_again, counts_of};
+use graph_names::{Names, Told, kept_names};
 use graph_rules::{DevId, RadioPort};
 use kern_model::{DevName, Device};
 use net_copies::{copy_conf, copy_items};
@@ -74,6 +74,34 @@ impl CountedNames {
             radio: ports,
             counts,
         })
+    }
+
+    /// One more plain name, without a device and without claims. Where memory lacks, all stays.
+    pub fn add_plain(&mut self, alloc: Global, name: DevName) -> Result<DevId, Memory>
+        requires { place_among self.old.names name ≡ None }
+        ensures ok { OnOk result (self.new ≡ record self.old {
+          names = with_name self.old.names name;
+        }) }
+        ensures id { IfOk result (λ id. id.0 ≡ length self.old.names) }
+        ensures err { OnErr result (self.new ≡ self.old) }
+    {
+        let id = self.names.len();
+        let told = Told {
+            device: None,
+            claims: 0,
+        };
+        self.names.add(name, told)?;
+        let rows = self.rows.as_slice();
+        match counts_again(alloc, &self.names, rows, self.radio.as_slice()) {
+            Ok(counts) => {
+                self.counts = counts;
+                Ok(DevId(id))
+            }
+            Err(error) => {
+                self.names.forget_last();
+                Err(error)
+            }
+        }
     }
 
     /// The names with their devices and claims.

@@ -1,4 +1,4 @@
-ghost use Rattle.std.specs.Prelude.{◌≡◌, ◌<◌, ◌++◌, [], length, map, is_some, false, IfOk};
+ghost use Rattle.std.specs.Prelude.{◌≡◌, ◌<◌, ◌++◌, [], length, map, drop, is_some, false, IfOk};
 ghost use Rattle.std.specs.Option.{option_map_or};
 ghost use Rattle.use_counts.specs.Network.{with_device};
 ghost use Rattle.graph_rules.specs.State.{name_list};
@@ -86,4 +86,40 @@ pub fn counts_of(
     let mut counts = Graph::load(alloc, &nodes, &fixed, &ports)?;
     tell::<Brand>(names, &mut counts, Blank::new(1));
     Ok(counts)
+}
+
+/// The names from a place on.
+fn names_from(alloc: Global, names: &Names, first: usize) -> Result<Vec<DevName>, Memory>
+    ensures { IfOk result (λ rest. rest.items ≡ drop first (name_list names.now)) }
+{
+    let mut rest = Vec::new(alloc);
+    for id in first..names.len() {
+        rest.push(names.name(id))?;
+    }
+    Ok(rest)
+}
+
+/// The counts of names, of which those of the rows come first, with all that is known of them.
+pub fn counts_again(
+    alloc: Global,
+    names: &Names,
+    rows: &[NameRow],
+    radio: &[RadioPort],
+) -> Result<Graph, Memory>
+    requires sound { IsSound (record {
+      rows = rows.now;
+      vlans = [];
+      names = names.now;
+      radio = radio.now;
+    }) }
+    requires few { HasFewClaims names.now }
+    ensures { IfOk result (λ g. g ≡ network_of (record {
+      rows = rows.now;
+      vlans = [];
+      names = names.now;
+      radio = radio.now;
+    })) }
+{
+    let plain = names_from(alloc, names, rows.len())?;
+    counts_of(alloc, names, rows, &plain, radio)
 }

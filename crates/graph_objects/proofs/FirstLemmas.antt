@@ -1,6 +1,7 @@
 -- The first of a turn is the first call of its kind in the list of the calls.
-use Rattle.std.proofs.Common.{ℕ, ◌≡◌, inl, inr, List, [], ◌∷◌, Contains, Some, None, true, false, Bool, cond, refl, ap, sym, subst, ◌∙◌}
+use Rattle.std.proofs.Common.{ℕ, ◌≡◌, inl, inr, List, [], ◌∷◌, Contains, Option, Some, None, IfSome, IfNone, true, false, not, Bool, cond, refl, ap, sym, subst, ◌∙◌}
 use Rattle.std.specs.List.{find}
+use Rattle.std.specs.Option.{option_map}
 use Rattle.std.specs.List.Sorted.{IsStrictlySortedBy}
 use Rattle.std.specs.declared.cmp.Ordering.{Ordering}
 use Rattle.std.specs.declared.cmp.Ordering.TheVariants.{Less}
@@ -17,7 +18,7 @@ use Rattle.kern_model.proofs.LeadLemmas.{taken_call, carries, is_own, call_of_ta
 use Rattle.kern_calls.specs.Calls.{own_take, calls}
 use Rattle.kern_calls.proofs.CallsLemmas.{are_the_calls}
 use Rattle.graph_objects.specs.declared.turn.Turn.TheVariants.{Takes, Puts}
-use Rattle.graph_objects.specs.Turns.{IsFirst}
+use Rattle.graph_objects.specs.Turns.{IsFirst, TellsTakes}
 
 find_step : {X : Type 0} (p : X → Bool) (x : X) (xs : List X) (b : Bool) → p x ≡ b → find p (x ∷ xs) ≡ cond b (Some x) (find p xs)
 find_step p x xs b is = ap (λ t. cond t (Some x) (find p xs)) is
@@ -85,3 +86,14 @@ module _ (p : Call → Bool) (takes : (o : Object) (mtu : ℕ) (mac : Mac) → p
   no_put_found none =
       let are = are_the_calls devices held wanted in
       find_none p (calls devices held wanted) (λ x member passes. let due = put_due x (are.sound x member) passes in none due.0 due.1)
+
+-- what is found first is that of the first call of its kind, and nothing where there is none
+pub take_found : (test : Call → Bool) → TellsTakes test → (devices : Devices) (held wanted : Objects) (found : Option Object) → IfSome found (IsFirst Takes held wanted)
+    → IfNone found ((o : Object) → is_taken held wanted o ≡ true → ⊥) → find test (calls devices held wanted) ≡ option_map (own_take devices) found
+take_found test tells devices held wanted (Some o) some none = first_take_found test tells.takes tells.puts devices held wanted o some
+take_found test tells devices held wanted None some none = no_take_found test tells.takes tells.puts devices held wanted none
+
+pub put_found : (test : Call → Bool) → TellsTakes test → (devices : Devices) (held wanted : Objects) (found : Option Object) → IfSome found (IsFirst Puts held wanted)
+    → IfNone found ((o : Object) → is_put held wanted o ≡ true → ⊥) → find (λ call. not (test call)) (calls devices held wanted) ≡ option_map Put found
+put_found test tells devices held wanted (Some o) some none = first_put_found (λ call. not (test call)) (λ x mtu mac. ap not (tells.takes x mtu mac)) (λ x. ap not (tells.puts x)) devices held wanted o some
+put_found test tells devices held wanted None some none = no_put_found (λ call. not (test call)) (λ x mtu mac. ap not (tells.takes x mtu mac)) (λ x. ap not (tells.puts x)) devices held wanted none

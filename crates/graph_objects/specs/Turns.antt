@@ -1,9 +1,10 @@
 -- The first of the takes, and the first of the puts.
-use Rattle.std.specs.Prelude.{◌≡◌, Bool, true}
+use Rattle.std.specs.Prelude.{ℕ, ◌≡◌, Bool, true, false}
 use Rattle.std.specs.declared.cmp.Ordering.TheVariants.{Less}
+use Rattle.kern_model.specs.declared.object.Mac.{Mac}
 use Rattle.kern_model.specs.declared.object.Object.{Object}
 use Rattle.kern_model.specs.declared.object.Call.{Call}
-use Rattle.kern_model.specs.declared.object.Call.TheVariants.{Put}
+use Rattle.kern_model.specs.declared.object.Call.TheVariants.{Put, Take}
 use Rattle.kern_model.specs.ObjectOrder.{Objects}
 use Rattle.kern_model.specs.Kernel.{Devices}
 use Rattle.kern_model.specs.Touched.{is_taken, is_put}
@@ -34,3 +35,8 @@ pub record IsFirst (turn : Turn) (held wanted : Objects) (o : Object) : Type 0 w
   pub due : is_due turn held wanted o ≡ true
   pub first : (devices : Devices) (other : Object) → is_due turn held wanted other ≡ true
       → call_cmp held wanted (call_in devices turn other) (call_in devices turn o) ≡ Less → ⊥
+
+-- a test that takes pass, and puts do not
+pub record TellsTakes (test : Call → Bool) : Type 0 where
+  pub takes : (o : Object) (mtu : ℕ) (mac : Mac) → test (Take o mtu mac) ≡ true
+  pub puts : (o : Object) → test (Put o) ≡ false

@@ -6,6 +6,7 @@ mod due;
 mod form;
 mod growth;
 mod key;
+mod laws;
 mod line;
 mod objects;
 mod slot;
@@ -13,5 +14,6 @@ mod slots;
 mod turn;
 mod walks;
 
+pub use laws::first_calls_are_found;
 pub use objects::DeviceObjects;
 pub use slot::Wish;
