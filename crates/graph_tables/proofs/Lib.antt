@@ -1,0 +1,5 @@
+pub mod MoreLemmas
+pub mod RowLemmas
+pub mod DecideLemmas
+pub mod ListLemmas
+pub mod StandLemmas

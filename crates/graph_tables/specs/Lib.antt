@@ -1,0 +1,8 @@
+-- What may be wanted on the devices of a graph.
+
+-- what may be wanted, with ids in place of names
+pub mod Wished
+-- lists of what may be wanted
+pub mod Lists
+-- rows, names and VLANs that are sound together
+pub mod Whole

@@ -1,0 +1,2 @@
+pub mod WishLemmas
+pub mod MayLemmas
