@@ -1,7 +1,7 @@
 -- What a disk keeps of staged changes once one of its files is written.
-use Rattle.std.proofs.Common.{ℕ, ◌≡◌, ◌≢◌, ◌<◌, Bool, true, false, not, nat_eq, List, [], ◌∷◌, ◌++◌, length, Option, Some, None, refl, sym, ap, subst, ◌∙◌, arith}
+use Rattle.std.proofs.Common.{ℕ, ◌≡◌, ◌≢◌, ◌<◌, Bool, true, false, not, cond, nat_eq, List, [], ◌∷◌, ◌++◌, length, map, Option, Some, None, refl, sym, ap, subst, ◌∙◌, arith}
 use Rattle.std.specs.List.{filter}
-use Rattle.std.specs.Prelude.{IfSome}
+use Rattle.std.specs.Prelude.{IfSome, ◌&&◌}
 use Rattle.std.proofs.lemmas.Bool.Decides.{nat_tests}
 use Rattle.std.proofs.lemmas.List.{append-nil, get_or-set_same, get_or-set_other}
 use Rattle.uci_text.proofs.ClassLemmas.{each-append}
@@ -9,13 +9,14 @@ use Rattle.plane_disk.specs.Files.{Files, bytes_of, with_bytes}
 use Rattle.plane_disk.specs.Names.{name_at}
 use Rattle.plane_disk.specs.View.{View, IsSound}
 use Rattle.uci_tree.specs.declared.path.Path.{Path}
+use Rattle.uci_delta.specs.declared.delta.Delta.{Delta}
 use Rattle.uci_delta.specs.Deltas.{AreDeltas}
 use Rattle.uci_delta.specs.Printed.{lines_of}
 use Rattle.uci_delta.proofs.PrintedLemmas.{lines_read}
 use Rattle.uci_staged.specs.declared.change.StagedChange.{StagedChange}
-use Rattle.uci_staged.specs.Change.{is_of, deltas_in, stays, reverted, without, forgotten, kept_text}
+use Rattle.uci_staged.specs.Change.{is_of, changes_at, deltas_in, stays, reverted, without, forgotten, kept_text}
 use Rattle.uci_staged.specs.Kept.{IsStagedIn, AreStagedIn, AreKept, Follows, ReadsOn, HasFilled, HasEmptied}
-use Rattle.uci_staged.proofs.ChangeLemmas.{Leaves, holder_of, file_of, each_filter, each_line, other_holder, other_file, reverted_leaves, without_leaves, forgotten_leaves, without_none, forgotten_none, all_stay, deltas-append, one_passed}
+use Rattle.uci_staged.proofs.ChangeLemmas.{Leaves, holder_of, file_of, other_number, and_false, each_filter, each_line, other_holder, other_file, reverted_leaves, without_leaves, forgotten_leaves, without_none, forgotten_none, all_stay, deltas-append, one_passed}
 
 -- ---- a disk that tells
 
@@ -116,6 +117,30 @@ staged_more old new changes after change sound follows lines kept staged grown f
         by : (t : Bool) → is_of 0 k change ≡ t → deltas_in 0 k (change ∷ []) ≡ []
         by true e = absurd (never e)
         by false e = one_passed 0 k change e
+
+-- ---- and several, of one package
+
+none_of : (holder file k : ℕ) (deltas : List Delta) → (nat_eq holder 0 && nat_eq file k) ≡ false → deltas_in 0 k (changes_at holder file deltas) ≡ []
+none_of holder file k [] e = refl
+none_of holder file k (delta ∷ deltas) e =
+    ap (λ (t : Bool). map (λ (c : StagedChange). c.delta) (cond {A = List StagedChange} t (record { holder = holder; file = file; delta = delta } ∷ filter (is_of 0 k) (changes_at holder file deltas)) (filter (is_of 0 k) (changes_at holder file deltas)))) e
+    ∙ none_of holder file k deltas e
+
+pub staged_all_more : (old new : View) (changes after : List StagedChange) (holder file : ℕ) (deltas : List Delta) → IsSound old → Follows old new → file < length old.names → AreStagedIn old.names changes → AreKept old changes → AreStagedIn old.names (changes_at holder file deltas)
+    → after ≡ changes ++ changes_at holder file deltas → (holder ≡ 0 → HasFilled old new file (kept_text file None after)) → (holder ≢ 0 → new ≡ old) → AreStagedIn new.names after × AreKept new after
+staged_all_more old new changes after holder file deltas sound follows within lines kept staged grown filled aside =
+    let all : AreStagedIn old.names after = subst (AreStagedIn old.names) (sym grown) (each-append (IsStagedIn old.names) changes (changes_at holder file deltas) lines staged) in (
+      lines_follow old new after follows all,
+      by_holder holder
+          (λ own. kept_filled old new file (kept_text file None after) changes after sound follows within (filled own) kept
+          (subst (λ (l : List StagedChange). AreDeltas (name_at old.names file) (lines_of (deltas_in 0 file l)) (deltas_in 0 file after)) (sym (all_stay 0 file after))
+          (lines_read (name_at old.names file) (deltas_in 0 file after) (each_line old.names file after all)))
+          (λ k n. more k (none_of holder file k deltas (and_false (nat_eq holder 0) (nat_eq file k) (other_number file k (λ e. n (sym e)))))))
+          (λ other. subst (λ (v : View). AreKept v after) (sym (aside other)) (kept_aside old changes after kept (λ k. more k (none_of holder file k deltas (ap (λ (t : Bool). t && nat_eq file k) (other_number holder 0 other)))))),
+    )
+  where
+    more : (k : ℕ) → deltas_in 0 k (changes_at holder file deltas) ≡ [] → deltas_in 0 k after ≡ deltas_in 0 k changes
+    more k none = ap (deltas_in 0 k) grown ∙ deltas-append 0 k changes (changes_at holder file deltas) ∙ ap (λ (l : List _). deltas_in 0 k changes ++ l) none ∙ append-nil (deltas_in 0 k changes)
 
 -- ---- changes are dropped
 

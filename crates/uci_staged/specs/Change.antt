@@ -11,6 +11,10 @@ use Rattle.uci_tree.specs.declared.path.Path.{Path}
 abbrev pub is_of : ℕ → ℕ → StagedChange → Bool
 is_of holder file change = nat_eq change.holder holder && nat_eq change.file file
 
+-- these deltas as changes of the holder, of the package of that file
+abbrev pub changes_at : ℕ → ℕ → List Delta → List StagedChange
+changes_at holder file deltas = map (λ delta. record { holder = holder; file = file; delta = delta }) deltas
+
 -- what the holder has staged of the package, in its order
 abbrev pub deltas_in : ℕ → ℕ → List StagedChange → List Delta
 deltas_in holder file changes = map (λ change. change.delta) (filter (is_of holder file) changes)

@@ -5,7 +5,7 @@ ghost use Rattle.std.specs.Option.{option_copied};
 ghost use Rattle.plane_words.specs.Causes.{HasCause};
 ghost use Rattle.plane_disk.specs.View.{IsFile};
 ghost use Rattle.uci_delta.specs.Shape.{HasShape};
-ghost use Rattle.uci_staged.specs.Change.{reverted, without, forgotten, kept_text};
+ghost use Rattle.uci_staged.specs.Change.{changes_at as changes_of_deltas, reverted, without, forgotten, kept_text};
 ghost use Rattle.uci_staged.specs.Kept.{changes_of, IsStagedIn, AreStagedIn, IsStagedOn, Follows, ChangesFile, ChangesPackages, HasFilled, HasEmptied, IsKeptAt};
 ghost use Rattle.uci_staged.specs.StagedError.{KeepRefuses};
 
@@ -16,7 +16,7 @@ use crate::{Staged, StagedChange, StagedError};
 use plane_disk::Disk;
 use plane_io::{Failed, Memory};
 use std::alloc::Global;
-use uci_delta::print_delta;
+use uci_delta::{Delta, print_delta};
 use uci_tree::Path;
 
 impl Staged {
@@ -55,6 +55,52 @@ impl Staged {
             Ok(()) => Ok(()),
             Err(error) => {
                 self.changes.truncate(before);
+                Err(error)
+            }
+        }
+    }
+
+    /// Stages changes of the holder, of the package of that file, all of them or none. Where the holder is 0, the file is written
+    /// anew and whole, once.
+    ///
+    /// # Errors
+    ///
+    /// The changes stay as they were. `DiskFailed` only where the disk failed, and `Memory`.
+    pub fn stage_all<T: Disk>(
+        &mut self,
+        alloc: Global,
+        disk: &mut T,
+        holder: u128,
+        file: u32,
+        deltas: Vec<Delta>,
+    ) -> Result<(), StagedError>
+        requires on { IsStagedOn self.old (T.view disk.old) }
+        requires number { IsFile (T.view disk.old) file }
+        requires changes { AreStagedIn (T.view disk.old).names
+            (changes_of_deltas holder file deltas.items) }
+        ensures follows { Follows (T.view disk.old) (T.view disk.new) }
+        ensures changes { ChangesFile file (T.view disk.old) (T.view disk.new) }
+        ensures text { OnOk result (IsKeptAt holder file
+            (T.view disk.old) (T.view disk.new) (changes_of self.new)) }
+        ensures on { OnOk result (IsStagedOn self.new (T.view disk.new)) }
+        ensures done { OnOk result (changes_of self.new
+            ≡ changes_of self.old ++ changes_of_deltas holder file deltas.items) }
+        ensures kept { OnErr result (changes_of self.new ≡ changes_of self.old) }
+        ensures refused { IfErr result (KeepRefuses holder (T.view disk.old) (T.view disk.new)) }
+        ensures rests { result ≡ Err StagedError.Memory → disk.new ≡ disk.old }
+        ensures aside { holder ≢ 0 → disk.new ≡ disk.old }
+    {
+        let kept = self.changes.len();
+        let Ok(mut changes) = changes_at(alloc, holder, file, deltas) else {
+            return Err(StagedError::Memory);
+        };
+        let Ok(()) = self.changes.append(&mut changes) else {
+            return Err(StagedError::Memory);
+        };
+        match keep(alloc, disk, self.changes.as_slice(), holder, file, None) {
+            Ok(()) => Ok(()),
+            Err(error) => {
+                self.changes.truncate(kept);
                 Err(error)
             }
         }
@@ -165,6 +211,26 @@ impl Staged {
             Err(error) => Err(error),
         }
     }
+}
+
+/// The deltas as changes of the holder, of the package of that file.
+fn changes_at(
+    alloc: Global,
+    holder: u128,
+    file: u32,
+    deltas: Vec<Delta>,
+) -> Result<Vec<StagedChange>, Memory>
+    ensures { IfOk result (λ changes. changes.items ≡ changes_of_deltas holder file deltas.items) }
+{
+    let mut changes = Vec::new(alloc);
+    for delta in deltas {
+        changes.push(StagedChange {
+            holder,
+            file,
+            delta,
+        })?;
+    }
+    Ok(changes)
 }
 
 /// Keeps what the holder has staged of the package, but for what is dropped, where its changes are kept.

@@ -4,3 +4,4 @@ pub mod CommitLemmas
 pub mod StageLemmas
 pub mod ApplyLemmas
 pub mod DiskLemmas
+pub mod BatchLemmas

@@ -6,6 +6,8 @@ pub mod Store
 pub mod Refusals
 -- what staging a change leaves
 pub mod Staging
+-- several changes of one package that are staged at once
+pub mod Batch
 -- an apply that waits
 pub mod Waiting
 -- what a stop within a call leaves of the files

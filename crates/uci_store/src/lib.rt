@@ -3,7 +3,9 @@
 #![tactic(auto)]
 
 mod applying;
+mod batch;
 mod committing;
+mod laws;
 mod opening;
 mod staging;
 mod store;
@@ -12,6 +14,7 @@ mod viewing;
 mod waiting;
 mod writing;
 
+pub use laws::staged_one_by_one;
 pub use opening::have_same_packages;
 pub use store::Store;
 pub use store_error::StoreError;

@@ -111,7 +111,7 @@ impl Store {
     }
 
     /// What a call answers that the disk of staged changes has refused.
-    fn failed_by(&mut self, error: StagedError) -> StoreError
+    pub(crate) fn failed_by(&mut self, error: StagedError) -> StoreError
         ensures names { names_of self.new ≡ names_of self.old }
         ensures snap { snap_of self.new ≡ snap_of self.old }
         ensures staged { staged_in self.new ≡ staged_in self.old }
