@@ -1,5 +1,5 @@
 -- What a call leaves and answers (OpenWrt's rpcd, but for rules of our own that `rpc_rules` names).
-use Rattle.std.specs.Prelude.{ℕ, ◌≡◌, ◌<◌, ◌⊎◌, List, [], ◌++◌, length, Option, Some, None, Result, Ok, Err, Bool, true, false, map, take, unwrap_or}
+use Rattle.std.specs.Prelude.{ℕ, ◌≡◌, ◌<◌, ◌⊎◌, List, [], ◌++◌, length, Option, Some, None, Result, Ok, Err, Bool, true, false, map, unwrap_or}
 use Rattle.blob_codec.specs.declared.blob.Attr.{Attr}
 use Rattle.snap_disk.specs.Opened.{State}
 use Rattle.snap_disk.specs.Open.{pending_of}
@@ -95,21 +95,20 @@ pub record EditIsStaged (edit : Edit) (holder : ℕ) (args : List Attr) (old new
   pub told : reply ≡ quiet plan.told
   pub staged : HasStagedAll old new holder plan.deltas
 
--- a front of it is, perhaps nothing, but not all
-pub record FrontIsStaged (edit : Edit) (holder : ℕ) (args : List Attr) (old new : Store) : Type 0 where
+-- it was to stage something, and nothing is staged
+pub record NoneIsStaged (edit : Edit) (holder : ℕ) (args : List Attr) (old new : Store) : Type 0 where
   pub plan : Plan
   pub comes : EditComesTo edit old holder args (Ok plan)
-  pub count : ℕ
-  pub part : count < length plan.deltas
-  pub staged : HasStagedAll old new holder (take count plan.deltas)
+  pub some : 0 < length plan.deltas
+  pub rests : Rests old new
 
--- where it is refused nothing is staged; where a disk failed or there was no memory, a front may be
+-- where it is refused nothing is staged, nor where a disk failed or there was no memory
 abbrev pub EditDone : Edit → ℕ → List Attr → Store → Store → Result Reply RpcError → Type 0
 EditDone edit holder args old new (Ok reply) = EditIsStaged edit holder args old new reply
 EditDone edit holder args old new (Err (Status status)) = EditComesTo edit old holder args (Err status) × Rests old new
 EditDone edit holder args old new (Err (Denied grant)) = ⊥
-EditDone edit holder args old new (Err DiskFailed) = FrontIsStaged edit holder args old new
-EditDone edit holder args old new (Err Memory) = Rests old new ⊎ FrontIsStaged edit holder args old new
+EditDone edit holder args old new (Err DiskFailed) = NoneIsStaged edit holder args old new
+EditDone edit holder args old new (Err Memory) = Rests old new
 
 -- ---- a package that is named
 

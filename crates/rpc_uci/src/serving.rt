@@ -39,8 +39,8 @@ use uci_store::Store;
 /// exactly where a grant is missing, with the first one that is; `Status` 2 where an argument is missing or of another form; `Status`
 /// 4 where a package, a section or an option that is named is not there; `Status` 2 where a package does not read or does not take a
 /// change, 5 where nothing is staged or nothing waits, 9 where a package is too large for its file. `DiskFailed` only where a disk
-/// failed, and `Memory`: a front of the changes of one call may be staged then, and after a disk failed the new files may be
-/// written.
+/// failed, and `Memory`. None of the changes of a call is staged where it is refused, in whatever way; after a disk failed the new
+/// files of a `commit` or an `apply` may be written.
 pub fn serve<D: Disk, T: Disk>(
     alloc: Global,
     sessions: &mut Sessions,

@@ -1,12 +1,12 @@
-//! Changes that calls stage: tried on the view first, and staged one by one where none is refused.
-ghost use Rattle.std.specs.Prelude.{◌≡◌, ◌≢◌, ◌++◌, ◌∷◌, [], Ok, Err, false, IfOk, IfErr, OnOk, OnErr};
+//! Changes that calls stage: tried on the view first, and staged at once where none is refused.
+ghost use Rattle.std.specs.Prelude.{◌≡◌, Some, Ok, Err, false, IfOk, IfErr, OnOk, OnErr};
 ghost use Rattle.uci_staged.specs.Kept.{Follows};
 ghost use Rattle.uci_store.specs.Store.{names_of, snap_of, staged_in, has_failed, IsStore, IsOnStaged};
-ghost use Rattle.rpc_rules.specs.Arguments.{holder_of};
+ghost use Rattle.rpc_rules.specs.Arguments.{config_in as config_of, holder_of};
 ghost use Rattle.rpc_uci.specs.Outcome.{EditComesTo};
 ghost use Rattle.rpc_uci.specs.Done as spec;
 ghost use Rattle.rpc_uci.specs.Done.{IsStatusFor};
-ghost use Rattle.rpc_uci.specs.Staging.{IsNext, IsStageable, IsFront, IsCut, HasCause};
+ghost use Rattle.rpc_uci.specs.Staging.{IsStageable, IsCut, HasCause};
 
 use crate::refused::{BAD_ARGUMENT, refused};
 use crate::reply::Reply;
@@ -19,7 +19,7 @@ use uci_delta::Delta;
 use uci_store::Store;
 
 /// Carries out a method that stages changes of a package.
-#[tactic(auto, using(crate::proofs::StagingLemmas::edit_is_staged, crate::proofs::StagingLemmas::edit_is_cut, crate::proofs::StagingLemmas::edit_is_refused))]
+#[tactic(auto, using(crate::proofs::StagingLemmas::edit_is_staged, crate::proofs::StagingLemmas::edit_is_cut, crate::proofs::StagingLemmas::edit_is_refused, crate::proofs::StagingLemmas::edit_is_unnamed))]
 pub(crate) fn stage_edit<T: Disk>(
     alloc: Global,
     store: &mut Store,
@@ -38,27 +38,32 @@ pub(crate) fn stage_edit<T: Disk>(
     ensures cause { HasCause result (has_failed store.new) (T.view staged.old) (T.view staged.new) }
 {
     let holder = caller.holder();
-    let plan = match plan_edit(alloc, store, edit, holder, args) {
+    let Some(name) = config_in(args) else {
+        return Err(RpcError::Status(BAD_ARGUMENT));
+    };
+    let plan = match plan_edit(alloc, store, edit, holder, name, args) {
         Ok(plan) => plan,
         Err(error) => return Err(error),
     };
     let Plan { deltas, told, .. } = plan;
-    match stage_all(alloc, store, staged, holder, deltas.into_vec()) {
+    match stage_all(alloc, store, staged, holder, name, deltas.into_vec()) {
         Ok(()) => Ok(Reply::quiet(told)),
         Err(error) => Err(error),
     }
 }
 
-/// What the method is to stage.
+/// What the method is to stage of the package that the arguments name.
 #[tactic(auto, using(crate::proofs::SightLemmas::comes_of, crate::proofs::SightLemmas::refused_of, crate::proofs::SightLemmas::unseen_of))]
 fn plan_edit(
     alloc: Global,
     store: &Store,
     edit: Edit,
     holder: u128,
+    name: &[u8],
     args: &[Attr],
 ) -> Result<Plan, RpcError>
-    requires { IsStore store.now }
+    requires store { IsStore store.now }
+    requires named { config_of args.now ≡ Some name.now }
     ensures planned { IfOk result (λ plan. EditComesTo edit store.now holder args.now (Ok plan)) }
     ensures refused { IfErr result (IsStatusFor (λ status.
         EditComesTo edit store.now holder args.now (Err status))) }
@@ -67,67 +72,38 @@ fn plan_edit(
         Ok(view) => view,
         Err(error) => return Err(error),
     };
-    let Some(name) = config_in(args) else {
-        return Err(RpcError::Status(BAD_ARGUMENT));
-    };
     match planned(alloc, edit, name, args, view) {
         Ok(plan) => Ok(plan),
         Err(error) => Err(error),
     }
 }
 
-/// Stages changes that the holder's view takes one after another.
-#[tactic(auto, using(crate::proofs::StagingLemmas::none_staged, crate::proofs::StagingLemmas::next_at, crate::proofs::StagingLemmas::all_at))]
+/// Stages changes of a package at once, which the holder's view takes one after another.
+#[tactic(auto, using(crate::proofs::StagingLemmas::none_staged))]
 fn stage_all<T: Disk>(
     alloc: Global,
     store: &mut Store,
     staged: &mut T,
     holder: u128,
+    name: &[u8],
     deltas: Vec<Delta>,
 ) -> Result<(), RpcError>
     requires on { IsOnStaged store.old (T.view staged.old) }
     requires ready { has_failed store.old ≡ false }
-    requires fits { IsStageable store.old holder deltas.items }
+    requires fits { IsStageable store.old holder name.now deltas.items }
     ensures follows { Follows (T.view staged.old) (T.view staged.new) }
     ensures on { IsOnStaged store.new (T.view staged.new) }
     ensures names { names_of store.new ≡ names_of store.old }
     ensures snap { snap_of store.new ≡ snap_of store.old }
     ensures done { OnOk result (spec.HasStagedAll store.old store.new holder deltas.items) }
-    ensures front { IfErr result (λ error. IsFront store.old store.new holder deltas.items) }
-    ensures cut { IfErr result IsCut }
-    ensures cause { HasCause result (has_failed store.new) (T.view staged.old) (T.view staged.new) }
-{
-    for delta in deltas {
-        match stage_one(alloc, store, staged, holder, delta) {
-            Ok(()) => {}
-            Err(error) => return Err(error),
-        }
-    }
-    Ok(())
-}
-
-/// Stages a change that the holder's view takes.
-fn stage_one<T: Disk>(
-    alloc: Global,
-    store: &mut Store,
-    staged: &mut T,
-    holder: u128,
-    delta: Delta,
-) -> Result<(), RpcError>
-    requires on { IsOnStaged store.old (T.view staged.old) }
-    requires ready { has_failed store.old ≡ false }
-    requires fits { IsNext store.old holder delta }
-    ensures follows { Follows (T.view staged.old) (T.view staged.new) }
-    ensures on { IsOnStaged store.new (T.view staged.new) }
-    ensures names { names_of store.new ≡ names_of store.old }
-    ensures snap { snap_of store.new ≡ snap_of store.old }
-    ensures done { OnOk result (staged_in store.new
-        ≡ staged_in store.old ++ spec.change_in store.old holder delta ∷ []) }
     ensures kept { OnErr result (staged_in store.new ≡ staged_in store.old) }
-    ensures cut { IfErr result IsCut }
+    ensures cut { IfErr result (IsCut deltas.items) }
     ensures cause { HasCause result (has_failed store.new) (T.view staged.old) (T.view staged.new) }
 {
-    match store.stage(alloc, staged, holder, delta) {
+    if deltas.is_empty() {
+        return Ok(());
+    }
+    match store.stage_all(alloc, staged, holder, name, deltas) {
         Ok(()) => Ok(()),
         Err(error) => Err(refused(error)),
     }

@@ -1,24 +1,24 @@
-use Rattle.std.proofs.Common.{◌≡◌, ◌∙◌, ◌∷◌, rules}
-use Rattle.std.specs.Vec.Iter.{into_iter_items}
-use Rattle.uci_staged.proofs.FillLemmas.{follows_join}
-use Rattle.rpc_uci.proofs.StagingLemmas.{one_at, front_at}
+use Rattle.std.proofs.Common.{arith, Err, ◌<◌, length, sym, subst}
+use Rattle.std.proofs.lemmas.Grind.{common_steps}
+use Rattle.uci_store.specs.Store.{has_failed}
+use Rattle.rpc_rules.specs.declared.rpc_error.RpcError.{RpcError}
+use Rattle.rpc_uci.specs.Staging.{IsCut, HasCause}
+use Rattle.rpc_uci.proofs.StagingLemmas.{each_is_of, staged_all, batch_cut, batch_cause}
 use Rattle.rpc_uci.proofs.staging.stage_all.Goals as goal
 
-pub loop-delta-preserved : goal.loop-delta-preserved
-loop-delta-preserved g c =
-    let so_far = c.loop-delta.invariant in
-    let left : into_iter_items c.loop-delta.delta-iterator ≡ c.in-Some.delta ∷ into_iter_items c.next.new.self = search rules in
-    record {
-      follows = follows_join (g.T.Disk.view c.args.staged.now) (g.T.Disk.view c.loop-delta.staged) (g.T.Disk.view c.stage_one.new.staged) so_far.follows c.in-Ok.ensures.follows;
-      on = c.in-Ok.ensures.on;
-      ready = c.in-Ok.ensures.cause;
-      snap = c.in-Ok.ensures.snap ∙ so_far.snap;
-      so_far = one_at c.args.store.now c.loop-delta.store c.stage_one.new.store c.args.holder c.args.deltas.items (into_iter_items c.loop-delta.delta-iterator) (into_iter_items c.next.new.self) c.in-Some.delta left
-          c.in-Ok.ensures.names c.in-Ok.ensures.snap c.in-Ok.ensures.done so_far.so_far;
-    }
+pub stage_all-requires-clause-one : goal.stage_all-requires-clause-one
+stage_all-requires-clause-one g c = each_is_of c.args.name.now c.requires.fits.view c.args.deltas.items c.requires.fits.takes
 
-pub returns-in-Err-clause-front : goal.returns-in-Err-clause-front
-returns-in-Err-clause-front g c =
-    let left : into_iter_items c.loop-delta.delta-iterator ≡ c.in-Some.delta ∷ into_iter_items c.next.new.self = search rules in
-    front_at c.args.store.now c.loop-delta.store c.stage_one.new.store c.args.holder c.args.deltas.items (into_iter_items c.loop-delta.delta-iterator) (into_iter_items c.next.new.self) c.in-Some.delta left
-    c.in-Err.ensures.snap c.in-Err.ensures.kept c.loop-delta.invariant.so_far
+pub returns-in-Ok-clause-done : goal.returns-in-Ok-clause-done
+returns-in-Ok-clause-done g c = staged_all c.args.store.now c.stage_all.new.self c.args.holder c.args.name.now c.args.deltas.items c.requires.fits c.in-Ok.ensures.snap c.in-Ok.ensures.done
+
+pub returns-in-Err-clause-cut : goal.returns-in-Err-clause-cut
+returns-in-Err-clause-cut g c =
+    let some : 0 < length c.args.deltas.items = grind (arith, common_steps) in
+    subst (IsCut c.args.deltas.items) (sym c.refused.ensures)
+    (batch_cut c.args.store.now c.args.holder c.args.name.now c.args.deltas.items (g.T.Disk.view c.args.staged.now) (g.T.Disk.view c.stage_all.new.staged) c.in-Err.error c.requires.ready some c.requires.fits c.in-Err.ensures.refused)
+
+pub returns-in-Err-clause-cause : goal.returns-in-Err-clause-cause
+returns-in-Err-clause-cause g c =
+    subst (λ (e : RpcError). HasCause {X = Unit {0}} (Err e) (has_failed c.stage_all.new.self) (g.T.Disk.view c.args.staged.now) (g.T.Disk.view c.stage_all.new.staged)) (sym c.refused.ensures)
+    (batch_cause c.args.store.now c.args.holder c.args.name.now c.args.deltas.items (has_failed c.stage_all.new.self) (g.T.Disk.view c.args.staged.now) (g.T.Disk.view c.stage_all.new.staged) c.in-Err.error c.requires.ready c.in-Err.ensures.closes c.requires.fits c.in-Err.ensures.refused)
