@@ -1,10 +1,13 @@
--- The first open call that passes a test.
-use Rattle.std.proofs.Common.{arith, ℕ, suc, ◌≡◌, ◌+◌, List, [], ◌∷◌, Bool, true, false, Some, None, refl, ap, sym, ◌∙◌}
+-- The first open call that passes a test, and calls that are added.
+use Rattle.std.proofs.Common.{arith, ℕ, suc, ◌≡◌, ◌<◌, ◌+◌, List, [], ◌∷◌, ◌++◌, length, take, get_or, Bool, true, false, Some, None, refl, ap, sym, ◌∙◌}
+use Rattle.std.proofs.lemmas.List.{append_assoc, map-append, take_more}
 use Rattle.std.specs.Prelude.{if◌then◌else◌, remove}
 use Rattle.std.specs.List.{position, position_from}
 use Rattle.std.proofs.lemmas.Iterator.Adapters.{position_from-zero}
 use Rattle.bus_table.specs.Table.{Call}
 use Rattle.bus_table.specs.Calls.{without_first}
+use Rattle.bus_lists.specs.declared.calls.OpenCall.{OpenCall}
+use Rattle.bus_lists.specs.Calls.{call_of, calls_of}
 
 rest_from : (p : Call → Bool) (calls : List Call) (i k : ℕ) → position_from p i calls ≡ Some k → (j : ℕ) × (k ≡ i + j) × (without_first p calls ≡ remove calls j)
 rest_from p [] i k h = absurd (no h)
@@ -19,3 +22,12 @@ rest_from p (call ∷ calls) i k h = by_test (p call) refl h (rest_from p calls 
 
 pub without_first_at : (p : Call → Bool) (calls : List Call) (k : ℕ) → position p calls ≡ Some k → without_first p calls ≡ remove calls k
 without_first_at p calls k h = let f = rest_from p calls 0 k (sym (position_from-zero p calls) ∙ h) in let e : f.0 ≡ k = (let at = f.1 in omega (arith, at)) in f.2 ∙ ap (remove calls) e
+
+-- one call more of those that are added
+pub added_more : (before rows : List Call) (calls : List OpenCall) (i : ℕ) (d : OpenCall) → i < length calls
+    → rows ≡ before ++ calls_of (take i calls) → rows ++ call_of (get_or calls i d) ∷ [] ≡ before ++ calls_of (take (i + 1) calls)
+added_more before rows calls i d within added =
+    ap (λ (z : List Call). z ++ call_of (get_or calls i d) ∷ []) added
+    ∙ append_assoc before (calls_of (take i calls)) (call_of (get_or calls i d) ∷ [])
+    ∙ ap (λ (z : List Call). before ++ z)
+    (sym (map-append call_of (take i calls) (get_or calls i d ∷ [])) ∙ ap calls_of (sym (take_more calls i d within)))

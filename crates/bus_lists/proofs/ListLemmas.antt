@@ -1,7 +1,7 @@
 -- Lists that are looked through, mapped and filtered.
 use Rattle.std.proofs.Common.{arith, ℕ, zero, suc, ◌≡◌, ◌≤◌, ◌+◌, List, [], ◌∷◌, ◌++◌, map, length, drop, Bool, true, false, not, Option, Some, None, get_or, refl, ap, sym, subst, ◌∙◌, append-nil}
 use Rattle.std.proofs.lemmas.List.{take_all, drop_all}
-use Rattle.std.specs.Prelude.{if◌then◌else◌, ◌&&◌, ◌||◌, filter, remove, is_none}
+use Rattle.std.specs.Prelude.{if◌then◌else◌, ◌&&◌, ◌||◌, filter, remove, is_none, option_map}
 use Rattle.std.specs.List.{find, position, position_from, list_any}
 use Rattle.std.specs.Option.{option_or}
 use Rattle.std.proofs.lemmas.List.Folds.{find-append}
@@ -41,6 +41,14 @@ position_from_map p f (x ∷ xs) i = ap (λ (z : Option ℕ). if p (f x) then So
 
 pub position_of_map : {X Y : Type 0} (p : Y → Bool) (f : X → Y) (xs : List X) → position p (map f xs) ≡ position (λ x. p (f x)) xs
 position_of_map p f xs = position_from-zero p (map f xs) ∙ position_from_map p f xs 0 ∙ sym (position_from-zero (λ x. p (f x)) xs)
+
+found_of_map_at : {X Y : Type 0} (f : X → Y) (b : Bool) (x : X) (found : Option X) (other : Option Y) → other ≡ option_map f found → (if b then Some (f x) else other) ≡ option_map f (if b then Some x else found)
+found_of_map_at f true x found other h = refl
+found_of_map_at f false x found other h = h
+
+pub find_of_map : {X Y : Type 0} (p : Y → Bool) (f : X → Y) (xs : List X) → find p (map f xs) ≡ option_map f (find (λ x. p (f x)) xs)
+find_of_map p f [] = refl
+find_of_map p f (x ∷ xs) = found_of_map_at f (p (f x)) x (find (λ y. p (f y)) xs) (find p (map f xs)) (find_of_map p f xs)
 
 -- nothing is found where none passes
 none_at : {X : Type 0} (b c : Bool) (x : X) (found : Option X) → is_none found ≡ not c → is_none (if b then Some x else found) ≡ not (b || c)

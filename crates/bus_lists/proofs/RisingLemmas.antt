@@ -1,20 +1,20 @@
 -- Rows by rising number.
 use Rattle.std.proofs.Common.{arith, ℕ, zero, suc, ◌≡◌, ◌<◌, ◌≤◌, ◌+◌, ◌==◌, List, [], ◌∷◌, ◌++◌, length, get_or, Bor, Bool, true, false, Option, Some, None, refl, ap, sym, ◌∙◌}
-use Rattle.std.specs.Prelude.{if◌then◌else◌, ◌||◌, filter, is_some}
+use Rattle.std.specs.Prelude.{if◌then◌else◌, ◌||◌, filter, remove, is_some}
 use Rattle.std.specs.List.{All, find, list_any}
 use Rattle.std.specs.List.Sorted.{IsNonDecreasingBy, IsPartitionPoint}
 use Rattle.std.specs.Option.{option_copied}
 use Rattle.std.specs.Slice.{IsItemAt}
-use Rattle.std.proofs.lemmas.List.Elements.{All-get_or, All-from_get_or, All-filter, All-push}
+use Rattle.std.proofs.lemmas.List.Elements.{All-get_or, All-from_get_or, All-filter, All-push, All-append, All-take, All-drop}
 use Rattle.std.proofs.lemmas.Bool.Decides.{nat_tests}
 use Rattle.bus_lists.specs.Rising.{IsRising, Rise}
 
 -- the same, row by row
-abbrev Climbs : {X : Type 0} → (X → ℕ) → List X → Type 0
+abbrev pub Climbs : {X : Type 0} → (X → ℕ) → List X → Type 0
 Climbs number [] = Unit {0}
 Climbs number (row ∷ rows) = All (λ other. number row < number other) rows × Climbs number rows
 
-climbs : {X : Type 0} (number : X → ℕ) (rows : List X) → Rise number rows → Climbs number rows
+pub climbs : {X : Type 0} (number : X → ℕ) (rows : List X) → Rise number rows → Climbs number rows
 climbs number [] rise = tt
 climbs number (row ∷ rows) rise = (All-from_get_or (λ other. number row < number other) rows row (λ i within. rise 0 (suc i) row (omega arith) (omega arith)), climbs number rows (λ i j d lower within. rise (suc i) (suc j) d (omega arith) (omega arith)))
 
@@ -49,6 +49,20 @@ pub rising_filtered : {X : Type 0} (number : X → ℕ) (p : X → Bool) (rows :
 rising_filtered number p rows next rising =
     (rises number (filter p rows) (climbs_filtered number p rows (climbs number rows rising.0)), All-filter p (λ row. number row < next) rows rising.1)
 
+-- rows without one
+all_removed : {X : Type 0} (P : X → Type 0) (rows : List X) (k : ℕ) → All P rows → All P (remove rows k)
+all_removed P rows k all = All-append P _ _ (All-take P k rows all) (All-drop P (suc k) rows all)
+
+climbs_removed : {X : Type 0} (number : X → ℕ) (rows : List X) (k : ℕ) → Climbs number rows → Climbs number (remove rows k)
+climbs_removed number [] zero climb = tt
+climbs_removed number [] (suc k) climb = tt
+climbs_removed number (row ∷ rows) zero climb = climb.1
+climbs_removed number (row ∷ rows) (suc k) climb = (all_removed (λ other. number row < number other) rows k climb.0, climbs_removed number rows k climb.1)
+
+pub rising_removed : {X : Type 0} (number : X → ℕ) (rows : List X) (next k : ℕ) → IsRising number rows next → IsRising number (remove rows k) next
+rising_removed number rows next k rising =
+    (rises number (remove rows k) (climbs_removed number rows k (climbs number rows rising.0)), all_removed (λ row. number row < next) rows k rising.1)
+
 pub rises_slowly : {X : Type 0} (number : X → ℕ) (rows : List X) → Rise number rows → IsNonDecreasingBy number rows
 rises_slowly number rows rise i j d order within = by_order (i == j) refl
   where
@@ -62,10 +76,10 @@ none_of number target (row ∷ rows) others =
     ap (λ (b : Bool). if b then Some row else find (λ other. number other == target) rows) (others 0 row (omega arith))
     ∙ none_of number target rows (λ k d within. others (suc k) d (omega arith))
 
-above_differs : (n target : ℕ) → target < n → (n == target) ≡ false
+pub above_differs : (n target : ℕ) → target < n → (n == target) ≡ false
 above_differs n target above = grind (arith, nat_tests, above)
 
-below_differs : (n target : ℕ) → n < target → (n == target) ≡ false
+pub below_differs : (n target : ℕ) → n < target → (n == target) ≡ false
 below_differs n target below = grind (arith, nat_tests, below)
 
 -- where the rows before a place have lower numbers, and those from there on have not, the row of a number stands at the place
@@ -93,7 +107,7 @@ at_no_place : {X : Type 0} (number : X → ℕ) (target : ℕ) (rows : List X) (
 at_no_place number target rows place below over = none_of number target rows (λ k d within. below_differs (number (get_or rows k d)) target (below k d (omega arith)))
 
 -- what is read at the place before which the numbers are lower
-abbrev Parts : {X : Type 0} → (X → ℕ) → ℕ → List X → ℕ → Type 0
+abbrev pub Parts : {X : Type 0} → (X → ℕ) → ℕ → List X → ℕ → Type 0
 Parts number target = IsPartitionPoint (λ row. number row < target) (λ row. target ≤ number row)
 
 pub found_row : {X : Type 0} (number : X → ℕ) (target : ℕ) (rows : List X) (place : ℕ) (row : Bor X) → Rise number rows → Parts number target rows place

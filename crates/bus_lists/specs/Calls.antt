@@ -1,7 +1,8 @@
--- Open calls, as the table of the definitions has them.
-use Rattle.std.specs.Prelude.{List, map}
+-- Open calls, as the table of the definitions has them, and how they are found.
+use Rattle.std.specs.Prelude.{ℕ, ◌≡◌, ◌==◌, ◌&&◌, nat_lt, List, Bool, map, filter}
 use Rattle.bus_table.specs.Table.{Call}
 use Rattle.bus_lists.specs.declared.calls.OpenCall.{OpenCall}
+use Rattle.bus_lists.specs.Rising.{IsRising}
 
 -- an open call; the code keeps no places
 abbrev pub call_of : OpenCall → Call
@@ -10,3 +11,19 @@ call_of call = record { place = 0; caller = call.caller; seq = call.seq; object 
 -- open calls
 abbrev pub calls_of : List OpenCall → List Call
 calls_of calls = map call_of calls
+
+abbrev pub call_number : OpenCall → ℕ
+call_number call = call.number
+
+-- the caller and the sequence are those of the call
+abbrev pub has_name : ℕ → ℕ → OpenCall → Bool
+has_name caller seq call = call.caller == caller && call.seq == seq
+
+-- the call has a lower number
+abbrev pub is_before : ℕ → OpenCall → Bool
+is_before number call = nat_lt call.number number
+
+-- the calls rise below the next number, and those of each caller and sequence stand among the keys too, in the same order
+pub record IsTied (rows keys : List OpenCall) (next : ℕ) : Type 0 where
+  pub rising : IsRising call_number rows next
+  pub named : (caller seq : ℕ) → filter (has_name caller seq) keys ≡ filter (has_name caller seq) rows

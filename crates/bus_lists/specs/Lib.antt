@@ -8,3 +8,7 @@ pub mod Calls
 pub mod Among
 -- rows by rising number
 pub mod Rising
+-- pairs of numbers
+pub mod Pairs
+-- how subscriptions are kept
+pub mod SubscriptionRows

@@ -1,6 +1,6 @@
 ghost use Rattle.std.specs.Prelude.{◌≡◌, ◌++◌, ◌∷◌, ◌<◌, ◌==◌, [], not, false, Some, OnOk, IfOk, IfSome, length, remove};
 ghost use Rattle.std.specs.Option.{option_copied};
-ghost use Rattle.std.specs.List.{flat_map, position};
+ghost use Rattle.std.specs.List.{find, flat_map, position};
 ghost use Rattle.bus_table.specs.Frames as frames;
 ghost use Rattle.bus_table.specs.Frames.{to_owner, where_fits};
 ghost use Rattle.bus_table.specs.Objects.{told};
@@ -18,7 +18,7 @@ use crate::conditions::{is_anothers, is_opened, is_taken_sequence};
 use crate::plan::{Plan, says};
 use crate::refusing::{deny_if_asked, refuse_if_asked};
 use blob_codec::{Attr, copy_attrs};
-use bus_lists::{OpenCall, call_on, is_of, path_of, subscribers_of};
+use bus_lists::{OpenCall, call_on, is_of, path_of};
 use bus_messages::{call_data, is_set, passed_on, subscribers_told};
 use bus_outbox::{Outgoing, send_if_fits, send_to};
 use bus_state::{Bus, Change, told};
@@ -97,7 +97,7 @@ fn notified(bus: &Bus, client: &Client, request: &Frame, object: u32) -> Result<
         (spec.notified fits (table_of bus.now) client.now request.now object)
         (table_of bus.now) plan) }
 {
-    let subscribers = subscribers_of(bus.alloc, &bus.subscriptions, object)?;
+    let subscribers = bus.subscriptions.subscribers_of(bus.alloc, object)?;
     notify_all(bus, client, request, object, &subscribers)
 }
 
@@ -112,11 +112,11 @@ fn notify_all(
         (notified_to fits (table_of bus.now) client.now request.now object subscribers.now)
         (table_of bus.now) plan) }
 {
-    let mut calls = Vec::from_slice(bus.alloc, &bus.calls)?;
+    let mut calls = Vec::new(bus.alloc);
     let mut out = told_subscribers(bus.alloc, client, request, object, subscribers)?;
     pass_on_all(bus, &mut out, &mut calls, client, request, subscribers)?;
     Ok(Plan {
-        change: Change::Calls(calls),
+        change: Change::OpensAll(calls),
         out,
         call: None,
     })
@@ -168,19 +168,26 @@ fn pass_on(
 fn answered(bus: &Bus, client: u32, frame: &Frame) -> Option<usize>
     ensures place { result ≡ position (spec.is_answered (table_of bus.now) client frame.now)
         (table_of bus.now).calls }
-    ensures within { IfSome result (λ place. place < length bus.now.calls.items) }
+    ensures within { IfSome result (λ place. place < length bus.now.calls.rows.items) }
 {
-    place_answered(bus, client, frame)
+    match answered_call(bus, client, frame) {
+        Some(call) => bus.calls.place_of(call.number),
+        None => None,
+    }
 }
 
-fn place_answered(bus: &Bus, client: u32, frame: &Frame) -> Option<usize>
-    ensures place { result ≡ position (λ (call : CallRow).
-        spec.is_answered (table_of bus.now) client frame.now (call_of call)) bus.now.calls.items }
-    ensures within { IfSome result (λ place. place < length bus.now.calls.items) }
+/// The call that a DATA or a STATUS answers: of several the one that was opened first.
+fn answered_call(bus: &Bus, client: u32, frame: &Frame) -> Option<OpenCall>
+    ensures { result ≡ find (λ (call : CallRow).
+        spec.is_answered (table_of bus.now) client frame.now (call_of call))
+        bus.now.calls.rows.items }
 {
-    bus.calls
-        .iter()
-        .position(|call| is_answered(bus, client, frame, call))
+    for call in bus.calls.named(frame.peer, frame.seq) {
+        if is_answered(bus, client, frame, call) {
+            return Some(*call);
+        }
+    }
+    None
 }
 
 /// Whether the call is on an object of the client, and the peer, the sequence and OBJID, where there is one, name it.
@@ -197,12 +204,9 @@ pub fn pass_data(bus: &Bus, client: u32, frame: &Frame) -> Result<Items<Outgoing
     ensures { IfOk result (λ out. out
         ≡ out_of (spec.passes_data fits (table_of bus.now) client frame.now).sent) }
 {
-    match answered(bus, client, frame) {
+    match answered_call(bus, client, frame) {
         None => Ok(Items::new(bus.alloc)),
-        Some(place) => {
-            let call = bus.calls[place];
-            data_of(bus.alloc, call, frame)
-        }
+        Some(call) => data_of(bus.alloc, call, frame),
     }
 }
 
@@ -228,7 +232,7 @@ pub fn pass_status(bus: &Bus, client: u32, frame: &Frame) -> Result<Plan, Memory
     match answered(bus, client, frame) {
         None => Ok(says(Items::new(bus.alloc))),
         Some(place) => {
-            let call = bus.calls[place];
+            let call = bus.calls.rows[place];
             status_of(bus.alloc, call, place, frame.status)
         }
     }

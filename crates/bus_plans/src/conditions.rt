@@ -6,7 +6,7 @@ ghost use Rattle.bus_table.specs.Calls.{is_open};
 ghost use Rattle.bus_outbox.specs.Fits.{fits};
 ghost use Rattle.bus_state.specs.State.{table_of};
 
-use bus_lists::{EVENT_OBJECT, NO_CLIENT, is_open};
+use bus_lists::{EVENT_OBJECT, NO_CLIENT};
 use bus_messages::is_set;
 use bus_outbox::does_fit;
 use bus_state::Bus;
@@ -45,7 +45,7 @@ pub fn is_event_object(object: &Object) -> bool
 pub fn is_open_for(bus: &Bus, client: &Client, request: &Frame) -> bool
     ensures { result ≡ is_open (table_of bus.now).calls client.now.number request.now.seq }
 {
-    is_open(&bus.calls, client.number, request.seq)
+    bus.calls.is_open(client.number, request.seq)
 }
 
 /// Whether a reply is asked for, and the client has an open call with the sequence.

@@ -13,7 +13,7 @@ ghost use Rattle.bus_plans.specs.Plan.{Plans};
 use crate::conditions::{is_anothers, is_no_clients};
 use crate::plan::{Plan, says};
 use crate::refusing::{deny, refuse};
-use bus_lists::{has_subscription, is_alone, is_alone_without, path_of};
+use bus_lists::path_of;
 use bus_messages::active;
 use bus_outbox::{Outgoing, answered, send_to};
 use bus_state::{Bus, Change};
@@ -216,7 +216,7 @@ fn subscribed_anew(
 fn is_kept(bus: &Bus, subscription: Subscription) -> bool
     ensures { result ≡ spec.has_subscription (table_of bus.now).subscriptions subscription }
 {
-    has_subscription(&bus.subscriptions, subscription)
+    bus.subscriptions.contains(subscription)
 }
 
 /// Where nobody is subscribed to an object, its owner is told that somebody is.
@@ -225,7 +225,7 @@ fn tell_first(bus: &Bus, out: &mut Items<Outgoing>, target: u32) -> Result<(), M
         (if spec.is_alone (table_of bus.now).subscriptions target
         then spec.activity fits (table_of bus.now) target true else [])) }
 {
-    if !is_alone(&bus.subscriptions, target) {
+    if !bus.subscriptions.is_alone(target) {
         return Ok(());
     }
     tell_activity(bus, out, target, true)
@@ -238,7 +238,7 @@ fn tell_last(bus: &Bus, out: &mut Items<Outgoing>, subscription: Subscription) -
         subscription.target
         then spec.activity fits (table_of bus.now) subscription.target false else [])) }
 {
-    if !is_alone_without(&bus.subscriptions, subscription, subscription.target) {
+    if !bus.subscriptions.is_alone_without(subscription) {
         return Ok(());
     }
     tell_activity(bus, out, subscription.target, false)
@@ -328,6 +328,5 @@ fn is_subscribed(bus: &Bus, client: u32, subscription: Subscription) -> bool
         ≡ (spec.has_subscription (table_of bus.now).subscriptions subscription
         && is_owned (table_of bus.now) subscription.subscriber client) }
 {
-    has_subscription(&bus.subscriptions, subscription)
-        && bus.is_owned(subscription.subscriber, client)
+    bus.subscriptions.contains(subscription) && bus.is_owned(subscription.subscriber, client)
 }

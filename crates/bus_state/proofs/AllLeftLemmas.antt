@@ -1,6 +1,6 @@
 -- The objects of a client leave one after another.
-use Rattle.std.proofs.Common.{ℕ, ◌≡◌, ◌+◌, List, [], ◌∷◌, ◌++◌, length, take, drop, get_or, refl, sym, ap, ◌∙◌}
-use Rattle.std.specs.Prelude.{◌<◌, filter, not}
+use Rattle.std.proofs.Common.{ℕ, ◌≡◌, ◌+◌, ◌==◌, List, [], ◌∷◌, ◌++◌, length, take, drop, get_or, Bool, true, false, refl, sym, ap, ◌∙◌}
+use Rattle.std.specs.Prelude.{◌<◌, ◌&&◌, ◌||◌, filter, not}
 use Rattle.std.proofs.lemmas.List.{take_more}
 use Rattle.bus_table.specs.Table.{Table, Call}
 use Rattle.bus_table.specs.declared.rows.Subscription.{Subscription}
@@ -12,7 +12,9 @@ use Rattle.bus_outbox.specs.Out.{out_of}
 use Rattle.bus_outbox.proofs.OutLemmas.{out_more}
 use Rattle.bus_outbox.proofs.OrderLemmas.{from_item}
 use Rattle.bus_state.specs.Leaving.{partly, all_left}
-use Rattle.bus_state.proofs.LeaveLemmas.{one_more_left, none_left}
+use Rattle.bus_lists.specs.Among.{is_among, calls_but}
+use Rattle.bus_lists.proofs.ListLemmas.{filter_every, filter_twice}
+use Rattle.bus_state.proofs.LeaveLemmas.{one_more_left, none_left, same_number}
 
 -- before the first object of a client leaves
 pub leave_first : (table : Table) (client : ℕ) (numbers : List ℕ) (subscriptions : List Subscription) (calls : List Call)
@@ -49,3 +51,15 @@ leave_sent now next numbers k number out more within is made told =
     ∙ ap (λ (t : Table). out ++ out_of (object_left fits now number).sent ++ out_of (objects_left fits t (drop (k + 1) numbers)).sent) (sym made)
     ∙ sym (out_more out (object_left fits now number).sent (objects_left fits (without_object now number) (drop (k + 1) numbers)).sent)
     ∙ sym (ap (λ (ns : List ℕ). out ++ out_of (objects_left fits now ns).sent) (from_item numbers k number within is))
+
+-- the open calls that are left
+neither : (a b : Bool) → not (a || b) ≡ (not a && not b)
+neither true b = refl
+neither false b = refl
+
+pub calls_left : (table : Table) (numbers : List ℕ) → (objects_left fits table numbers).table.calls ≡ calls_but numbers table.calls
+calls_left table [] = sym (filter_every (λ (call : Call). true) (λ call. refl) table.calls)
+calls_left table (number ∷ numbers) =
+    calls_left (without_object table number) numbers
+    ∙ filter_twice (λ call. not (is_on number call)) (λ (call : Call). not (is_among numbers call.object)) (λ (call : Call). not (is_among (number ∷ numbers) call.object))
+    (λ call. ap (λ b. not (b || is_among numbers call.object)) (same_number number call.object) ∙ neither (call.object == number) (is_among numbers call.object)) table.calls

@@ -1,5 +1,5 @@
 -- Objects that leave one after another.
-use Rattle.std.proofs.Common.{ℕ, ◌≡◌, ◌==◌, List, [], ◌∷◌, ◌++◌, Bool, true, false, not, Option, Some, None, refl, ap, sym, ◌∙◌, arith}
+use Rattle.std.proofs.Common.{ℕ, ◌≡◌, ◌==◌, List, [], ◌∷◌, ◌++◌, Bool, true, false, not, Option, Some, None, refl, ap, ◌∙◌, arith}
 use Rattle.std.specs.Prelude.{if◌then◌else◌, ◌&&◌, ◌||◌, filter}
 use Rattle.std.specs.List.{find, list_any}
 use Rattle.std.proofs.lemmas.List.Folds.{list_any-append}
@@ -26,7 +26,7 @@ and_false false = refl
 among_more : (gone : List ℕ) (number n : ℕ) → not (is_among (gone ++ number ∷ []) n) ≡ (not (is_among gone n) && not (number == n))
 among_more gone number n = ap not (list_any-append (λ (m : ℕ). m == n) gone (number ∷ [])) ∙ not_or (is_among gone n) (number == n)
 
-same_number : (a b : ℕ) → (a == b) ≡ (b == a)
+pub same_number : (a b : ℕ) → (a == b) ≡ (b == a)
 same_number a b = grind (arith, nat_tests)
 
 object_more : (gone : List ℕ) (number : ℕ) (object : Object) → not (is_among (gone ++ number ∷ []) object.number) ≡ (not (is_among gone object.number) && not (object.number == number))

@@ -1,11 +1,15 @@
 -- What a message changes.
-use Rattle.std.specs.Prelude.{◌≡◌, ◌+◌, [], ◌∷◌, ◌++◌, remove, ⊤}
-use Rattle.bus_table.specs.Table.{Table}
+use Rattle.std.specs.Prelude.{◌≡◌, ◌+◌, List, [], ◌∷◌, ◌++◌, remove, ⊤}
+use Rattle.bus_table.specs.Table.{Table, Call}
 use Rattle.bus_table.specs.Subscriptions.{without}
 use Rattle.bus_table.specs.Objects.{without_object}
 use Rattle.bus_lists.specs.Calls.{call_of, calls_of}
 use Rattle.bus_state.specs.declared.change.Change.{Change}
-use Rattle.bus_state.specs.declared.change.Change.TheVariants.{Nothing, Adds, Removes, Subscribes, Unsubscribes, Registers, Opens, Calls, Closes}
+use Rattle.bus_state.specs.declared.change.Change.TheVariants.{Nothing, Adds, Removes, Subscribes, Unsubscribes, Registers, Opens, OpensAll, Closes}
+
+-- the table with more open calls
+abbrev pub with_calls : Table → List Call → Table
+with_calls table calls = record table { calls = table.calls ++ calls }
 
 -- the table with a change
 abbrev pub changed : Table → Change → Table
@@ -16,7 +20,7 @@ changed table (Subscribes subscription) = record table { subscriptions = table.s
 changed table (Unsubscribes subscription) = record table { subscriptions = without table.subscriptions subscription }
 changed table (Registers registration) = record table { registrations = table.registrations ++ registration ∷ [] }
 changed table (Opens call) = record table { calls = table.calls ++ call_of call ∷ [] }
-changed table (Calls calls) = record table { calls = calls_of calls.items }
+changed table (OpensAll calls) = with_calls table (calls_of calls.items)
 changed table (Closes place) = record table { calls = remove table.calls place }
 
 -- an object that is added has the next number
@@ -28,5 +32,5 @@ IsNumbered table (Subscribes subscription) = ⊤
 IsNumbered table (Unsubscribes subscription) = ⊤
 IsNumbered table (Registers registration) = ⊤
 IsNumbered table (Opens call) = ⊤
-IsNumbered table (Calls calls) = ⊤
+IsNumbered table (OpensAll calls) = ⊤
 IsNumbered table (Closes place) = ⊤

@@ -6,8 +6,7 @@ use Rattle.bus_table.specs.Refusal.{Step}
 use Rattle.bus_table.specs.Clients.{without_client, numbers_of, objects_left}
 use Rattle.bus_outbox.specs.Fits.{fits}
 use Rattle.bus_outbox.specs.Out.{out_of}
-use Rattle.bus_lists.specs.Calls.{calls_of}
-use Rattle.bus_lists.specs.Among.{objects_but, registrations_but}
+use Rattle.bus_lists.specs.Among.{objects_but, registrations_but, calls_but}
 use Rattle.bus_state.specs.declared.leaving.Leaving.{Leaving}
 
 -- the table where these objects have left, and these subscriptions and calls are there
@@ -25,5 +24,5 @@ all_left table client = objects_left fits (without_client table client) (numbers
 
 -- the leaving of a client comes to this
 pub record Leaves (before : Table) (client : ℕ) (leaving : Leaving) : Type 0 where
-  pub table : partly (without_client before client) leaving.numbers.items leaving.subscriptions.items (calls_of leaving.calls.items) ≡ (all_left before client).table
+  pub table : partly (without_client before client) leaving.numbers.items leaving.subscriptions (calls_but leaving.numbers.items (without_client before client).calls) ≡ (all_left before client).table
   pub sent : leaving.out ≡ out_of (all_left before client).sent

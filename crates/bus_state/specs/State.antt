@@ -12,7 +12,7 @@ table_of bus = record {
   next_client = bus.clients.next;
   objects = bus.objects.rows.items;
   next_object = bus.objects.next;
-  subscriptions = bus.subscriptions.items;
+  subscriptions = bus.subscriptions;
   registrations = bus.registrations.items;
-  calls = calls_of bus.calls.items;
+  calls = calls_of bus.calls.rows.items;
 }

@@ -3,8 +3,8 @@ ghost use Rattle.bus_table.specs.Table.{nobody};
 ghost use Rattle.bus_state.specs.State.{table_of};
 
 use bus_access::Acl;
-use bus_lists::{ClientRows, ObjectRows, OpenCall, OwnObjects};
-use bus_table::{Registration, Subscription};
+use bus_lists::{CallRows, ClientRows, ObjectRows, OwnObjects, SubscriptionRows};
+use bus_table::Registration;
 use plane_io::Memory;
 use std::alloc::Global;
 
@@ -20,10 +20,10 @@ pub struct Bus {
     pub clients: ClientRows,
     /// Those of clients.
     pub objects: ObjectRows,
-    pub subscriptions: Vec<Subscription>,
+    pub subscriptions: SubscriptionRows,
     pub registrations: Vec<Registration>,
     /// As they were opened.
-    pub calls: Vec<OpenCall>,
+    pub calls: CallRows,
 }
 
 impl Bus {
@@ -37,9 +37,9 @@ impl Bus {
             acl,
             clients: ClientRows::new(alloc, FIRST_NUMBER),
             objects: ObjectRows::new(alloc, FIRST_NUMBER),
-            subscriptions: Vec::new(alloc),
+            subscriptions: SubscriptionRows::new(alloc),
             registrations: Vec::new(alloc),
-            calls: Vec::new(alloc),
+            calls: CallRows::new(alloc),
         })
     }
 }

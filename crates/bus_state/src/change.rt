@@ -1,12 +1,12 @@
-ghost use Rattle.std.specs.Prelude.{◌≡◌, OnOk, OnErr, remove};
+ghost use Rattle.std.specs.Prelude.{◌≡◌, OnOk, OnErr};
 ghost use Rattle.bus_table.specs.Objects.{without_object};
 ghost use Rattle.bus_lists.specs.Calls.{calls_of};
-ghost use Rattle.bus_state.specs.Change.{changed, IsNumbered};
+ghost use Rattle.bus_state.specs.Change.{changed, with_calls, IsNumbered};
 ghost use Rattle.bus_state.specs.State.{table_of};
 ghost use Rattle.bus_state.specs.declared.change.Change.TheVariants.{Adds, Opens};
 
 use crate::Bus;
-use bus_lists::{OpenCall, drop_calls_on, drop_registered, drop_subscription, drop_touching};
+use bus_lists::{OpenCall, drop_registered};
 use bus_table::{Object, Registration, Subscription};
 use plane_io::Memory;
 
@@ -20,8 +20,7 @@ pub enum Change {
     Unsubscribes(Subscription),
     Registers(Registration),
     Opens(OpenCall),
-    /// All open calls from then on.
-    Calls(Vec<OpenCall>),
+    OpensAll(Vec<OpenCall>),
     /// The open call at this place is over.
     Closes(usize),
 }
@@ -40,12 +39,9 @@ impl Bus {
                 self.drop_object(number);
                 Ok(())
             }
-            Change::Subscribes(subscription) => {
-                self.subscriptions.push(subscription)?;
-                Ok(())
-            }
+            Change::Subscribes(subscription) => self.subscriptions.push(subscription),
             Change::Unsubscribes(subscription) => {
-                drop_subscription(&mut self.subscriptions, subscription);
+                self.subscriptions.remove(subscription);
                 Ok(())
             }
             Change::Registers(registration) => {
@@ -53,12 +49,9 @@ impl Bus {
                 Ok(())
             }
             Change::Opens(call) => self.open_call(call),
-            Change::Calls(calls) => {
-                self.calls = calls;
-                Ok(())
-            }
+            Change::OpensAll(calls) => self.open_calls(&calls),
             Change::Closes(place) => {
-                close(&mut self.calls, place);
+                self.calls.remove(place);
                 Ok(())
             }
         }
@@ -76,8 +69,15 @@ impl Bus {
         ensures ok { OnOk result (table_of self.new ≡ changed (table_of self.old) (Opens call)) }
         ensures err { OnErr result (table_of self.new ≡ table_of self.old) }
     {
-        self.calls.push(call)?;
-        Ok(())
+        self.calls.push(call)
+    }
+
+    fn open_calls(&mut self, calls: &[OpenCall]) -> Result<(), Memory>
+        ensures ok { OnOk result (table_of self.new
+            ≡ with_calls (table_of self.old) (calls_of calls.now)) }
+        ensures err { OnErr result (table_of self.new ≡ table_of self.old) }
+    {
+        self.calls.push_all(calls)
     }
 
     /// Forgets an object, and all that hangs on it.
@@ -85,17 +85,8 @@ impl Bus {
         ensures { table_of self.new ≡ without_object (table_of self.old) number }
     {
         self.objects.remove(number);
-        drop_touching(&mut self.subscriptions, number);
+        self.subscriptions.drop_touching(number);
         drop_registered(&mut self.registrations, number);
-        drop_calls_on(&mut self.calls, number);
-    }
-}
-
-/// Drops the open call at a place.
-fn close(calls: &mut Vec<OpenCall>, place: usize)
-    ensures { calls_of calls.new.items ≡ remove (calls_of calls.old.items) place }
-{
-    if place < calls.len() {
-        calls.remove(place);
+        self.calls.drop_on(number);
     }
 }

@@ -9,18 +9,16 @@ ghost use Rattle.bus_table.specs.Subscriptions.{is_alone, activity};
 ghost use Rattle.bus_table.specs.Clients as clients;
 ghost use Rattle.bus_outbox.specs.Fits.{fits};
 ghost use Rattle.bus_outbox.specs.Out.{out_of, outgoing};
+ghost use Rattle.bus_lists.specs.Among.{calls_but};
 ghost use Rattle.bus_lists.specs.Calls.{call_of, calls_of};
 ghost use Rattle.bus_state.specs.Leaving as left;
 ghost use Rattle.bus_state.specs.State.{table_of};
 
 use crate::Bus;
-use bus_lists::{
-    OpenCall, drop_calls_on, drop_registered_among, drop_touching, forget_calls,
-    is_alone_untouched, subscribers_of, targets_of,
-};
+use bus_lists::{OpenCall, SubscriptionRows, drop_calls_on, drop_registered_among, forget_calls};
 use bus_messages::{active, call_status, gone as farewell};
 use bus_outbox::{Outgoing, send_to};
-use bus_table::{Object, Subscription};
+use bus_table::Object;
 use plane_io::{Items, Memory};
 use std::alloc::Global;
 
@@ -29,9 +27,8 @@ use std::alloc::Global;
 pub struct Leaving {
     /// The objects that leave.
     pub numbers: Vec<u32>,
-    /// What is left.
-    pub subscriptions: Vec<Subscription>,
-    pub calls: Vec<OpenCall>,
+    /// The subscriptions that are left.
+    pub subscriptions: SubscriptionRows,
     pub out: Items<Outgoing>,
 }
 
@@ -41,7 +38,7 @@ impl Bus {
         ensures { OnOk result (out.new
             ≡ out.old ++ out_of (spec.object_left fits (table_of self.now) number).sent) }
     {
-        self.tell_left_of(out, &[], &self.subscriptions, &self.calls, number)
+        self.tell_left_of(out, &[], &self.subscriptions, &self.calls.rows, number)
     }
 
     /// The same, where these objects have left, and these subscriptions and calls are there.
@@ -50,7 +47,7 @@ impl Bus {
         &self,
         out: &mut Items<Outgoing>,
         gone: &[u32],
-        subscriptions: &[Subscription],
+        subscriptions: &SubscriptionRows,
         calls: &[OpenCall],
         number: u32,
     ) -> Result<(), Memory>
@@ -67,13 +64,13 @@ impl Bus {
         &self,
         out: &mut Items<Outgoing>,
         gone: &[u32],
-        subscriptions: &[Subscription],
+        subscriptions: &SubscriptionRows,
         number: u32,
     ) -> Result<(), Memory>
         ensures { OnOk result (out.new ≡ out.old ++ out_of (spec.farewells fits
             (left.partly (table_of self.now) gone.now subscriptions.now []) number)) }
     {
-        let subscribers = subscribers_of(self.alloc, subscriptions, number)?;
+        let subscribers = subscriptions.subscribers_of(self.alloc, number)?;
         self.tell_gone(out, gone, &subscribers, number)
     }
 
@@ -101,13 +98,13 @@ impl Bus {
         &self,
         out: &mut Items<Outgoing>,
         gone: &[u32],
-        subscriptions: &[Subscription],
+        subscriptions: &SubscriptionRows,
         number: u32,
     ) -> Result<(), Memory>
         ensures { OnOk result (out.new ≡ out.old ++ out_of (spec.endings fits
             (left.partly (table_of self.now) gone.now subscriptions.now []) number)) }
     {
-        let targets = targets_of(self.alloc, subscriptions, number)?;
+        let targets = subscriptions.targets_of(self.alloc, number)?;
         self.tell_last(out, gone, subscriptions, number, &targets)
     }
 
@@ -116,7 +113,7 @@ impl Bus {
         &self,
         out: &mut Items<Outgoing>,
         gone: &[u32],
-        subscriptions: &[Subscription],
+        subscriptions: &SubscriptionRows,
         number: u32,
         targets: &[u32],
     ) -> Result<(), Memory>
@@ -136,7 +133,7 @@ impl Bus {
         &self,
         out: &mut Items<Outgoing>,
         gone: &[u32],
-        subscriptions: &[Subscription],
+        subscriptions: &SubscriptionRows,
         number: u32,
         target: u32,
     ) -> Result<(), Memory>
@@ -156,20 +153,19 @@ impl Bus {
         ensures { IfOk result (λ found. left.Leaves (table_of self.now) client found) }
     {
         let numbers = self.numbers_of(client)?;
-        let mut subscriptions = Vec::from_slice(self.alloc, &self.subscriptions)?;
-        let mut calls = Vec::from_slice(self.alloc, &self.calls)?;
+        let mut subscriptions = self.subscriptions.copy(self.alloc)?;
+        let mut calls = Vec::from_slice(self.alloc, &self.calls.rows)?;
         forget_calls(&mut calls, client);
         let mut out = Items::new(self.alloc);
         for place in 0..numbers.len() {
             let number = numbers[place];
             self.tell_left_of(&mut out, &numbers[..place], &subscriptions, &calls, number)?;
-            drop_touching(&mut subscriptions, number);
+            subscriptions.drop_touching(number);
             drop_calls_on(&mut calls, number);
         }
         Ok(Leaving {
             numbers,
             subscriptions,
-            calls,
             out,
         })
     }
@@ -178,20 +174,21 @@ impl Bus {
     pub fn leave(&mut self, client: u32, leaving: Leaving) -> Items<Outgoing>
         ensures table { table_of self.new ≡ left.partly
             (clients.without_client (table_of self.old) client) leaving.numbers.items
-            leaving.subscriptions.items (calls_of leaving.calls.items) }
+            leaving.subscriptions (calls_but leaving.numbers.items
+            (clients.without_client (table_of self.old) client).calls) }
         ensures out { result ≡ leaving.out }
     {
         let Leaving {
             numbers,
             subscriptions,
-            calls,
             out,
         } = leaving;
         self.clients.remove(client);
         self.objects.remove_among(&numbers);
         drop_registered_among(&mut self.registrations, &numbers);
         self.subscriptions = subscriptions;
-        self.calls = calls;
+        self.calls.forget(client);
+        self.calls.drop_among(&numbers);
         out
     }
 
@@ -231,11 +228,11 @@ fn tell_ended(out: &mut Items<Outgoing>, calls: &[OpenCall], number: u32) -> Res
 }
 
 /// Whether the subscription of an object that leaves was the last one to another object.
-fn is_last(subscriptions: &[Subscription], number: u32, target: u32) -> bool
+fn is_last(subscriptions: &SubscriptionRows, number: u32, target: u32) -> bool
     ensures { result ≡ (not (target == number)
         && is_alone (spec.untouched number subscriptions.now) target) }
 {
-    target != number && is_alone_untouched(subscriptions, number, target)
+    target != number && subscriptions.is_alone_untouched(number, target)
 }
 
 /// The caller is sent the STATUS of its call.

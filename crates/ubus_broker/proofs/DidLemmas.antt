@@ -1,5 +1,5 @@
 -- What a step of the code did.
-use Rattle.std.proofs.Common.{ℕ, ◌≡◌, ◌+◌, ◌==◌, List, [], ◌∷◌, ◌++◌, map, get_or, Bool, true, false, not, Option, Some, None, refl, sym, ap, ◌∙◌}
+use Rattle.std.proofs.Common.{ℕ, ◌≡◌, ◌+◌, ◌==◌, List, [], ◌∷◌, ◌++◌, get_or, Bool, true, false, not, Option, Some, None, refl, sym, ap, ◌∙◌}
 use Rattle.std.specs.Prelude.{if◌then◌else◌, ◌&&◌, filter, remove}
 use Rattle.std.specs.List.{find, position}
 use Rattle.blob_codec.specs.declared.blob.Attr.{Attr}
@@ -10,13 +10,12 @@ use Rattle.bus_table.specs.declared.rows.Client.{Client}
 use Rattle.bus_table.specs.Frames.{Sent, plain, hello}
 use Rattle.bus_table.specs.Refusal.{Step, says}
 use Rattle.bus_table.specs.Objects.{object_left}
-use Rattle.bus_table.specs.Calls.{without_first}
 use Rattle.bus_table.specs.Clients.{is_full, connected, without_client, numbers_of, objects_left, to_others, left, is_handed_out, reply_sent, replied_to}
 use Rattle.bus_table.specs.Served.{counted, said, said_by, served, connect, frame, leave, local_reply}
 use Rattle.bus_outbox.specs.declared.outbox.Outgoing.{Outgoing}
 use Rattle.bus_outbox.specs.Fits.{fits}
 use Rattle.bus_outbox.specs.Out.{outgoing, out_of}
-use Rattle.bus_lists.specs.Calls.{calls_of}
+use Rattle.bus_lists.specs.Among.{calls_but}
 use Rattle.bus_lists.proofs.ListLemmas.{FirstAt, first_at, first_none, filter_of_map}
 use Rattle.bus_lists.proofs.CallLemmas.{without_first_at}
 use Rattle.bus_state.specs.declared.leaving.Leaving.{Leaving}
@@ -59,7 +58,7 @@ connect_did table now user group out first room made sent =
     did_as (connected table user group) joined now out None (ap (λ b. if b then says table [] else joined) room) first made sent refl
 
 pub leave_did : (table now : Table) (client : ℕ) (leaving : Leaving) (out : List Outgoing) → now.place ≡ 0 → is_connected table client ≡ true → Leaves table client leaving
-    → now ≡ partly (without_client table client) leaving.numbers.items leaving.subscriptions.items (calls_of leaving.calls.items)
+    → now ≡ partly (without_client table client) leaving.numbers.items leaving.subscriptions (calls_but leaving.numbers.items (without_client table client).calls)
     → out ≡ filter (λ (o : Outgoing). not (o.client == client)) leaving.out → Did (served fits table (leave client)) now out None
 leave_did table now client leaving out first there leaves made sent =
     let step = to_others client (all_left table client) in

@@ -1,11 +1,10 @@
-ghost use Rattle.std.specs.Prelude.{◌≡◌, ◌<◌, ◌∷◌, ◌++◌, ◌&&◌, not, [], Some, OnErr, IfOk, IfErr, IfSome, true, length, if◌then◌else◌};
+ghost use Rattle.std.specs.Prelude.{◌≡◌, ◌<◌, ◌∷◌, ◌++◌, ◌&&◌, not, [], Some, OnErr, IfOk, IfErr, true, length, if◌then◌else◌};
 ghost use Rattle.std.specs.List.{list_any, position};
 ghost use Rattle.bus_table.specs.Table as table;
 ghost use Rattle.bus_table.specs.Clients as spec;
 ghost use Rattle.bus_table.specs.Served.{served, local_reply as reply_event};
 ghost use Rattle.bus_table.specs.Frames.{where_fits};
 ghost use Rattle.bus_table.specs.Objects.{told};
-ghost use Rattle.bus_lists.specs.declared.calls.OpenCall.{OpenCall as CallRow};
 ghost use Rattle.bus_lists.specs.Calls.{call_of};
 ghost use Rattle.bus_outbox.specs.Fits.{fits};
 ghost use Rattle.bus_outbox.specs.Out.{out_of};
@@ -14,7 +13,7 @@ ghost use Rattle.ubus_broker.specs.Did.{table_of, Did};
 
 use crate::{Broker, BrokerError, LocalCall, Served};
 use blob_codec::Attr;
-use bus_lists::{OpenCall, is_local};
+use bus_lists::OpenCall;
 use bus_messages::call_data;
 use bus_outbox::{Outgoing, does_fit, send_if_fits};
 use bus_state::told;
@@ -29,7 +28,9 @@ impl Broker {
             ≡ list_any (spec.is_handed_out call.now.caller call.now.seq call.now.object)
             (table_of self.now).calls }
     {
-        some_handed_out(&self.bus.calls, call.caller, call.seq, call.object)
+        self.bus
+            .calls
+            .is_handed_out(call.caller, call.seq, call.object)
     }
 
     /// Serves the answer of a local object. The call was handed out, and is not answered yet, as `is_handed_out` tells.
@@ -68,7 +69,11 @@ impl Broker {
             (table_of self.new) done.out done.call) }
         ensures err { OnErr result (table_of self.new ≡ table_of self.old) }
     {
-        match self.handed_out(call.caller, call.seq, call.object) {
+        match self
+            .bus
+            .calls
+            .handed_out(call.caller, call.seq, call.object)
+        {
             None => Ok(Served {
                 out: Items::new(self.bus.alloc),
                 call: None,
@@ -87,25 +92,16 @@ impl Broker {
         requires at { position
             (spec.is_handed_out call.now.caller call.now.seq call.now.object)
             (table_of self.old).calls ≡ Some place }
-        requires within { place < length self.old.bus.calls.items }
+        requires within { place < length self.old.bus.calls.rows.items }
         ensures ok { IfOk result (λ done. Did (served fits (table_of self.old)
             (reply_event call.now.caller call.now.seq call.now.object status payload))
             (table_of self.new) done.out done.call) }
         ensures err { OnErr result (table_of self.new ≡ table_of self.old) }
     {
-        let kept = self.bus.calls[place];
+        let kept = self.bus.calls.rows[place];
         let out = self.reply(&kept, status, payload)?;
         self.bus.calls.remove(place);
         Ok(Served { out, call: None })
-    }
-
-    /// Where the call stands that was handed out.
-    fn handed_out(&self, caller: u32, seq: u16, object: u32) -> Option<usize>
-        ensures place { result ≡ position (spec.is_handed_out caller seq object)
-            (table_of self.now).calls }
-        ensures within { IfSome result (λ place. place < length self.now.bus.calls.items) }
-    {
-        place_handed_out(&self.bus.calls, caller, seq, object)
     }
 
     /// Whether the caller is there, and wants a reply.
@@ -131,31 +127,6 @@ impl Broker {
         }
         Ok(Items::new(self.bus.alloc))
     }
-}
-
-fn some_handed_out(calls: &[OpenCall], caller: u32, seq: u16, object: u32) -> bool
-    ensures { result ≡ list_any (λ (call : CallRow).
-        spec.is_handed_out caller seq object (call_of call)) calls.now }
-{
-    calls
-        .iter()
-        .any(|call| is_handed_out(call, caller, seq, object))
-}
-
-fn place_handed_out(calls: &[OpenCall], caller: u32, seq: u16, object: u32) -> Option<usize>
-    ensures place { result ≡ position (λ (call : CallRow).
-        spec.is_handed_out caller seq object (call_of call)) calls.now }
-    ensures within { IfSome result (λ place. place < length calls.now) }
-{
-    calls
-        .iter()
-        .position(|call| is_handed_out(call, caller, seq, object))
-}
-
-fn is_handed_out(call: &OpenCall, caller: u32, seq: u16, object: u32) -> bool
-    ensures { result ≡ spec.is_handed_out caller seq object (call_of call.now) }
-{
-    call.caller == caller && call.seq == seq && (call.object == object && is_local(object))
 }
 
 fn reply_to(

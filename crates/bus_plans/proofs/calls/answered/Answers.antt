@@ -1,30 +1,24 @@
-use Rattle.std.proofs.Common.{ℕ, ◌≡◌, ◌++◌, ◌==◌, List, [], ◌∷◌, Option, Some, None, Bool, true, false, not, IfOk, OnOk, refl, sym, ap, subst, ◌∙◌, append-nil}
-use Rattle.std.specs.Prelude.{◌&&◌, ◌||◌, if◌then◌else◌, codes, unwrap_or, remove}
-use Rattle.std.specs.Option.{option_copied}
-use Rattle.std.specs.List.{flat_map, position}
-use Rattle.ubus_frames.specs.declared.frame.Frame.{Frame}
-use Rattle.bus_table.specs.Table.{Table, Call, object_of, owner_of, of_type, typed, path_of}
-use Rattle.bus_table.specs.declared.rows.Client.{Client}
-use Rattle.bus_table.specs.declared.rows.Object.{Object}
-use Rattle.bus_table.specs.declared.rows.Subscription.{Subscription}
-use Rattle.bus_table.specs.Frames.{Sent, with_data, where_fits, to_owner, answer, is_set, call_data}
-use Rattle.bus_table.specs.Refusal.{Step, Refusal, says, refuses, refused, refused_if_asked, numbered, denial}
-use Rattle.bus_table.specs.Objects.{removes_named, removes_found, object_data, new_object, object_left, without_object, lost_type, told}
-use Rattle.bus_table.specs.Subscriptions.{subscribes_named, subscribes_found, unsubscribes_named, is_alone, activity, without, subscribers_of}
-use Rattle.bus_table.specs.Calls.{notifies_named, notifies_found, refuses_notify, passed_on, opened, call_on, is_answered, told_subscribers, subscribers_told}
-use Rattle.bus_outbox.specs.declared.outbox.Outgoing.{Outgoing}
-use Rattle.bus_outbox.specs.Fits.{fits}
-use Rattle.bus_outbox.specs.Out.{out_of}
-use Rattle.bus_outbox.proofs.OutLemmas.{out_more}
+use Rattle.std.proofs.Common.{◌≡◌, List, Bool, Some, sym, ◌∙◌}
+use Rattle.std.specs.List.{find}
+use Rattle.bus_table.specs.Calls.{is_answered}
 use Rattle.bus_lists.specs.declared.calls.OpenCall.{OpenCall}
-use Rattle.bus_lists.specs.Calls.{call_of, calls_of}
-use Rattle.bus_lists.proofs.ListLemmas.{none_found, position_of_map}
+use Rattle.bus_lists.specs.Calls.{call_number, call_of}
+use Rattle.bus_lists.proofs.ListLemmas.{position_of_map}
+use Rattle.bus_lists.proofs.PlaceLemmas.{place_first, place_none}
 use Rattle.bus_state.specs.State.{table_of}
-use Rattle.bus_state.specs.Change.{changed}
-use Rattle.bus_state.specs.declared.change.Change.TheVariants.{Adds}
-use Rattle.bus_plans.specs.Plan.{Plans, notified_to}
-use Rattle.bus_plans.proofs.PlanLemmas.{taken, passed, says_plan, planned_as, plan_for}
 use Rattle.bus_plans.proofs.calls.answered.Goals as goal
 
-pub returns-clause-place : goal.returns-clause-place
-returns-clause-place c = c.place_answered.ensures.place ∙ sym (position_of_map (is_answered (table_of c.args.bus.now) c.args.client c.args.frame.now) call_of c.args.bus.now.calls.items)
+pub returns-in-Some-clause-place : goal.returns-in-Some-clause-place
+returns-in-Some-clause-place c =
+    let rows : List OpenCall = c.args.bus.now.calls.rows.items in
+    let passes : OpenCall → Bool = λ call. is_answered (table_of c.args.bus.now) c.args.client c.args.frame.now (call_of call) in
+    let found : find passes rows ≡ Some c.in-Some.call = sym c.answered_call.ensures ∙ c.in-Some.is in
+    c.place_of.ensures.place
+    ∙ place_first call_number passes rows c.in-Some.call c.args.bus.now.calls.tied.rising.0 found
+    ∙ sym (position_of_map (is_answered (table_of c.args.bus.now) c.args.client c.args.frame.now) call_of rows)
+
+pub returns-in-None-clause-place : goal.returns-in-None-clause-place
+returns-in-None-clause-place c =
+    let rows : List OpenCall = c.args.bus.now.calls.rows.items in
+    let passes : OpenCall → Bool = λ call. is_answered (table_of c.args.bus.now) c.args.client c.args.frame.now (call_of call) in
+    sym (position_of_map (is_answered (table_of c.args.bus.now) c.args.client c.args.frame.now) call_of rows ∙ place_none passes rows (sym c.answered_call.ensures ∙ c.in-None.is))

@@ -32,4 +32,4 @@ returns c =
     let client : Client = c.args.client.now in
     let request : Frame = c.args.request.now in
     planned_as c.notify_all.result table _ _ c.notify_all.ensures
-    (ap (notified_to fits table client request c.args.object) (sym (c.deref-2.ensures.value ∙ (c.in_ok-subscribers.ensures ∙ ap (λ (subs : List Subscription). subscribers_of subs c.args.object) c.deref.ensures.value))))
+    (ap (notified_to fits table client request c.args.object) (sym (c.deref.ensures.value ∙ c.in_ok-subscribers.ensures)))

@@ -1,29 +1,19 @@
-use Rattle.std.proofs.Common.{ℕ, ◌≡◌, ◌++◌, ◌==◌, List, [], ◌∷◌, Option, Some, None, Bool, true, false, not, IfOk, OnOk, refl, sym, ap, subst, ◌∙◌, append-nil}
-use Rattle.std.specs.Prelude.{◌&&◌, ◌||◌, if◌then◌else◌, codes, unwrap_or, remove}
-use Rattle.std.specs.Option.{option_copied}
-use Rattle.std.specs.List.{flat_map, position}
+use Rattle.std.proofs.Common.{ℕ, ◌++◌, List, [], refl, sym, ap, ◌∙◌}
+use Rattle.std.specs.List.{flat_map}
 use Rattle.ubus_frames.specs.declared.frame.Frame.{Frame}
-use Rattle.bus_table.specs.Table.{Table, Call, object_of, owner_of, of_type, typed, path_of}
+use Rattle.bus_table.specs.Table.{Table, Call, owner_of}
 use Rattle.bus_table.specs.declared.rows.Client.{Client}
-use Rattle.bus_table.specs.declared.rows.Object.{Object}
-use Rattle.bus_table.specs.declared.rows.Subscription.{Subscription}
-use Rattle.bus_table.specs.Frames.{Sent, with_data, where_fits, to_owner, answer, is_set, call_data}
-use Rattle.bus_table.specs.Refusal.{Step, Refusal, says, refuses, refused, refused_if_asked, numbered, denial}
-use Rattle.bus_table.specs.Objects.{removes_named, removes_found, object_data, new_object, object_left, without_object, lost_type, told}
-use Rattle.bus_table.specs.Subscriptions.{subscribes_named, subscribes_found, unsubscribes_named, is_alone, activity, without, subscribers_of}
-use Rattle.bus_table.specs.Calls.{notifies_named, notifies_found, refuses_notify, passed_on, opened, call_on, is_answered, told_subscribers, subscribers_told}
+use Rattle.bus_table.specs.Frames.{Sent, to_owner}
+use Rattle.bus_table.specs.Refusal.{numbered}
+use Rattle.bus_table.specs.Objects.{told}
+use Rattle.bus_table.specs.Calls.{passed_on, opened, told_subscribers}
 use Rattle.bus_outbox.specs.declared.outbox.Outgoing.{Outgoing}
 use Rattle.bus_outbox.specs.Fits.{fits}
 use Rattle.bus_outbox.specs.Out.{out_of}
 use Rattle.bus_outbox.proofs.OutLemmas.{out_more}
 use Rattle.bus_lists.specs.declared.calls.OpenCall.{OpenCall}
-use Rattle.bus_lists.specs.Calls.{call_of, calls_of}
-use Rattle.bus_lists.proofs.ListLemmas.{none_found, position_of_map}
+use Rattle.bus_lists.specs.Calls.{calls_of}
 use Rattle.bus_state.specs.State.{table_of}
-use Rattle.bus_state.specs.Change.{changed}
-use Rattle.bus_state.specs.declared.change.Change.TheVariants.{Adds}
-use Rattle.bus_plans.specs.Plan.{Plans, notified_to}
-use Rattle.bus_plans.proofs.PlanLemmas.{taken, passed, says_plan, planned_as, plan_for}
 use Rattle.bus_plans.proofs.calls.notify_all.Goals as goal
 
 pub returns : goal.returns
@@ -35,8 +25,8 @@ returns c =
     let told : List Sent = told_subscribers fits client request c.args.object subscribers in
     let more : List Sent = flat_map (λ subscriber. to_owner fits (owner_of table subscriber) (passed_on client request subscriber)) subscribers in
     record {
-      table = ap (λ (calls : List Call). record table { calls = calls })
-          (c.in_ok-pass_on_all.ensures.calls ∙ ap (λ (calls : List OpenCall). calls_of calls ++ opened fits table client request subscribers) (c.in_ok-calls.ensures.items ∙ c.deref.ensures.value));
+      table = ap (λ (calls : List Call). record table { calls = table.calls ++ calls })
+          (c.in_ok-pass_on_all.ensures.calls ∙ ap (λ (calls : List OpenCall). calls_of calls ++ opened fits table client request subscribers) c.new-calls.ensures.items);
       sent = c.in_ok-pass_on_all.ensures.out ∙ (ap (λ (out : List Outgoing). out ++ out_of more) c.in_ok-out.ensures ∙ sym (out_more [] told more));
       handed = refl;
       numbered = tt;

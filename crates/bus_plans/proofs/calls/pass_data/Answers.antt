@@ -1,31 +1,15 @@
-use Rattle.std.proofs.Common.{ℕ, ◌≡◌, ◌++◌, ◌==◌, List, [], ◌∷◌, Option, Some, None, Bool, true, false, not, IfOk, OnOk, refl, sym, ap, subst, ◌∙◌, append-nil}
-use Rattle.std.specs.Prelude.{◌&&◌, ◌||◌, if◌then◌else◌, codes, unwrap_or, remove}
-use Rattle.std.specs.Option.{option_copied}
-use Rattle.std.specs.List.{flat_map, position}
+use Rattle.std.proofs.Common.{ℕ, ◌≡◌, List, Some, None, IfOk, sym, ap, subst, ◌∙◌}
+use Rattle.std.specs.Prelude.{option_map}
+use Rattle.std.specs.List.{find}
 use Rattle.ubus_frames.specs.declared.frame.Frame.{Frame}
-use Rattle.bus_table.specs.Table.{Table, Call, object_of, owner_of, of_type, typed, path_of}
-use Rattle.bus_table.specs.declared.rows.Client.{Client}
-use Rattle.bus_table.specs.declared.rows.Object.{Object}
-use Rattle.bus_table.specs.declared.rows.Subscription.{Subscription}
-use Rattle.bus_table.specs.Frames.{Sent, with_data, where_fits, to_owner, answer, is_set, call_data}
-use Rattle.bus_table.specs.Refusal.{Step, Refusal, says, refuses, refused, refused_if_asked, numbered, denial}
-use Rattle.bus_table.specs.Objects.{removes_named, removes_found, object_data, new_object, object_left, without_object, lost_type, told}
-use Rattle.bus_table.specs.Subscriptions.{subscribes_named, subscribes_found, unsubscribes_named, is_alone, activity, without, subscribers_of}
-use Rattle.bus_table.specs.Calls.{notifies_named, notifies_found, refuses_notify, passed_on, opened, call_on, is_answered, told_subscribers, subscribers_told}
-use Rattle.bus_outbox.specs.declared.outbox.Outgoing.{Outgoing}
-use Rattle.bus_outbox.specs.Fits.{fits}
+use Rattle.bus_table.specs.Table.{Table}
+use Rattle.bus_table.specs.Frames.{Sent}
+use Rattle.bus_table.specs.Calls.{is_answered}
 use Rattle.bus_outbox.specs.Out.{out_of}
-use Rattle.bus_outbox.proofs.OutLemmas.{out_more}
 use Rattle.bus_lists.specs.declared.calls.OpenCall.{OpenCall}
-use Rattle.bus_lists.specs.Calls.{call_of, calls_of}
-use Rattle.bus_lists.proofs.ListLemmas.{none_found, position_of_map}
+use Rattle.bus_lists.specs.Calls.{call_of}
 use Rattle.bus_state.specs.State.{table_of}
-use Rattle.bus_state.specs.Change.{changed}
-use Rattle.bus_state.specs.declared.change.Change.TheVariants.{Adds}
-use Rattle.bus_plans.specs.Plan.{Plans, notified_to}
-use Rattle.bus_plans.proofs.PlanLemmas.{taken, passed, says_plan, planned_as, plan_for}
-use Rattle.bus_plans.proofs.AnswerLemmas.{call_at, data_none, data_told, status_none, status_told}
-use Rattle.std.proofs.Common.{get_or}
+use Rattle.bus_plans.proofs.AnswerLemmas.{call_found, data_none, data_told}
 use Rattle.bus_plans.proofs.calls.pass_data.Goals as goal
 
 pub returns-in-None : goal.returns-in-None
@@ -33,14 +17,16 @@ returns-in-None c =
     let table : Table = table_of c.args.bus.now in
     let client : ℕ = c.args.client in
     let frame : Frame = c.args.frame.now in
-    c.new.ensures ∙ sym (ap out_of (data_none table client frame (sym c.answered.ensures.place ∙ c.in-None.is)))
+    let found : find (is_answered table client frame) table.calls ≡ None =
+    call_found (is_answered table client frame) c.args.bus.now.calls.rows.items c.answered_call.result c.answered_call.ensures ∙ ap (option_map call_of) c.in-None.is in
+    c.new.ensures ∙ sym (ap out_of (data_none table client frame found))
 
 pub returns-in-Some : goal.returns-in-Some
 returns-in-Some c =
     let table : Table = table_of c.args.bus.now in
     let client : ℕ = c.args.client in
     let frame : Frame = c.args.frame.now in
-    let call : OpenCall = c.index-call.result.now in
-    let at : position (is_answered table client frame) table.calls ≡ Some c.in-Some.place = sym c.answered.ensures.place ∙ c.in-Some.is in
-    let is : call_of call ≡ get_or table.calls c.in-Some.place (call_of call) = call_at c.args.bus.now.calls.items c.in-Some.place call c.index-call.ensures in
-    subst (λ (sent : List Sent). IfOk c.data_of.result (λ out. out ≡ out_of sent)) (sym (data_told table client frame c.in-Some.place (call_of call) at is)) c.data_of.ensures
+    let call : OpenCall = c.in-Some.call in
+    let found : find (is_answered table client frame) table.calls ≡ Some (call_of call) =
+    call_found (is_answered table client frame) c.args.bus.now.calls.rows.items c.answered_call.result c.answered_call.ensures ∙ ap (option_map call_of) c.in-Some.is in
+    subst (λ (sent : List Sent). IfOk c.data_of.result (λ out. out ≡ out_of sent)) (sym (data_told table client frame (call_of call) found)) c.data_of.ensures

@@ -1,30 +1,14 @@
-use Rattle.std.proofs.Common.{ℕ, ◌≡◌, ◌++◌, ◌==◌, List, [], ◌∷◌, Option, Some, None, Bool, true, false, not, IfOk, OnOk, refl, sym, ap, subst, ◌∙◌, append-nil}
-use Rattle.std.specs.Prelude.{◌&&◌, ◌||◌, if◌then◌else◌, codes, unwrap_or, remove}
-use Rattle.std.specs.Option.{option_copied}
-use Rattle.std.specs.List.{flat_map, position}
+use Rattle.std.proofs.Common.{ℕ, ◌≡◌, [], Some, sym, ◌∙◌}
+use Rattle.std.specs.List.{position}
 use Rattle.ubus_frames.specs.declared.frame.Frame.{Frame}
-use Rattle.bus_table.specs.Table.{Table, Call, object_of, owner_of, of_type, typed, path_of}
-use Rattle.bus_table.specs.declared.rows.Client.{Client}
-use Rattle.bus_table.specs.declared.rows.Object.{Object}
-use Rattle.bus_table.specs.declared.rows.Subscription.{Subscription}
-use Rattle.bus_table.specs.Frames.{Sent, with_data, where_fits, to_owner, answer, is_set, call_data}
-use Rattle.bus_table.specs.Refusal.{Step, Refusal, says, refuses, refused, refused_if_asked, numbered, denial}
-use Rattle.bus_table.specs.Objects.{removes_named, removes_found, object_data, new_object, object_left, without_object, lost_type, told}
-use Rattle.bus_table.specs.Subscriptions.{subscribes_named, subscribes_found, unsubscribes_named, is_alone, activity, without, subscribers_of}
-use Rattle.bus_table.specs.Calls.{notifies_named, notifies_found, refuses_notify, passed_on, opened, call_on, is_answered, told_subscribers, subscribers_told}
-use Rattle.bus_outbox.specs.declared.outbox.Outgoing.{Outgoing}
-use Rattle.bus_outbox.specs.Fits.{fits}
-use Rattle.bus_outbox.specs.Out.{out_of}
-use Rattle.bus_outbox.proofs.OutLemmas.{out_more}
+use Rattle.bus_table.specs.Table.{Table}
+use Rattle.bus_table.specs.Refusal.{says}
+use Rattle.bus_table.specs.Calls.{is_answered}
 use Rattle.bus_lists.specs.declared.calls.OpenCall.{OpenCall}
-use Rattle.bus_lists.specs.Calls.{call_of, calls_of}
-use Rattle.bus_lists.proofs.ListLemmas.{none_found, position_of_map}
+use Rattle.bus_lists.specs.Calls.{call_of}
 use Rattle.bus_state.specs.State.{table_of}
-use Rattle.bus_state.specs.Change.{changed}
-use Rattle.bus_state.specs.declared.change.Change.TheVariants.{Adds}
-use Rattle.bus_plans.specs.Plan.{Plans, notified_to}
-use Rattle.bus_plans.proofs.PlanLemmas.{taken, passed, says_plan, planned_as, plan_for}
-use Rattle.bus_plans.proofs.AnswerLemmas.{call_at, data_none, data_told, status_none, status_told}
+use Rattle.bus_plans.proofs.PlanLemmas.{says_plan, planned_as, plan_for}
+use Rattle.bus_plans.proofs.AnswerLemmas.{call_at, status_none, status_told}
 use Rattle.std.proofs.Common.{get_or}
 use Rattle.bus_plans.proofs.calls.pass_status.Goals as goal
 
@@ -42,5 +26,5 @@ returns-in-Some c =
     let frame : Frame = c.args.frame.now in
     let call : OpenCall = c.index-call.result.now in
     let at : position (is_answered table client frame) table.calls ≡ Some c.in-Some.place = sym c.answered.ensures.place ∙ c.in-Some.is in
-    let is : call_of call ≡ get_or table.calls c.in-Some.place (call_of call) = call_at c.args.bus.now.calls.items c.in-Some.place call c.index-call.ensures in
+    let is : call_of call ≡ get_or table.calls c.in-Some.place (call_of call) = call_at c.args.bus.now.calls.rows.items c.in-Some.place call c.index-call.ensures in
     planned_as c.status_of.result table _ _ (c.status_of.ensures table) (status_told table client frame c.in-Some.place (call_of call) at is)

@@ -10,7 +10,7 @@ use Rattle.bus_state.proofs.bus.Bus.leaving.Given as goal
 -- what the objects from here on come to completes what all come to
 abbrev pub invariant-loop-place : goal.invariant-loop-place
 invariant-loop-place l =
-    let now = partly (without_client (table_of l.self) l.client) (take l.place l.numbers.items) l.subscriptions.items (calls_of l.calls.items) in
+    let now = partly (without_client (table_of l.self) l.client) (take l.place l.numbers.items) l.subscriptions (calls_of l.calls.items) in
     record {
       table : (objects_left fits now (drop l.place l.numbers.items)).table ≡ (all_left (table_of l.self) l.client).table;
       sent : l.out ++ out_of (objects_left fits now (drop l.place l.numbers.items)).sent ≡ out_of (all_left (table_of l.self) l.client).sent;

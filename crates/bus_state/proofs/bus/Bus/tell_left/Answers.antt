@@ -1,6 +1,5 @@
 use Rattle.std.proofs.Common.{◌≡◌, ◌++◌, List, [], OnOk, subst, ap, ◌∙◌}
 use Rattle.bus_table.specs.Table.{Table}
-use Rattle.bus_table.specs.declared.rows.Subscription.{Subscription}
 use Rattle.bus_table.specs.Frames.{Sent}
 use Rattle.bus_table.specs.Objects.{object_left}
 use Rattle.bus_outbox.specs.Fits.{fits}
@@ -16,9 +15,8 @@ pub returns : goal.returns
 returns c =
     let bus = c.args.self.now in
     let table : Table = table_of bus in
-    let told : List Subscription → List OpenCall → List Sent = λ subscriptions calls. (object_left fits (partly table [] subscriptions (calls_of calls)) c.args.number).sent in
+    let told : List OpenCall → List Sent = λ calls. (object_left fits (partly table [] table.subscriptions (calls_of calls)) c.args.number).sent in
     subst (λ (sent : List Sent). OnOk c.tell_left_of.result (c.tell_left_of.new.out ≡ c.args.out.now ++ out_of sent))
-    (ap (λ (subscriptions : List Subscription). told subscriptions c.deref-2.result.now) c.deref.ensures.value
-    ∙ ap (told bus.subscriptions.items) c.deref-2.ensures.value
+    (ap told c.deref.ensures.value
     ∙ ap (λ (t : Table). (object_left fits t c.args.number).sent) (none_left table))
     c.tell_left_of.ensures

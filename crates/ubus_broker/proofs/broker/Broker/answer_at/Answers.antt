@@ -1,38 +1,21 @@
-use Rattle.std.proofs.Common.{ℕ, ◌≡◌, ◌+◌, ◌++◌, ◌==◌, List, [], ◌∷◌, Option, Some, None, Bool, true, false, not, IfOk, OnOk, get_or, refl, sym, ap, subst, ◌∙◌, rules}
-use Rattle.std.specs.Prelude.{◌&&◌, if◌then◌else◌, filter, remove}
-use Rattle.std.specs.Option.{option_copied}
-use Rattle.std.specs.List.{list_any, position}
-use Rattle.std.proofs.lemmas.Fn.{filter_same}
-use Rattle.blob_codec.specs.declared.blob.Attr.{Attr}
-use Rattle.ubus_frames.specs.declared.frame.Frame.{Frame}
-use Rattle.bus_table.specs.Table.{Table, Call, client_of, is_connected}
-use Rattle.bus_table.specs.declared.rows.Client.{Client}
-use Rattle.bus_table.specs.Frames.{Sent, where_fits, plain, hello}
-use Rattle.bus_table.specs.Refusal.{Step, says}
-use Rattle.bus_table.specs.Objects.{told}
-use Rattle.bus_table.specs.Clients.{is_handed_out, reply_sent, reply_status}
-use Rattle.bus_table.specs.Served.{served, said_by, connect, frame, leave, local_reply}
-use Rattle.bus_outbox.specs.declared.outbox.Outgoing.{Outgoing}
-use Rattle.bus_outbox.specs.Fits.{fits}
-use Rattle.bus_outbox.specs.Out.{outgoing, out_of}
-use Rattle.bus_outbox.proofs.OutLemmas.{out_more}
+use Rattle.std.proofs.Common.{List, refl, ap}
+use Rattle.std.specs.Prelude.{remove}
+use Rattle.bus_table.specs.Table.{Table, Call}
 use Rattle.bus_lists.specs.declared.calls.OpenCall.{OpenCall}
 use Rattle.bus_lists.specs.Calls.{call_of, calls_of}
-use Rattle.bus_lists.proofs.ListLemmas.{list_any_map, position_of_map, remove_of_map}
 use Rattle.bus_state.specs.State as state
-use Rattle.bus_plans.proofs.PlanLemmas.{taken, passed, says_plan, planned_as, plan_for}
 use Rattle.bus_plans.proofs.AnswerLemmas.{call_at}
-use Rattle.ubus_broker.specs.Did.{table_of, Did}
-use Rattle.ubus_broker.proofs.DidLemmas.{did_counted, connect_did, leave_did, reply_did, no_reply_did, not_false}
+use Rattle.ubus_broker.specs.Did.{table_of}
+use Rattle.ubus_broker.proofs.DidLemmas.{reply_did}
 use Rattle.ubus_broker.proofs.broker.Broker.answer_at.Goals as goal
 
 pub returns-clause-ok : goal.returns-clause-ok
 returns-clause-ok c =
     let table : Table = table_of c.args.self.now in
     let call = c.args.call.now in
-    let items : List OpenCall = c.args.self.now.bus.calls.items in
+    let items : List OpenCall = c.args.self.now.bus.calls.rows.items in
     let kept : OpenCall = c.index.result.now in
-    reply_did table (record table { calls = calls_of c.remove.new.self.items }) call.caller call.seq call.object c.args.status c.args.payload c.args.place (call_of kept) c.in_ok-out.out refl c.requires.at
+    reply_did table (record table { calls = calls_of c.remove.new.self.rows.items }) call.caller call.seq call.object c.args.status c.args.payload c.args.place (call_of kept) c.in_ok-out.out refl c.requires.at
     (call_at items c.args.place kept c.index.ensures)
-    (ap (λ (calls : List Call). record table { calls = calls }) (ap calls_of c.remove.ensures.items ∙ sym (remove_of_map call_of items c.args.place)))
+    (ap (λ (calls : List Call). record table { calls = calls }) c.remove.ensures)
     c.in_ok-out.ensures
