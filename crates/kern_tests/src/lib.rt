@@ -1,15 +1,9 @@
-//! Worked examples of addresses, of device names and of the modelled kernel.
+//! Worked examples of device names, of the lines of calls and of the modelled kernel.
 #![tactic(auto)]
 
-#[cfg(test)]
-mod addresses;
-#[cfg(test)]
-mod calls;
 #[cfg(test)]
 mod kernel;
 #[cfg(test)]
 mod lines;
 #[cfg(test)]
 mod names;
-#[cfg(test)]
-mod random_calls;

@@ -1,0 +1,5 @@
+//! Worked examples of addresses.
+#![tactic(auto)]
+
+#[cfg(test)]
+mod addresses;
