@@ -112,6 +112,27 @@ impl CountedNames {
         &self.names
     }
 
+    /// The rows of the names.
+    pub fn rows(&self) -> &[NameRow]
+        ensures { result.now ≡ self.now.rows }
+    {
+        self.rows.as_slice()
+    }
+
+    /// The rows of the VLANs of bridges.
+    pub fn vlans(&self) -> &[VlanRow]
+        ensures { result.now ≡ self.now.vlans }
+    {
+        self.vlans.as_slice()
+    }
+
+    /// The ports of radios.
+    pub fn radio(&self) -> &[RadioPort]
+        ensures { result.now ≡ self.now.radio }
+    {
+        self.radio.as_slice()
+    }
+
     /// Radios have these ports in place of their old ones. Where memory lacks, all stays.
     pub fn set_ports(&mut self, alloc: Global, radio: &[RadioPort]) -> Result<(), Memory>
         requires { ArePorts self.old.rows (names_in self.old) radio.now }
