@@ -1,0 +1,4 @@
+pub mod WantLemmas
+pub mod TakeLemmas
+pub mod GraphLemmas
+pub mod AddLemmas

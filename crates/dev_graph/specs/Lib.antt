@@ -1,0 +1,4 @@
+-- The graph of network devices.
+
+-- how a graph is kept
+pub mod Inside

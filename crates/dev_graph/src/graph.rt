@@ -1,0 +1,437 @@
+ghost use Rattle.std.specs.Prelude.{◌≡◌, ◌≤◌, ◌<◌, ◌+◌, ◌*◌, List, [], map, length, Some, None, IfOk, IfErr, OnOk, OnErr};
+ghost use Rattle.std.specs.Option.{option_map};
+ghost use Rattle.kern_model.specs.declared.object.Device.{Device};
+ghost use Rattle.graph_rules.specs.State as state;
+ghost use Rattle.graph_rules.specs.Answers as answers;
+ghost use Rattle.graph_rules.specs.Calls as calls;
+ghost use Rattle.graph_rules.specs.After as after;
+ghost use Rattle.graph_rules.specs.Conditions.{IsId, IsNext, ArePorts, CanLoad, CountsOn};
+ghost use Rattle.graph_rules.specs.Edges.{changed_edges};
+ghost use Rattle.graph_counts.specs.Counted.{name_of};
+ghost use Rattle.graph_objects.specs.Marks.{held_of};
+ghost use Rattle.graph_wishes.specs.Wishes.{mays};
+ghost use Rattle.graph_tables.specs.Lists.{HaveSame};
+ghost use Rattle.graph_tables.specs.Whole.{IsWhole};
+ghost use Rattle.graph_tables.specs.Wished.{wish_in};
+ghost use Rattle.dev_graph.specs.Inside.{known_in};
+
+use crate::adding::{one_plain, with_plain};
+use crate::own::own_take;
+use graph_counts::CountedNames;
+use graph_names::Names;
+use graph_objects::DeviceObjects;
+use graph_rules::{DevId, RadioPort};
+use graph_tables::{judge, table};
+use kern_model::{Call, DevName, Device, Mac, Object};
+use net_rows::Conf;
+use plane_io::Memory;
+use std::alloc::Global;
+use std::marker::Model;
+use std::sync::ledger::Ledger;
+use use_counts::Steps;
+
+/// The graph of network devices: the names of rows with further plain ones, their devices and claims, the ports of radios, and what is
+/// held on devices.
+#[derive(Drop)]
+pub struct Graph {
+    /// None before the first load.
+    names: Option<CountedNames>,
+    objects: DeviceObjects,
+    /// For each id whether its name is used.
+    used: Vec<bool>,
+    loads: u64,
+}
+
+impl Model for Graph {
+    ghost use Rattle.std.specs.Coded.{codes};
+    ghost use Rattle.std.specs.FinSet as set;
+    ghost use Rattle.kern_model.specs.ObjectOrder.{object_cmp};
+    ghost use Rattle.kern_model.specs.contracts.object.Object as object;
+    ghost use Rattle.graph_rules.specs.State.{State};
+
+    ghost Value = { State };
+
+    ghost coded = { Prim.hlevel (codes, set.code {R = object_cmp} object.the_row.coded) };
+
+    ghost use Rattle.dev_graph.specs.Inside.{state_of, IsTied};
+
+    ghost view = { state_of };
+
+    ghost invariant = { IsTied };
+}
+
+/// Why a graph was not loaded: there was not enough memory. The old graph is handed back as it was.
+#[derive(Drop)]
+pub struct NotLoaded {
+    pub old: Option<Graph>,
+}
+
+/// The names after a load, with the devices and claims that they had.
+fn names_after(
+    alloc: Global,
+    conf: &Conf,
+    plain: &[DevName],
+    radio: &[RadioPort],
+    before: &Option<CountedNames>,
+) -> Result<CountedNames, Memory>
+    requires { CanLoad conf.now plain.now radio.now }
+    ensures { IfOk result (λ names. names ≡ after.known_of (known_in before.now).names conf.now
+        plain.now radio.now) }
+{
+    match before {
+        Some(names) => CountedNames::load(alloc, conf, plain, radio, names.names()),
+        None => CountedNames::load(alloc, conf, plain, radio, &Names::new(alloc)),
+    }
+}
+
+/// One more plain name, with the marks of use and with what it may want. Where memory lacks, all stays.
+fn add_to(
+    alloc: Global,
+    names: &mut CountedNames,
+    name: DevName,
+    objects: &mut DeviceObjects,
+    used: &mut Vec<bool>,
+) -> Result<DevId, Memory>
+    requires whole { IsWhole names.old }
+    requires other { state.place_among names.old.names name ≡ None }
+    ensures ok { OnOk result (names.new ≡ record names.old {
+      names = after.with_name names.old.names name;
+    }) }
+    ensures id { IfOk result (λ id. id.0 ≡ length names.old.names) }
+    ensures used { OnOk result (length used.new.items ≡ length names.new.names) }
+    ensures held { OnOk result (held_of objects.new ≡ held_of objects.old) }
+    ensures wishes { OnOk result (HaveSame objects.new.wishes
+        (map (wish_in names.new) (mays names.new))) }
+    ensures err { OnErr result (names.new ≡ names.old) }
+    ensures kept { OnErr result ((objects.new ≡ objects.old) × (used.new.items ≡ used.old.items)) }
+{
+    let more = with_plain(alloc, names.names(), name)?;
+    let mut wishes = table(
+        alloc,
+        &more,
+        names.rows(),
+        names.vlans(),
+        names.radio(),
+        objects,
+    )?;
+    let mut marks = Vec::new(alloc);
+    marks.resize(more.len(), false)?;
+    let id = names.add_plain(alloc, name)?;
+    judge(names, &mut marks, &mut wishes);
+    *objects = wishes;
+    *used = marks;
+    Ok(id)
+}
+
+impl Graph {
+    /// A graph without names, devices, claims and held objects. It takes no memory.
+    pub fn new(alloc: Global) -> Graph
+        ensures { result ≡ state.empty }
+    {
+        Graph {
+            names: None,
+            objects: DeviceObjects::new(alloc),
+            used: Vec::new(alloc),
+            loads: 0,
+        }
+    }
+
+    /// The graph of some names, with what is held from before.
+    fn over(
+        alloc: Global,
+        names: CountedNames,
+        held: &DeviceObjects,
+        loads: u64,
+    ) -> Result<Graph, Memory>
+        requires { IsWhole names }
+        ensures { IfOk result (λ graph. graph ≡ record {
+          known = names;
+          held = held_of held.now;
+          loads = loads;
+        }) }
+    {
+        let mut objects = table(
+            alloc,
+            names.names(),
+            names.rows(),
+            names.vlans(),
+            names.radio(),
+            held,
+        )?;
+        let mut used = Vec::new(alloc);
+        used.resize(names.names().len(), false)?;
+        judge(&names, &mut used, &mut objects);
+        Ok(Graph {
+            names: Some(names),
+            objects,
+            used,
+            loads,
+        })
+    }
+
+    fn load_over(
+        alloc: Global,
+        conf: &Conf,
+        plain: &[DevName],
+        radio: &[RadioPort],
+        before: &Graph,
+    ) -> Result<Graph, Memory>
+        requires can { CanLoad conf.now plain.now radio.now }
+        requires counts { CountsOn (Some before.now) }
+        ensures { IfOk result (λ graph. graph ≡ after.loaded_after (Some before.now) conf.now
+            plain.now radio.now) }
+    {
+        let names = names_after(alloc, conf, plain, radio, &before.names)?;
+        Graph::over(alloc, names, &before.objects, before.loads + 1)
+    }
+
+    /// The graph of a configuration, of further plain names and of the ports of radios. It keeps the old graph's present devices,
+    /// the claims of names that stay, and what is held.
+    ///
+    /// # Errors
+    ///
+    /// `NotLoaded` with the old graph as it was, where there is not enough memory.
+    pub fn load(
+        alloc: Global,
+        conf: &Conf,
+        plain: &[DevName],
+        radio: &[RadioPort],
+        old: Option<Graph>,
+    ) -> Result<Graph, NotLoaded>
+        requires can { CanLoad conf.now plain.now radio.now }
+        requires counts { CountsOn old }
+        ensures ok { IfOk result (λ graph. graph ≡ after.loaded_after old conf.now plain.now
+            radio.now) }
+        ensures err { IfErr result (λ error. error.old ≡ old) }
+    {
+        match old {
+            Some(before) => match Graph::load_over(alloc, conf, plain, radio, &before) {
+                Ok(graph) => Ok(graph),
+                Err(Memory) => Err(NotLoaded { old: Some(before) }),
+            },
+            None => match Graph::load_over(alloc, conf, plain, radio, &Graph::new(alloc)) {
+                Ok(graph) => Ok(graph),
+                Err(Memory) => Err(NotLoaded { old: None }),
+            },
+        }
+    }
+
+    /// How many loads made the graph.
+    pub fn loaded(&self) -> u64
+        ensures { result ≡ self.now.loads }
+    {
+        self.loads
+    }
+
+    /// The id of a name, or none where it is not in the graph.
+    pub fn find(&self, name: &DevName) -> Option<DevId>
+        ensures { option_map (λ id. id.0) result
+            ≡ state.place_among self.now.known.names name.now }
+    {
+        match &self.names {
+            Some(names) => names.find(name),
+            None => None,
+        }
+    }
+
+    /// One more plain name, without a device and without claims. Its id is the next one.
+    ///
+    /// # Errors
+    ///
+    /// `Memory` where there is not enough of it. Then all stays.
+    pub fn add_plain(&mut self, alloc: Global, name: DevName) -> Result<DevId, Memory>
+        requires { state.place_among self.old.known.names name ≡ None }
+        ensures ok { OnOk result (self.new ≡ after.added_after self.old name) }
+        ensures id { IfOk result (λ id. id.0 ≡ length self.old.known.names) }
+        ensures err { OnErr result (self.new ≡ self.old) }
+    {
+        match &mut self.names {
+            Some(names) => add_to(alloc, names, name, &mut self.objects, &mut self.used),
+            None => {
+                let names = one_plain(alloc, name)?;
+                *self = Graph::over(alloc, names, &self.objects, self.loads)?;
+                Ok(DevId(0))
+            }
+        }
+    }
+
+    /// Radios have these ports in place of their old ones.
+    ///
+    /// # Errors
+    ///
+    /// `Memory` where there is not enough of it. Then all stays.
+    pub fn set_ports(&mut self, alloc: Global, radio: &[RadioPort]) -> Result<(), Memory>
+        requires { ArePorts self.old.known.rows (state.names_in self.old.known) radio.now }
+        ensures ok { OnOk result (self.new ≡ after.ports_after self.old radio.now) }
+        ensures err { OnErr result (self.new ≡ self.old) }
+    {
+        let Some(names) = &mut self.names else {
+            return Ok(());
+        };
+        let rows = names.rows();
+        let vlans = names.vlans();
+        let mut objects = table(alloc, names.names(), rows, vlans, radio, &self.objects)?;
+        names.set_ports(alloc, radio)?;
+        judge(names, &mut self.used, &mut objects);
+        self.objects = objects;
+        Ok(())
+    }
+
+    /// A device is there.
+    pub fn set_present<L: Ledger>(
+        &mut self,
+        id: DevId,
+        carrier: bool,
+        mtu: u32,
+        mac: Mac,
+        steps: &mut Steps<L>,
+    )
+        requires { IsId self.old id.0 }
+        ensures state { self.new ≡ after.present_after self.old id.0 (record {
+          carrier = carrier;
+          mtu = mtu;
+          mac = mac;
+        }) }
+        ensures cost { steps.new ≤ steps.old + (1 + 2 * changed_edges self.old.known self.new.known) }
+    {
+        let Some(names) = &mut self.names else {
+            return;
+        };
+        names.set_present(id, Device { carrier, mtu, mac }, steps);
+        judge(names, &mut self.used, &mut self.objects);
+    }
+
+    /// A device is gone, and what is held on it with it.
+    pub fn set_absent<L: Ledger>(&mut self, id: DevId, steps: &mut Steps<L>)
+        requires { IsId self.old id.0 }
+        ensures state { self.new ≡ after.absent_after self.old id.0 }
+        ensures cost { steps.new ≤ steps.old + (1 + 2 * changed_edges self.old.known self.new.known) }
+    {
+        let Some(names) = &mut self.names else {
+            return;
+        };
+        let name = names.names().name(id.0);
+        names.set_absent(id, steps);
+        judge(names, &mut self.used, &mut self.objects);
+        self.objects.leave(&name);
+    }
+
+    /// The carrier of a device is on or off. Of one that is not there nothing is told.
+    pub fn set_carrier<L: Ledger>(&mut self, id: DevId, on: bool, steps: &mut Steps<L>)
+        requires { IsId self.old id.0 }
+        ensures state { self.new ≡ after.carrier_after self.old id.0 on }
+        ensures cost { steps.new ≤ steps.old + (1 + 2 * changed_edges self.old.known self.new.known) }
+    {
+        let Some(names) = &mut self.names else {
+            return;
+        };
+        names.set_carrier(id, on, steps);
+        judge(names, &mut self.used, &mut self.objects);
+    }
+
+    /// A name has this many claims.
+    pub fn set_claim<L: Ledger>(&mut self, id: DevId, claims: u32, steps: &mut Steps<L>)
+        requires within { IsId self.old id.0 }
+        requires few { claims ≤ 1024 }
+        ensures state { self.new ≡ after.claimed_after self.old id.0 claims }
+        ensures cost { steps.new ≤ steps.old + (1 + 2 * changed_edges self.old.known self.new.known) }
+    {
+        let Some(names) = &mut self.names else {
+            return;
+        };
+        names.set_claim(id, claims, steps);
+        judge(names, &mut self.used, &mut self.objects);
+    }
+
+    /// Whether the name of an id is available.
+    pub fn available(&self, id: DevId) -> bool
+        requires { IsId self.now id.0 }
+        ensures { result ≡ answers.available_in self.now.known (name_of self.now.known id.0) }
+    {
+        match &self.names {
+            Some(names) => names.available(id),
+            None => false,
+        }
+    }
+
+    /// Whether the name of an id has link.
+    pub fn link(&self, id: DevId) -> bool
+        requires { IsId self.now id.0 }
+        ensures { result ≡ answers.link_in self.now.known (name_of self.now.known id.0) }
+    {
+        match &self.names {
+            Some(names) => names.link(id),
+            None => false,
+        }
+    }
+
+    /// How many use the name of an id.
+    pub fn users(&self, id: DevId) -> u32
+        requires { IsId self.now id.0 }
+        ensures { result ≡ answers.users_in self.now.known (name_of self.now.known id.0) }
+    {
+        match &self.names {
+            Some(names) => names.users(id),
+            None => 0,
+        }
+    }
+
+    /// Whether an object is wanted; an address or a route never is.
+    pub fn wanted(&self, object: &Object) -> bool
+        ensures { result ≡ calls.is_wanted self.now object.now }
+    {
+        self.objects.wanted(object)
+    }
+
+    /// Whether an object is held; an address or a route never is.
+    pub fn held(&self, object: &Object) -> bool
+        ensures { result ≡ calls.is_held self.now object.now }
+    {
+        self.objects.held(object)
+    }
+
+    /// A call was made: the next take, or where there is none the next put.
+    pub fn did(&mut self, call: &Call)
+        requires { IsNext self.old call.now }
+        ensures { self.new ≡ after.did_after self.old call.now }
+    {
+        match call {
+            Call::Take { object, .. } => self.objects.take(object),
+            Call::Put(object) => self.objects.put(object),
+        }
+    }
+
+    /// The first of the calls that take, or none where nothing is to be taken.
+    pub fn next_take(&self) -> Option<Call>
+        ensures { result ≡ calls.next_take_in self.now }
+    {
+        match self.objects.first_take() {
+            Some(object) => Some(own_take(&self.names, object)),
+            None => None,
+        }
+    }
+
+    /// The first of the calls that put, or none where nothing is to be put.
+    pub fn next_put(&self) -> Option<Call>
+        ensures { result ≡ calls.next_put_in self.now }
+    {
+        match self.objects.first_put() {
+            Some(object) => Some(Call::Put(object)),
+            None => None,
+        }
+    }
+
+    /// Whether the link of a name is taken, or a link on which the name stands.
+    pub fn falls(&self, name: &DevName) -> bool
+        ensures { result ≡ calls.falls_in self.now name.now }
+    {
+        self.objects.falls(name)
+    }
+
+    /// How many objects are in one of what is held and what is wanted, and not in the other.
+    pub fn due(&self) -> u64
+        ensures { result ≡ calls.due_in self.now }
+    {
+        self.objects.due()
+    }
+}
