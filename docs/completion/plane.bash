@@ -40,7 +40,7 @@ _plane() {
 	local word=${COMP_WORDS[COMP_CWORD]}
 	COMPREPLY=()
 	if [ "$COMP_CWORD" -eq 1 ]; then
-		mapfile -t COMPREPLY < <(compgen -W 'start run uci --help --version' -- "$word")
+		mapfile -t COMPREPLY < <(compgen -W 'start run uci gen --help --version' -- "$word")
 		return
 	fi
 	if [ "${COMP_WORDS[1]}" = uci ]; then

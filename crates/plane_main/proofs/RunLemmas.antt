@@ -1,17 +1,17 @@
 -- How a run ends, by its command, and which devices it leaves alone.
 use Rattle.std.proofs.Common.{arith, ℕ, ◌≡◌, inl, inr, List, [], refl, sym, subst, append-nil}
 use Rattle.std.specs.Prelude.{Result, Ok, Err, OnOk, OnErr}
-use Rattle.plane_words.specs.Causes.{Rose}
+use Rattle.plane_words.specs.Causes.{Rose, DidNotRise}
 use Rattle.plane_words.specs.Growth.{Grows, GrowsByFront}
 use Rattle.plane_main.specs.declared.page.Page.{Page}
 use Rattle.plane_main.specs.declared.command.Command.{Command}
-use Rattle.plane_main.specs.declared.command.Command.TheVariants.{Start, Uci, Run, Show}
+use Rattle.plane_main.specs.declared.command.Command.TheVariants.{Start, Uci, Run, Gen, Show}
 use Rattle.plane_main.specs.declared.ending.Ending.{Ending}
 use Rattle.plane_main.specs.declared.ending.Ending.TheVariants as ending
 use Rattle.net_settle.specs.Outside.{Outside}
 use Rattle.plane_main.specs.Outside.{Input, ErrorOutput, Seen, stream_of_input}
 use Rattle.plane_main.specs.Command.{AskFor, IsPageCommand}
-use Rattle.plane_main.specs.Ending.{IsTold, IsOfUci}
+use Rattle.plane_main.specs.Ending.{IsTold, IsOfUci, IsOfRun, IsEarly, IsKernelFailed, OrLacksMemory}
 use Rattle.plane_main.specs.Page.{PageEnds, PageComes}
 use Rattle.plane_main.specs.Uci.{UciEnds, UciComes}
 use Rattle.uci_run.proofs.ComesLemmas.{run_comes as uci_comes, memory_comes as uci_memory_comes}
@@ -27,6 +27,8 @@ use Rattle.plane_main.specs.declared.run_words.RunAsked.{RunAsked}
 use Rattle.plane_main.specs.RunWords.{IsList, HasAcl}
 use Rattle.plane_main.specs.Script.{first_of, run_seen, ScriptEnds, ScriptComes, EndsWith, ComesWith, AskedEnds, ReadsAcl}
 use Rattle.plane_main.specs.Start.{StartComes}
+use Rattle.net_gen.specs.Run.{IsCutShort}
+use Rattle.plane_main.specs.Generated.{GenEnds, GenComes}
 use Rattle.plane_main.specs.Run.{CommandEnds, CommandComes, Ends, of_command, of_no_command, of_unread_words, Comes, Devices, LeavesAlone}
 use Rattle.plane_main.proofs.StartLemmas.{start_comes}
 use Rattle.plane_main.proofs.WordLemmas.{command_one}
@@ -71,10 +73,116 @@ with_comes : (is : Result Acl AclError) (moment : ℕ) (seen : Seen) (end : Endi
 with_comes (Ok acl) moment seen end cause = of_run_comes moment acl seen end cause
 with_comes (Err why) moment seen end cause = cause
 
+-- when a run of `gen` ends so
+module _ (count : ℕ) (before after : Outside) where
+  cut_rose : IsCutShort count before after → Rose before.out_faults after.out_faults
+  cut_rose (IsCutShort.at_step now cut held) = cut.cause
+  cut_rose (IsCutShort.at_end cut) = cut.cause
+
+  gen_written : (end : Ending) → GenEnds count before after end → DidNotRise before.out_faults after.out_faults → end ≡ ending.WriteFailed → ⊥
+  gen_written end cause calm is =
+      let rose = cut_rose (subst (GenEnds count before after) is cause) in
+      absurd (omega (arith, rose, calm))
+
+  gen_none_due : (end : Ending) → GenEnds count before after end → DidNotRise before.kernel_faults after.kernel_faults → IsKernelFailed end → ⊥
+  gen_none_due (ending.KernelFailed left) cause calm due = let rose = cause.cause in absurd (omega (arith, rose, calm))
+  gen_none_due ending.Done cause calm due = due
+  gen_none_due ending.WriteFailed cause calm due = due
+  gen_none_due ending.Usage cause calm due = due
+  gen_none_due ending.ReadFailed cause calm due = due
+  gen_none_due ending.OutOfMemory cause calm due = due
+  gen_none_due (ending.TooLong limit) cause calm due = due
+  gen_none_due (ending.Unreadable fault) cause calm due = due
+  gen_none_due (ending.OfUci status) cause calm due = due
+  gen_none_due (ending.OfRun end) cause calm due = due
+
+  gen_done : (end : Ending) → GenEnds count before after end → DidNotRise before.out_faults after.out_faults
+      → DidNotRise before.kernel_faults after.kernel_faults → OrLacksMemory (end ≡ ending.Done) end
+  gen_done ending.Done cause out kernel = inl refl
+  gen_done ending.OutOfMemory cause out kernel = inr refl
+  gen_done ending.WriteFailed cause out kernel = absurd (gen_written ending.WriteFailed cause out refl)
+  gen_done (ending.KernelFailed left) cause out kernel = absurd (gen_none_due (ending.KernelFailed left) cause kernel tt)
+  gen_done ending.Usage cause out kernel = absurd cause
+  gen_done ending.ReadFailed cause out kernel = absurd cause
+  gen_done (ending.TooLong limit) cause out kernel = absurd cause
+  gen_done (ending.Unreadable fault) cause out kernel = absurd cause
+  gen_done (ending.OfUci status) cause out kernel = absurd cause
+  gen_done (ending.OfRun end) cause out kernel = absurd cause
+
+  gen_comes : (end : Ending) → GenEnds count before after end → GenComes before after end
+  gen_comes end cause = record {
+    written = gen_written end cause;
+    none_due = gen_none_due end cause;
+    done = gen_done end cause;
+  }
+
+gen_memory_comes : (before after : Outside) → GenComes before after ending.OutOfMemory
+gen_memory_comes before after = record {
+  written = λ calm is. absurd (cc is);
+  none_due = λ calm due. due;
+  done = λ out kernel. inr refl;
+}
+
+-- which devices it leaves alone
+pub gen_alone : {S O K D T C : Type 0} (words : List (List ℕ)) (count : ℕ) (before after : Outside) (was is : Devices S O K D T C) (why told : Ending)
+    → AskFor words (Gen count) → GenEnds count before after why → told ≡ why
+    → is.input ≡ was.input → is.files ≡ was.files → is.staged ≡ was.staged → is.clock ≡ was.clock
+    → LeavesAlone words told was is
+gen_alone words count before after was is why told asks cause same input files staged clock = subst (λ e. LeavesAlone words e was is) (sym same) (record {
+  of_uci = λ h. absurd (not_of_uci why cause h);
+  of_run = λ h. absurd (not_of_run why cause h);
+  input = λ none. input;
+  out = λ early. absurd (not_early why cause early);
+  out_unfilled = λ none e. absurd (none (Gen count) asks tt);
+  out_unasked = λ none. absurd (none (Gen count, asks, tt));
+  kernel = λ early. absurd (not_early why cause early);
+  kernel_unasked = λ none. absurd (none (Gen count) asks tt);
+  files = λ none. files;
+  staged = λ none. staged;
+  clock = λ none. clock;
+})
+  where
+    not_of_uci : (e : Ending) → GenEnds count before after e → IsOfUci e → ⊥
+    not_of_uci (ending.OfUci status) cause h = cause
+    not_of_uci ending.Usage cause h = h
+    not_of_uci ending.OutOfMemory cause h = h
+    not_of_uci ending.Done cause h = h
+    not_of_uci ending.WriteFailed cause h = h
+    not_of_uci ending.ReadFailed cause h = h
+    not_of_uci (ending.KernelFailed left) cause h = h
+    not_of_uci (ending.TooLong limit) cause h = h
+    not_of_uci (ending.Unreadable fault) cause h = h
+    not_of_uci (ending.OfRun end) cause h = h
+
+    not_of_run : (e : Ending) → GenEnds count before after e → IsOfRun e → ⊥
+    not_of_run (ending.OfRun end) cause h = cause
+    not_of_run ending.Usage cause h = h
+    not_of_run ending.OutOfMemory cause h = h
+    not_of_run ending.Done cause h = h
+    not_of_run ending.WriteFailed cause h = h
+    not_of_run ending.ReadFailed cause h = h
+    not_of_run (ending.KernelFailed left) cause h = h
+    not_of_run (ending.TooLong limit) cause h = h
+    not_of_run (ending.Unreadable fault) cause h = h
+    not_of_run (ending.OfUci status) cause h = h
+
+    not_early : (e : Ending) → GenEnds count before after e → IsEarly e → ⊥
+    not_early ending.Usage cause h = cause
+    not_early ending.ReadFailed cause h = cause
+    not_early (ending.TooLong limit) cause h = cause
+    not_early (ending.Unreadable fault) cause h = cause
+    not_early ending.Done cause h = h
+    not_early ending.WriteFailed cause h = h
+    not_early ending.OutOfMemory cause h = h
+    not_early (ending.KernelFailed left) cause h = h
+    not_early (ending.OfUci status) cause h = h
+    not_early (ending.OfRun end) cause h = h
+
 command_comes : (command : Command) (seen : Seen) (end : Ending) → CommandEnds command seen end → CommandComes command seen end
 command_comes (Start devices) seen end cause = start_comes devices seen.input seen.before seen.after end cause
 command_comes (Uci words) seen end cause = of_uci_comes words seen end cause
 command_comes (Run asked) seen end cause = inl (with_comes (acl_of asked.acl) asked.moment seen end cause)
+command_comes (Gen count) seen end cause = gen_comes count seen.before seen.after end cause
 command_comes (Show page) seen end cause = page_comes page seen.before seen.after end cause
 
 -- want of memory may come in place of each ending of a `start`
@@ -93,6 +201,7 @@ unread_comes : (words : List (List ℕ)) (seen : Seen) → (IsPageCommand words 
 unread_comes words seen no_page (Start devices) asked = memory_comes devices seen.input seen.before seen.after
 unread_comes words seen no_page (Uci rest) asked = uci_memory_comes _ _ _ _ _ _ _ _ refl
 unread_comes words seen no_page (Run a) asked = inr refl
+unread_comes words seen no_page (Gen count) asked = gen_memory_comes seen.before seen.after
 unread_comes words seen no_page (Show page) asked = absurd (no_page (page, asked))
 
 -- why a run of a script ends so
@@ -142,7 +251,7 @@ module _ {S O K D T C : Type 0} (words : List (List ℕ)) (asked : RunAsked) (as
     of_run = λ h. (asked, asks);
     input = λ none. absurd (none (Run asked) asks has);
     out = λ early. absurd early;
-    out_unfilled = λ e. absurd (cc e);
+    out_unfilled = λ none e. absurd (cc e);
     out_unasked = λ none. absurd (none (Run asked, asks, tt));
     kernel = λ early. absurd early;
     kernel_unasked = λ none. absurd (none (Run asked) asks has);
@@ -157,7 +266,7 @@ module _ {S O K D T C : Type 0} (words : List (List ℕ)) (asked : RunAsked) (as
     of_run = λ h. (asked, asks);
     input = λ h. refl;
     out = λ h. refl;
-    out_unfilled = λ h. refl;
+    out_unfilled = λ none h. refl;
     out_unasked = λ h. refl;
     kernel = λ h. refl;
     kernel_unasked = λ h. refl;

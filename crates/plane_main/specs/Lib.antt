@@ -18,5 +18,7 @@ pub mod Ending
 pub mod Start
 -- how a run of `uci` ends, and when
 pub mod Uci
+-- how a run of `gen` ends, and when
+pub mod Generated
 -- the pages of the program, and how a run ends that prints one
 pub mod Page

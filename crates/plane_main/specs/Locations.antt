@@ -8,7 +8,7 @@ use Rattle.uci_words.specs.declared.command.Command.{Command}
 use Rattle.uci_words.specs.Command.{reads_input}
 use Rattle.uci_words.specs.Words.{asked_of}
 use Rattle.plane_main.specs.declared.command.Command.{Command as Asking}
-use Rattle.plane_main.specs.declared.command.Command.TheVariants.{Start, Uci, Run, Show}
+use Rattle.plane_main.specs.declared.command.Command.TheVariants.{Start, Uci, Run, Gen, Show}
 use Rattle.plane_main.specs.declared.run_words.RunAsked.{RunAsked}
 use Rattle.plane_main.specs.declared.locations.Locations.{Locations}
 use Rattle.plane_main.specs.Command.{AskFor, HasRow}
@@ -45,6 +45,7 @@ abbrev pub places_of : Asking → Locations
 places_of (Start devices) = nowhere
 places_of (Uci words) = unwrap_or (folders words nowhere) nowhere
 places_of (Run asked) = folders_of_run asked nowhere
+places_of (Gen count) = nowhere
 places_of (Show page) = nowhere
 
 -- the places of the command that the words ask for

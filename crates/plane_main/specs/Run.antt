@@ -2,15 +2,16 @@
 -- `CommandComes`, and in `Command` a case to the words that ask for it and to what it reads and calls.
 use Rattle.std.specs.Prelude.{ℕ, ◌≡◌, List}
 use Rattle.plane_main.specs.declared.command.Command.{Command}
-use Rattle.plane_main.specs.declared.command.Command.TheVariants.{Start, Uci, Run, Show}
+use Rattle.plane_main.specs.declared.command.Command.TheVariants.{Start, Uci, Run, Gen, Show}
 use Rattle.plane_main.specs.declared.ending.Ending.{Ending}
 use Rattle.plane_main.specs.declared.ending.Ending.TheVariants as ending
 use Rattle.plane_main.specs.Outside.{Seen}
-use Rattle.plane_main.specs.Command.{AskFor, IsCommand, IsForUci, IsInTable, IsPageCommand, IsRunCommand, AskForNone, ReadsInput, CallsKernel, OpensFolders, AsksClock}
+use Rattle.plane_main.specs.Command.{AskFor, IsCommand, IsForUci, IsInTable, IsPageCommand, IsRunCommand, AskForNone, ReadsInput, CallsKernel, OpensFolders, AsksClock, WritesFirst}
 use Rattle.plane_main.specs.Ending.{status_of, text_of, IsTold, IsOfUci, IsOfRun, IsEarly, OrLacksMemory}
 use Rattle.plane_main.specs.Start.{StartEnds, StartComes}
 use Rattle.plane_main.specs.Uci.{UciEnds, UciComes}
 use Rattle.plane_main.specs.Script.{AskedEnds, AskedComes}
+use Rattle.plane_main.specs.Generated.{GenEnds, GenComes}
 use Rattle.plane_main.specs.Page.{PageEnds, PageComes}
 
 -- why a run of a command ends so, and what it leaves
@@ -18,6 +19,7 @@ abbrev pub CommandEnds : Command → Seen → Ending → Type 0
 CommandEnds (Start devices) seen end = StartEnds devices seen.input seen.before seen.after end
 CommandEnds (Uci words) seen end = UciEnds words seen end
 CommandEnds (Run asked) seen end = AskedEnds asked seen end
+CommandEnds (Gen count) seen end = GenEnds count seen.before seen.after end
 CommandEnds (Show page) seen end = PageEnds page seen.before seen.after end
 
 -- when a run of a command ends so
@@ -26,6 +28,7 @@ CommandComes (Start devices) seen end =
     StartComes devices seen.input seen.before seen.after end
 CommandComes (Uci words) seen end = UciComes words seen end
 CommandComes (Run asked) seen end = OrLacksMemory (AskedComes asked seen end) end
+CommandComes (Gen count) seen end = GenComes seen.before seen.after end
 CommandComes (Show page) seen end = PageComes seen.before seen.after end
 
 -- why a run ends so, and what it leaves, where `rests` says that the input, the disks and the clock are the values that they were
@@ -67,7 +70,7 @@ pub record LeavesAlone {S O K D T C : Type 0} (words : List (List ℕ)) (end : E
   pub of_run : IsOfRun end → IsRunCommand words
   pub input : AskForNone ReadsInput words → after.input ≡ before.input
   pub out : IsEarly end → after.out ≡ before.out
-  pub out_unfilled : end ≡ ending.OutOfMemory → after.out ≡ before.out
+  pub out_unfilled : AskForNone WritesFirst words → end ≡ ending.OutOfMemory → after.out ≡ before.out
   pub out_unasked : (IsInTable words → ⊥) → after.out ≡ before.out
   pub kernel : IsEarly end → after.kernel ≡ before.kernel
   pub kernel_unasked : AskForNone CallsKernel words → after.kernel ≡ before.kernel

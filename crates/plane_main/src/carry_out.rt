@@ -10,6 +10,7 @@ ghost use Rattle.plane_main.specs.Run.{Ends, LeavesAlone};
 
 use crate::command::{Command, read_command};
 use crate::ending::Ending;
+use crate::generated::play;
 use crate::page::show;
 use crate::report::report;
 use crate::script::read_acl;
@@ -110,6 +111,7 @@ pub fn carry_out<S: Source, O: Sink, E: Sink, D: Disk, T: Disk, K: Kernel, C: Cl
             );
             report(Ending::OfRun { end }, err)
         }
+        Command::Gen { count } => report(play(alloc, count, out, kernel), err),
         Command::Show(page) => report(show(page, out), err),
     }
 }

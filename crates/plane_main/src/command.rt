@@ -1,15 +1,19 @@
 ghost use Rattle.std.specs.Prelude.{◌≡◌, ◌∷◌, ℕ, List, map, codes, string_bytes, IfOk, OnErr, IfSome, IfNone};
-ghost use Rattle.plane_main.specs.Command.{AskFor, IsCommand, IsStart, IsPageCommand};
+ghost use Rattle.plane_main.specs.Command.{AskFor, IsCommand, IsStart, IsGen, IsPageCommand};
 
 use crate::page::Page;
 use crate::run_words::{RunAsked, read_run};
 use kern_model::{DevName, read_plain_name};
 use plane_io::{Items, Memory, Text};
+use script_lines::read_long_decimal;
 use std::alloc::Global;
 use std::collections::BTreeSet;
 
 /// How many devices `start` takes at most.
 pub const MOST_DEVICES: usize = 4096;
+
+/// How many bridges `gen` makes at most.
+pub const MOST_BRIDGES: u64 = 1000;
 
 /// What the program is asked for.
 #[derive(Debug, Drop)]
@@ -20,6 +24,8 @@ pub enum Command {
     Uci { words: Items<Text> },
     /// Carries a script out over a folder.
     Run { asked: RunAsked },
+    /// Plays a network of so many bridges through.
+    Gen { count: u32 },
     /// Prints a page about the program.
     Show(Page),
 }
@@ -42,6 +48,9 @@ pub fn read_command(alloc: Global, words: &[String]) -> Result<Option<Command>, 
     }
     if let Some(asked) = read_run(alloc, words)? {
         return Ok(Some(Command::Run { asked }));
+    }
+    if let Some(count) = bridges(words) {
+        return Ok(Some(Command::Gen { count }));
     }
     let Some(names) = start_devices(alloc, words)? else {
         return Ok(None);
@@ -69,6 +78,26 @@ fn uci_words(alloc: Global, words: &[String]) -> Result<Option<Vec<Text>>, Memor
         texts.push(Text::from_bytes(alloc, word.as_bytes())?)?;
     }
     Ok(Some(texts))
+}
+
+// The number of bridges of a `gen`.
+fn bridges(words: &[String]) -> Option<u32>
+    ensures found { IfSome result (λ count. IsGen (map string_bytes words.now) count) }
+    ensures none { IfNone result ((count : ℕ) → IsGen (map string_bytes words.now) count → ⊥) }
+{
+    let [command, digits] = words else {
+        return None;
+    };
+    if command.as_bytes() != b"gen".as_slice() {
+        return None;
+    }
+    let Some(count) = read_long_decimal(digits.as_bytes()) else {
+        return None;
+    };
+    if count == 0 || count > MOST_BRIDGES {
+        return None;
+    }
+    Some(count as u32)
 }
 
 // The devices of a `start`.

@@ -4,7 +4,7 @@ ghost use Rattle.uci_tree.specs.declared.package.Package.{Package};
 ghost use Rattle.plane_main.specs.declared.command.Command.{Command};
 ghost use Rattle.plane_io.specs.declared.input.TheConstants.{INPUT_LIMIT};
 ghost use Rattle.kern_model.specs.declared.vlan_name.TheConstants.{LEAST_VLAN_ID, MOST_VLAN_ID};
-ghost use Rattle.plane_main.specs.declared.command.TheConstants.{MOST_DEVICES};
+ghost use Rattle.plane_main.specs.declared.command.TheConstants.{MOST_DEVICES, MOST_BRIDGES};
 ghost use Rattle.net_start.specs.declared.devices.TheConstants.{ETHERNET_MTU};
 ghost use Rattle.plane_run.specs.declared.script.TheConstants.{SCRIPT_LIMIT};
 ghost use Rattle.script_lines.specs.declared.arguments.TheConstants.{USUAL_MTU};
@@ -26,6 +26,7 @@ pub fn one_command()
 /// The numbers that the definitions cite by name.
 pub fn named_numbers()
     ensures devices { MOST_DEVICES ≡ 4096 }
+    ensures bridges { MOST_BRIDGES ≡ 1000 }
     ensures input { INPUT_LIMIT ≡ 1048576 }
     ensures mtu { ETHERNET_MTU ≡ 1500 }
     ensures vlans { (LEAST_VLAN_ID ≡ 1) × (MOST_VLAN_ID ≡ 4094) }

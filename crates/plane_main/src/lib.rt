@@ -4,6 +4,7 @@
 mod carry_out;
 mod command;
 mod ending;
+mod generated;
 mod laws;
 mod locations;
 mod page;

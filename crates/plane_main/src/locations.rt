@@ -11,7 +11,7 @@ use std::alloc::Global;
 use uci_words::{Asked, Options, read_words};
 
 /// Where the real devices of a command are. `start` reads the standard input and has no places, and
-/// the pages about the program have none, nor has a run whose access list does not read.
+/// `gen` and the pages about the program have none, nor has a run whose access list does not read.
 #[derive(Debug, Drop)]
 pub struct Locations {
     /// The folder of the packages, empty where the command has none.
@@ -45,7 +45,7 @@ pub fn places(alloc: Global, words: &[String]) -> Result<Option<Locations>, Memo
     match command {
         Command::Uci { words } => folders(alloc, words.as_slice(), nowhere),
         Command::Run { asked } => Ok(Some(folders_of(alloc, asked, nowhere)?)),
-        Command::Start { .. } | Command::Show(_) => Ok(Some(nowhere)),
+        Command::Start { .. } | Command::Gen { .. } | Command::Show(_) => Ok(Some(nowhere)),
     }
 }
 

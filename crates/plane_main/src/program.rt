@@ -23,9 +23,11 @@ use std::alloc::Global;
 /// carries OpenWrt's `uci` out over the packages of `files`, with the command line's changes in `staged`, at the moment of `clock`.
 /// `run -c DIR` carries the script of the input out over the packages of `files`, on a kernel that begins without devices. Its sessions
 /// are made with the words of `random`.
+/// `gen N` plays a network of N bridges through: their device comes, goes and comes, and the interfaces become fewer.
 /// `--help` and `--version` print a page about the program. The words are without the name of the program. A device that the kernel
 /// does not take is absent. Status 8 is want of memory: then a `start` put no object and wrote nothing to the output, but may have added
-/// devices; of a `uci` that takes several steps the first ones may be done, and of a `run` the lines before the one that it came in.
+/// devices; of a `uci` that takes several steps the first ones may be done, of a `run` the lines before the one that it came in, and of a
+/// `gen` the steps before, and that one in part.
 pub fn plane<S: Source, O: Sink, E: Sink, D: Disk, T: Disk, K: Kernel, H: Hub, C: Clock, R: Random>(
     alloc: Global,
     words: &[String],

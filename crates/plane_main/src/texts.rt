@@ -10,6 +10,7 @@ plane run -c DIR    carries a script of the standard input out over the configur
                     kernel calls that it brings
 plane uci WORDS     carries OpenWrt's `uci` out over a folder of configuration: show, get, set, add, add_list, del_list,
                     delete, rename, reorder, changes, revert, commit, export, import and batch
+plane gen N         plays a network of N bridges through, and prints how many kernel calls each step of that makes
 plane --help        prints this page
 plane --version     prints the version
 
@@ -54,6 +55,10 @@ call SID OBJECT METHOD JSON         a method of a local object of the message bu
 client K open USER GROUP            a client of that bus comes; client K bytes HEX, it sends these; client K close, it leaves
 
 Each line is answered by what is sent to clients, its calls, its asks, what it shows or replies, and ok or error N TEXT.
+
+gen takes a number from 1 to 1000. Its network has the bridges b1 to bN, with the VLANs eth0.1 to eth0.N as their ports and
+a static interface on each. The device eth0 comes, goes and comes again, and then the interfaces whose number is a multiple
+of 3 are left out: a line each, add, del, add and reload, with the number of calls, and one with the number of objects.
 
 uci takes the options of OpenWrt's: -c DIR, the folder of packages, is /etc/config where it is not given, and -t DIR, that
 of staged changes, /tmp/.uci; -q is quiet, -n and -N tell whether export names anonymous sections, -X shows them by

@@ -1,7 +1,6 @@
-use crate::texts::LAN;
 use plane_io::MemSink;
 use plane_main::lack_memory;
-use plane_session::{Failing, Session, run};
+use plane_session::{Failing, LAN, Session, run};
 use std::alloc::Global;
 use std::test::Fail;
 

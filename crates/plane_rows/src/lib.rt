@@ -4,14 +4,10 @@
 #[cfg(test)]
 mod faults;
 #[cfg(test)]
+mod generated;
+#[cfg(test)]
 mod pages;
 #[cfg(test)]
-mod run;
-#[cfg(test)]
-mod run_rows;
-#[cfg(test)]
 mod start;
-#[cfg(test)]
-mod texts;
 #[cfg(test)]
 mod uci;

@@ -1,5 +1,4 @@
-use crate::texts::LAN;
-use plane_session::{Failing, run};
+use plane_session::{Failing, LAN, run};
 use std::test::Fail;
 
 const HELP: &str = "plane: the configuration plane of an OpenWrt router as verified software\n";

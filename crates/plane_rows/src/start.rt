@@ -1,5 +1,4 @@
-use crate::texts::{LAN, ROUTER};
-use plane_session::{Failing, run};
+use plane_session::{Failing, LAN, ROUTER, run};
 use std::test::Fail;
 
 const TWO: &str =

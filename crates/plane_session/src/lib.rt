@@ -3,6 +3,8 @@
 
 mod folder;
 mod session;
+mod texts;
 
 pub use folder::Folder;
 pub use session::{Failing, Session, run, run_over};
+pub use texts::{LAN, ROUTER};

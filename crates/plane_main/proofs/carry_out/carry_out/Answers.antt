@@ -1,17 +1,18 @@
 use Rattle.std.proofs.Common.{ℕ, inl, List, map, string_bytes, refl, ap, sym, subst, ◌∙◌}
 use Rattle.std.specs.Prelude.{Err}
-use Rattle.plane_main.specs.declared.command.Command.TheVariants.{Start, Uci, Run, Show}
+use Rattle.plane_main.specs.declared.command.Command.TheVariants.{Start, Uci, Run, Gen, Show}
 use Rattle.net_settle.specs.Outside.{outside_of}
 use Rattle.uci_run.specs.Run.{RunEnds}
 use Rattle.uci_tool.specs.Ends.{streams_of}
 use Rattle.plane_main.specs.Outside.{Seen, input_of, errors_of}
 use Rattle.plane_main.specs.Command.{AskFor}
 use Rattle.plane_main.specs.Start.{StartEnds}
+use Rattle.plane_main.specs.Generated.{GenEnds}
 use Rattle.plane_main.specs.Page.{PageEnds}
 use Rattle.plane_main.specs.Run.{of_command}
 use Rattle.bus_access.specs.Form.{acl_of}
 use Rattle.plane_main.specs.Script.{ReadsAcl}
-use Rattle.plane_main.proofs.RunLemmas.{script_ends, has_acl, run_alone, no_acl_ends, no_acl_alone}
+use Rattle.plane_main.proofs.RunLemmas.{script_ends, has_acl, run_alone, no_acl_ends, no_acl_alone, gen_alone}
 use Rattle.plane_main.proofs.carry_out.carry_out.Goals as goal
 
 pub returns-in-Start-clause-cause : goal.returns-in-Start-clause-cause
@@ -91,6 +92,23 @@ returns-in-Err-read_acl-clause-alone g c =
     (subst (λ text. ReadsAcl (acl_of text) (Err why)) c.as_bytes.ensures c.in-Err-read_acl.ensures)
     c.report-in-Err-read_acl.ensures.same
 
+pub returns-in-Gen-clause-cause : goal.returns-in-Gen-clause-cause
+returns-in-Gen-clause-cause g c =
+    let words : List (List ℕ) = map string_bytes c.args.words.now in
+    let asked : AskFor words c.in-Ok-Some.command = rw c.in-Ok-Some.field-0-is at c.in-Ok-Some.ensures.found in
+    let before = outside_of g.O.Sink g.K.Kernel c.args.out.now c.args.kernel.now in
+    let after = outside_of g.O.Sink g.K.Kernel c.play.new.out c.play.new.kernel in
+    of_command (Gen c.in-Gen.count) (subst (AskFor words) c.in-Gen.is asked) (subst (GenEnds c.in-Gen.count before after) (sym c.report-in-Gen.ensures.same) c.play.ensures.cause)
+
+pub returns-in-Gen-clause-alone : goal.returns-in-Gen-clause-alone
+returns-in-Gen-clause-alone g c =
+    let words : List (List ℕ) = map string_bytes c.args.words.now in
+    let asked : AskFor words c.in-Ok-Some.command = rw c.in-Ok-Some.field-0-is at c.in-Ok-Some.ensures.found in
+    let before = outside_of g.O.Sink g.K.Kernel c.args.out.now c.args.kernel.now in
+    let after = outside_of g.O.Sink g.K.Kernel c.play.new.out c.play.new.kernel in
+    gen_alone words c.in-Gen.count before after _ _ c.play.result c.report-in-Gen.result (subst (AskFor words) c.in-Gen.is asked)
+    c.play.ensures.cause c.report-in-Gen.ensures.same refl refl refl refl
+
 pub returns-in-Show-clause-cause : goal.returns-in-Show-clause-cause
 returns-in-Show-clause-cause g c =
     let words : List (List ℕ) = map string_bytes c.args.words.now in
@@ -104,6 +122,9 @@ returns-in-Start-clause-uncalled g c = inl refl
 
 pub returns-in-Uci-clause-uncalled : goal.returns-in-Uci-clause-uncalled
 returns-in-Uci-clause-uncalled g c = inl refl
+
+pub returns-in-Gen-clause-uncalled : goal.returns-in-Gen-clause-uncalled
+returns-in-Gen-clause-uncalled g c = inl refl
 
 pub returns-in-Err-read_acl-clause-uncalled : goal.returns-in-Err-read_acl-clause-uncalled
 returns-in-Err-read_acl-clause-uncalled g c = inl refl

@@ -1,5 +1,5 @@
 //! What `plane run` prints, tells and ends with, as a table.
-use crate::texts::ROUTER;
+use plane_session::ROUTER;
 
 /// One run of a script.
 pub struct Row {
