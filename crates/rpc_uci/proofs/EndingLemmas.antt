@@ -14,7 +14,7 @@ use Rattle.uci_store.specs.declared.store_error.StoreError.TheVariants.{Snap, No
 use Rattle.uci_store.specs.Store.{files_of, has_failed}
 use Rattle.uci_store.specs.Refusals.{RevertRefuses}
 use Rattle.uci_store.specs.Staging.{IsWhole}
-use Rattle.uci_store.specs.Stops.{IsLeft}
+use Rattle.uci_store.specs.Stops.{IsLeft, UnlessFailed as StoreUnlessFailed}
 use Rattle.uci_store.specs.Committing.{CommitsTo, CommitStops, CommitRefuses, OfStaged, DiskRose}
 use Rattle.uci_store.specs.Applying.{AppliesTo, ApplyStops, ApplyRefuses}
 use Rattle.uci_store.specs.Waiting.{WaitsFor, EndStops, EndRefuses}
@@ -25,7 +25,7 @@ use Rattle.rpc_uci.specs.declared.reply.Reply.{Reply}
 use Rattle.rpc_uci.specs.Call.{waiting_in}
 use Rattle.rpc_uci.specs.Done.{Rests, WithConfig, WithDeadline, LeavesEither, RevertDone, CommitDone, ApplyDone, EndDone}
 use Rattle.rpc_uci.specs.Staging.{HasCause}
-use Rattle.rpc_uci.specs.Ending.{IsOwn, HasDiskCause}
+use Rattle.rpc_uci.specs.Ending.{IsOwn, HasDiskCause, UnlessFailed}
 use Rattle.rpc_uci.specs.Refused.{store_told}
 
 ready_not_failed : (failed : Bool) → failed ≡ false → failed ≡ true → ⊥
@@ -48,6 +48,10 @@ either_left {U} old new To error left = record { staged = left.staged; files = b
 not_waiting : (waits : Option Waits) (deadline : ℕ) → option_map (λ (p : Pending). p.holder) (pending_of waits) ≡ None → WaitsUntil deadline waits → ⊥
 not_waiting None deadline none h = h
 not_waiting (Some waits) deadline none h = let e : ◌≡◌ {A = Option ℕ} (Some waits.pending.holder) None = none in cc
+
+-- what holds behind a refusal of the store holds behind the refusal that is told
+pub told_unless_failed : {P : Type 0} (error : StoreError) (told : RpcError) → told ≡ store_told error → StoreUnlessFailed P error → UnlessFailed P told
+told_unless_failed {P} error told e h other = h (λ (s : error ≡ Snap DiskFailed). other (e ∙ ap store_told s))
 
 -- ---- `revert`
 

@@ -1,5 +1,5 @@
 //! Staged changes that are dropped or written, and an apply that waits.
-ghost use Rattle.std.specs.Prelude.{◌≡◌, None, false, []};
+ghost use Rattle.std.specs.Prelude.{◌≡◌, ◌≢◌, None, false, [], IfErr};
 ghost use Rattle.snap_disk.specs.Images.{SameDisk};
 ghost use Rattle.uci_staged.specs.Kept.{Follows};
 ghost use Rattle.uci_store.specs.Store.{names_of, snap_of, staged_in, has_failed, IsOnFiles, IsOnStaged};
@@ -11,7 +11,7 @@ ghost use Rattle.rpc_rules.specs.Arguments.{config_in as config_of, apply_deadli
 ghost use Rattle.rpc_uci.specs.Call.{waiting_in};
 ghost use Rattle.rpc_uci.specs.Done as spec;
 ghost use Rattle.rpc_uci.specs.Staging.{HasCause};
-ghost use Rattle.rpc_uci.specs.Ending.{IsOwn, HasDiskCause};
+ghost use Rattle.rpc_uci.specs.Ending.{IsOwn, HasDiskCause, UnlessFailed};
 
 use crate::refused::{BAD_ARGUMENT, refused};
 use crate::reply::Reply;
@@ -24,7 +24,7 @@ use uci_store::Store;
 use uci_tree::Path;
 
 /// Drops what the holder has staged of the package that is named.
-#[tactic(auto, using(crate::proofs::EndingLemmas::revert_refused, crate::proofs::EndingLemmas::with_config, crate::proofs::EndingLemmas::without_config))]
+#[tactic(auto, using(crate::proofs::EndingLemmas::revert_refused, crate::proofs::EndingLemmas::told_unless_failed, crate::proofs::EndingLemmas::with_config, crate::proofs::EndingLemmas::without_config))]
 pub(crate) fn revert<T: Disk>(
     alloc: Global,
     store: &mut Store,
@@ -35,11 +35,13 @@ pub(crate) fn revert<T: Disk>(
     requires on { IsOnStaged store.old (T.view staged.old) }
     requires ready { has_failed store.old ≡ false }
     ensures follows { Follows (T.view staged.old) (T.view staged.new) }
+    ensures aside { holder ≢ 0 → staged.new ≡ staged.old }
     ensures on { IsOnStaged store.new (T.view staged.new) }
     ensures names { names_of store.new ≡ names_of store.old }
     ensures snap { snap_of store.new ≡ snap_of store.old }
     ensures done { spec.WithConfig (config_of args.now) store.old store.new result
         (spec.RevertDone holder store.old store.new result) }
+    ensures untouched { IfErr result (UnlessFailed (staged.new ≡ staged.old)) }
     ensures cause { HasCause result (has_failed store.new) (T.view staged.old) (T.view staged.new) }
 {
     let Some(name) = config_in(args) else {
@@ -57,7 +59,7 @@ pub(crate) fn revert<T: Disk>(
 }
 
 /// Writes the package that is named as the holder sees it.
-#[tactic(auto, using(crate::proofs::EndingLemmas::commit_refused, crate::proofs::EndingLemmas::with_config, crate::proofs::EndingLemmas::without_config))]
+#[tactic(auto, using(crate::proofs::EndingLemmas::commit_refused, crate::proofs::EndingLemmas::told_unless_failed, crate::proofs::EndingLemmas::with_config, crate::proofs::EndingLemmas::without_config))]
 pub(crate) fn commit<D: Disk, T: Disk>(
     alloc: Global,
     store: &mut Store,
@@ -72,6 +74,7 @@ pub(crate) fn commit<D: Disk, T: Disk>(
     requires free { waiting_in store.old ≡ None }
     ensures same { SameDisk (D.view files.old) (D.view files.new) }
     ensures follows { Follows (T.view staged.old) (T.view staged.new) }
+    ensures aside { holder ≢ 0 → staged.new ≡ staged.old }
     ensures files { IsOnFiles store.new (D.view files.new) }
     ensures staged { IsOnStaged store.new (T.view staged.new) }
     ensures names { names_of store.new ≡ names_of store.old }
@@ -79,6 +82,8 @@ pub(crate) fn commit<D: Disk, T: Disk>(
         (spec.ConfigLeads (config_of args.now) (CommitsTo store.old holder)) }
     ensures done { spec.WithConfig (config_of args.now) store.old store.new result
         (spec.CommitDone holder store.old store.new result) }
+    ensures untouched { IfErr result
+        (UnlessFailed ((files.new ≡ files.old) × (staged.new ≡ staged.old))) }
     ensures cause { HasDiskCause result (has_failed store.new) (D.view files.old) (D.view files.new)
         (T.view staged.old) (T.view staged.new) }
 {
@@ -92,7 +97,7 @@ pub(crate) fn commit<D: Disk, T: Disk>(
 }
 
 /// Writes all that the holder has staged, and lets it wait where the arguments say so.
-#[tactic(auto, using(crate::proofs::EndingLemmas::apply_refused, crate::proofs::EndingLemmas::with_deadline, crate::proofs::EndingLemmas::without_deadline, crate::proofs::EndingLemmas::no_disk_failed))]
+#[tactic(auto, using(crate::proofs::EndingLemmas::apply_refused, crate::proofs::EndingLemmas::told_unless_failed, crate::proofs::EndingLemmas::with_deadline, crate::proofs::EndingLemmas::without_deadline, crate::proofs::EndingLemmas::no_disk_failed))]
 pub(crate) fn apply<D: Disk, T: Disk>(
     alloc: Global,
     store: &mut Store,
@@ -108,6 +113,7 @@ pub(crate) fn apply<D: Disk, T: Disk>(
     requires free { waiting_in store.old ≡ None }
     ensures same { SameDisk (D.view files.old) (D.view files.new) }
     ensures follows { Follows (T.view staged.old) (T.view staged.new) }
+    ensures aside { holder ≢ 0 → staged.new ≡ staged.old }
     ensures files { IsOnFiles store.new (D.view files.new) }
     ensures staged { IsOnStaged store.new (T.view staged.new) }
     ensures names { names_of store.new ≡ names_of store.old }
@@ -115,6 +121,8 @@ pub(crate) fn apply<D: Disk, T: Disk>(
         (spec.DeadlineLeads (deadline_in args.now now) (AppliesTo store.old holder)) }
     ensures done { spec.WithDeadline (deadline_in args.now now) store.old store.new result
         (spec.ApplyDone holder store.old store.new result) }
+    ensures untouched { IfErr result
+        (UnlessFailed ((files.new ≡ files.old) × (staged.new ≡ staged.old))) }
     ensures cause { HasDiskCause result (has_failed store.new) (D.view files.old) (D.view files.new)
         (T.view staged.old) (T.view staged.new) }
 {
@@ -129,6 +137,7 @@ pub(crate) fn apply<D: Disk, T: Disk>(
 }
 
 /// Lets what waits for the holder stay.
+#[tactic(auto, using(crate::proofs::EndingLemmas::told_unless_failed))]
 pub(crate) fn confirm<D: Disk>(
     alloc: Global,
     store: &mut Store,
@@ -146,6 +155,7 @@ pub(crate) fn confirm<D: Disk>(
         (ConfirmsTo store.old holder) }
     ensures done { spec.EndDone (spec.quiet []) (ConfirmsTo store.old holder)
         store.old store.new result }
+    ensures untouched { IfErr result (UnlessFailed (files.new ≡ files.old)) }
     ensures cause { HasCause result (has_failed store.new) (D.view files.old) (D.view files.new) }
 {
     match store.confirm(files, holder) {
@@ -155,6 +165,7 @@ pub(crate) fn confirm<D: Disk>(
 }
 
 /// Undoes what waits for the holder.
+#[tactic(auto, using(crate::proofs::EndingLemmas::told_unless_failed))]
 pub(crate) fn rollback<D: Disk>(
     alloc: Global,
     store: &mut Store,
@@ -172,6 +183,7 @@ pub(crate) fn rollback<D: Disk>(
         (RollsBackTo store.old holder) }
     ensures done { spec.EndDone spec.reloading (RollsBackTo store.old holder)
         store.old store.new result }
+    ensures untouched { IfErr result (UnlessFailed (files.new ≡ files.old)) }
     ensures cause { HasCause result (has_failed store.new) (D.view files.old) (D.view files.new) }
 {
     match store.rollback(files, holder) {

@@ -1,16 +1,16 @@
-ghost use Rattle.std.specs.Prelude.{◌≡◌, ◌≢◌, Some, None, Err, false, IfOk};
+ghost use Rattle.std.specs.Prelude.{◌≡◌, ◌≢◌, Some, None, Err, false, IfOk, IfErr};
 ghost use Rattle.snap_disk.specs.Images.{SameDisk};
 ghost use Rattle.uci_staged.specs.Kept.{Follows};
 ghost use Rattle.uci_store.specs.Store.{names_of, has_failed, IsStore, IsOnFiles, IsOnStaged};
 ghost use Rattle.uci_store.specs.Stops.{StopLeaves};
 ghost use Rattle.rpc_session.specs.declared.grant.Grant.{Grant as GrantOf};
 ghost use Rattle.rpc_rules.specs.Method.{method_of};
-ghost use Rattle.rpc_rules.specs.Arguments.{caller_in};
+ghost use Rattle.rpc_rules.specs.Arguments.{caller_in, holder_of};
 ghost use Rattle.rpc_rules.specs.Grants.{is_admitted};
 ghost use Rattle.rpc_uci.specs.Sight.{staged_names as names_staged};
 ghost use Rattle.rpc_uci.specs.Call.{call_by, missing as missing_of, renewed, waiting_in as waiting_of};
 ghost use Rattle.rpc_uci.specs.Done as spec;
-ghost use Rattle.rpc_uci.specs.Ending.{HasDiskCause};
+ghost use Rattle.rpc_uci.specs.Ending.{HasDiskCause, UnlessFailed, LeavesAlone, CallLeavesAlone};
 
 use crate::asking::ask;
 use crate::ending::{apply, commit, confirm, revert, rollback};
@@ -58,6 +58,7 @@ pub fn serve<D: Disk, T: Disk>(
     ensures number { sessions.new.next ≡ sessions.old.next }
     ensures same { SameDisk (D.view files.old) (D.view files.new) }
     ensures follows { Follows (T.view staged.old) (T.view staged.new) }
+    ensures aside { holder_of (caller_in args.now) ≢ 0 → staged.new ≡ staged.old }
     ensures files { IsOnFiles store.new (D.view files.new) }
     ensures staged { IsOnStaged store.new (T.view staged.new) }
     ensures names { names_of store.new ≡ names_of store.old }
@@ -70,6 +71,10 @@ pub fn serve<D: Disk, T: Disk>(
         spec.denied sessions.old method.now args.now now store.old ≡ Some grant →
         result ≡ Err (RpcError.Denied grant) }
     ensures reload { IfOk result (λ reply. reply.reload ≡ spec.reloads (method_of method.now)) }
+    ensures alone { CallLeavesAlone (method_of method.now)
+        (files.new ≡ files.old) (staged.new ≡ staged.old) }
+    ensures untouched { IfErr result
+        (UnlessFailed ((files.new ≡ files.old) × (staged.new ≡ staged.old))) }
     ensures cause { HasDiskCause result (has_failed store.new) (D.view files.old) (D.view files.new)
         (T.view staged.old) (T.view staged.new) }
 {
@@ -94,12 +99,17 @@ fn answer<D: Disk, T: Disk>(
     ensures number { sessions.new.next ≡ sessions.old.next }
     ensures same { SameDisk (D.view files.old) (D.view files.new) }
     ensures follows { Follows (T.view staged.old) (T.view staged.new) }
+    ensures aside { holder_of (caller_in args.now) ≢ 0 → staged.new ≡ staged.old }
     ensures files { IsOnFiles store.new (D.view files.new) }
     ensures staged { IsOnStaged store.new (T.view staged.new) }
     ensures names { names_of store.new ≡ names_of store.old }
     ensures images { StopLeaves store.old (D.view files.old) (D.view files.new)
         (spec.Leads sessions.old method.now args.now now store.old) }
     ensures done { spec.Answers sessions.old method.now args.now now store.old store.new result }
+    ensures alone { CallLeavesAlone (method_of method.now)
+        (files.new ≡ files.old) (staged.new ≡ staged.old) }
+    ensures untouched { IfErr result
+        (UnlessFailed ((files.new ≡ files.old) × (staged.new ≡ staged.old))) }
     ensures cause { HasDiskCause result (has_failed store.new) (D.view files.old) (D.view files.new)
         (T.view staged.old) (T.view staged.new) }
 {
@@ -204,6 +214,7 @@ fn carry_out<D: Disk, T: Disk>(
     requires granted { missing_of method (call_by sessions.now caller args.now now) store.old ≡ None }
     ensures same { SameDisk (D.view files.old) (D.view files.new) }
     ensures follows { Follows (T.view staged.old) (T.view staged.new) }
+    ensures aside { holder_of caller ≢ 0 → staged.new ≡ staged.old }
     ensures files { IsOnFiles store.new (D.view files.new) }
     ensures staged { IsOnStaged store.new (T.view staged.new) }
     ensures names { names_of store.new ≡ names_of store.old }
@@ -211,6 +222,10 @@ fn carry_out<D: Disk, T: Disk>(
         (spec.MethodLeads method (call_by sessions.now caller args.now now) store.old) }
     ensures done { spec.MethodDone method (call_by sessions.now caller args.now now)
         store.old store.new result }
+    ensures alone { LeavesAlone method
+        (files.new ≡ files.old) (staged.new ≡ staged.old) }
+    ensures untouched { IfErr result
+        (UnlessFailed ((files.new ≡ files.old) × (staged.new ≡ staged.old))) }
     ensures cause { HasDiskCause result (has_failed store.new) (D.view files.old) (D.view files.new)
         (T.view staged.old) (T.view staged.new) }
 {

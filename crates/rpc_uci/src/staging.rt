@@ -1,5 +1,5 @@
 //! Changes that calls stage: tried on the view first, and staged at once where none is refused.
-ghost use Rattle.std.specs.Prelude.{◌≡◌, Some, Ok, Err, false, IfOk, IfErr, OnOk, OnErr};
+ghost use Rattle.std.specs.Prelude.{◌≡◌, ◌≢◌, Some, Ok, Err, false, IfOk, IfErr, OnOk, OnErr};
 ghost use Rattle.uci_staged.specs.Kept.{Follows};
 ghost use Rattle.uci_store.specs.Store.{names_of, snap_of, staged_in, has_failed, IsStore, IsOnStaged};
 ghost use Rattle.rpc_rules.specs.Arguments.{config_in as config_of, holder_of};
@@ -7,6 +7,7 @@ ghost use Rattle.rpc_uci.specs.Outcome.{EditComesTo};
 ghost use Rattle.rpc_uci.specs.Done as spec;
 ghost use Rattle.rpc_uci.specs.Done.{IsStatusFor};
 ghost use Rattle.rpc_uci.specs.Staging.{IsStageable, IsCut, HasCause};
+ghost use Rattle.rpc_uci.specs.Ending.{UnlessFailed};
 
 use crate::refused::{BAD_ARGUMENT, refused};
 use crate::reply::Reply;
@@ -31,10 +32,12 @@ pub(crate) fn stage_edit<T: Disk>(
     requires on { IsOnStaged store.old (T.view staged.old) }
     requires ready { has_failed store.old ≡ false }
     ensures follows { Follows (T.view staged.old) (T.view staged.new) }
+    ensures aside { holder_of caller ≢ 0 → staged.new ≡ staged.old }
     ensures on { IsOnStaged store.new (T.view staged.new) }
     ensures names { names_of store.new ≡ names_of store.old }
     ensures snap { snap_of store.new ≡ snap_of store.old }
     ensures done { spec.EditDone edit (holder_of caller) args.now store.old store.new result }
+    ensures untouched { IfErr result (UnlessFailed (staged.new ≡ staged.old)) }
     ensures cause { HasCause result (has_failed store.new) (T.view staged.old) (T.view staged.new) }
 {
     let holder = caller.holder();
@@ -79,7 +82,7 @@ fn plan_edit(
 }
 
 /// Stages changes of a package at once, which the holder's view takes one after another.
-#[tactic(auto, using(crate::proofs::StagingLemmas::none_staged))]
+#[tactic(auto, using(crate::proofs::StagingLemmas::none_staged, crate::proofs::EndingLemmas::told_unless_failed))]
 fn stage_all<T: Disk>(
     alloc: Global,
     store: &mut Store,
@@ -92,12 +95,14 @@ fn stage_all<T: Disk>(
     requires ready { has_failed store.old ≡ false }
     requires fits { IsStageable store.old holder name.now deltas.items }
     ensures follows { Follows (T.view staged.old) (T.view staged.new) }
+    ensures aside { holder ≢ 0 → staged.new ≡ staged.old }
     ensures on { IsOnStaged store.new (T.view staged.new) }
     ensures names { names_of store.new ≡ names_of store.old }
     ensures snap { snap_of store.new ≡ snap_of store.old }
     ensures done { OnOk result (spec.HasStagedAll store.old store.new holder deltas.items) }
     ensures kept { OnErr result (staged_in store.new ≡ staged_in store.old) }
     ensures cut { IfErr result (IsCut deltas.items) }
+    ensures untouched { IfErr result (UnlessFailed (staged.new ≡ staged.old)) }
     ensures cause { HasCause result (has_failed store.new) (T.view staged.old) (T.view staged.new) }
 {
     if deltas.is_empty() {
