@@ -1,6 +1,7 @@
 -- Sessions that expire.
 use Rattle.std.proofs.Common.{arith, ℕ, ◌≡◌, ◌<◌, ◌≤◌, List, [], ◌∷◌, Bool, true, false, cond, length, Option, Some, None, refl, ap, sym, subst, ◌∙◌}
-use Rattle.std.specs.Prelude.{Result, Ok, Err, nat_eq}
+use Rattle.std.proofs.lemmas.Bool.Decides.{nat_tests}
+use Rattle.std.specs.Prelude.{Result, Ok, Err, IsOk, nat_eq}
 use Rattle.snap_disk.specs.declared.snap.Snap.{Snap}
 use Rattle.snap_disk.specs.Open.{state_of}
 use Rattle.uci_staged.specs.declared.change.StagedChange.{StagedChange}
@@ -13,6 +14,7 @@ use Rattle.rpc_session.specs.declared.session.Session.{Session}
 use Rattle.rpc_session.specs.declared.session_error.SessionError.{SessionError}
 use Rattle.rpc_session.specs.declared.session_error.SessionError.TheVariants.{DefaultSession}
 use Rattle.rpc_session.specs.SessionList.{SessionList}
+use Rattle.rpc_session.specs.Session.{is_live}
 use Rattle.rpc_session.specs.Sessions.{first_expired, destroyed, where_present, session_of, without, Does}
 use Rattle.net_plane.specs.Network.{Network}
 use Rattle.local_answers.specs.SessionCall.{StaysOpen}
@@ -135,3 +137,48 @@ destroyed_shorter id list fewer made = go (nat_eq id 0) refl
     go true zero = absurd (cc (sym (ap (λ (c : Bool). cond c (Err DefaultSession) to) zero) ∙ made))
     go false other = present_shorter id list fewer (session_of id list.sessions) refl
         (sym (ap (λ (c : Bool). cond c (Err DefaultSession) to) other) ∙ made)
+
+-- the first session that is not live is one of the sessions
+expired_is_there : (now id : ℕ) (sessions : List Session) → first_expired now sessions ≡ Some id
+    → session_of id sessions ≡ None → ⊥
+expired_is_there now id [] first none = cc first
+expired_is_there now id (session ∷ others) first none =
+    go (expired_is_there now id others) (nat_eq session.id id) refl (is_live now session) refl
+  where
+    go : (first_expired now others ≡ Some id → session_of id others ≡ None → ⊥) → (same : Bool)
+        → nat_eq session.id id ≡ same → (live : Bool) → is_live now session ≡ live → ⊥
+    go later true same live is =
+        cc (sym (ap (λ (c : Bool). cond c (Some session) (session_of id others)) same) ∙ none)
+    go later false same true is =
+        later (sym (ap (λ (c : Bool). cond c (first_expired now others) (Some session.id)) is) ∙ first)
+        (sym (ap (λ (c : Bool). cond c (Some session) (session_of id others)) same) ∙ none)
+    go later false same false is =
+        let found : Some session.id ≡ Some id =
+        sym (ap (λ (c : Bool). cond c (first_expired now others) (Some session.id)) is) ∙ first in
+        let here : session.id ≡ id = cc found in
+        let equal : nat_eq session.id id ≡ true = grind (arith, nat_tests) in
+        let apart : true ≡ false = sym equal ∙ same in cc apart
+
+never_ok : {A : Type 0} (result : Result A SessionError) → ((value : A) → result ≡ Ok value → ⊥) → IsOk result → ⊥
+never_ok {A} (Ok value) never is = never value refl
+never_ok {A} (Err error) never is = cc is
+
+-- the first session that is not live is destroyed, but for the default one
+pub kept_is_default : {A : Type 0} (now id : ℕ) (result : Result A SessionError) (old new : SessionList)
+    → first_expired now old.sessions ≡ Some id → ((value : A) → result ≡ Ok value → ⊥)
+    → Does (destroyed id old) result old new → id ≡ 0
+kept_is_default {A} now id result old new first never done = go (nat_eq id 0) refl (session_of id old.sessions) refl
+  where
+    fewer : SessionList
+    fewer = record old { sessions = without id old.sessions }
+
+    go : (zero : Bool) → nat_eq id 0 ≡ zero → (o : Option Session) → session_of id old.sessions ≡ o → id ≡ 0
+    go true zero o is = grind (arith, nat_tests)
+    go false other None is = absurd (expired_is_there now id old.sessions first is)
+    go false other (Some session) is =
+        let goes : destroyed id old ≡ Ok fewer =
+        ap (λ (c : Bool). cond c (Err DefaultSession) (where_present (session_of id old.sessions) fewer)) other
+        ∙ ap (λ (o : Option Session). where_present o fewer) is in
+        let made : Does (Ok fewer) result old new =
+        subst (λ (r : Result SessionList SessionError). Does r result old new) goes done in
+        absurd (never_ok result never made.0)

@@ -1,5 +1,5 @@
 //! Sessions that expire.
-ghost use Rattle.std.specs.Prelude.{◌≡◌, ◌≤◌, None, OnOk};
+ghost use Rattle.std.specs.Prelude.{◌≡◌, ◌≤◌, Some, None, OnOk, OnErr};
 ghost use Rattle.uci_store.specs.Store.{staged_in};
 ghost use Rattle.net_plane.specs.Network.{Network};
 ghost use Rattle.rpc_session.specs.Sessions.{first_expired};
@@ -16,7 +16,7 @@ use uci_store::Store;
 ///
 /// # Errors
 ///
-/// `Memory` in place of ending the default session, which never expires.
+/// `Memory` alone in place of ending the default session, which never expires.
 pub(crate) fn expire(
     callers: &mut Callers,
     store: &mut Store,
@@ -27,6 +27,8 @@ pub(crate) fn expire(
         (world_of now store.new callers.new net) }
     ensures live { OnOk result
         (now ≤ next → first_expired next callers.new.sessions.sessions ≡ None) }
+    ensures lacks { OnErr result
+        (first_expired next callers.new.sessions.sessions ≡ Some 0) }
     ensures spare { callers.new.spare ≡ callers.old.spare }
     ensures stays { StaysOpen store.old store.new }
 {
@@ -41,6 +43,7 @@ fn end_expired(sessions: &mut Sessions, store: &mut Store, now: u64) -> Result<(
     ensures goes { Goes now sessions.old (staged_in store.old)
         sessions.new (staged_in store.new) }
     ensures live { OnOk result (first_expired now sessions.new.sessions ≡ None) }
+    ensures lacks { OnErr result (first_expired now sessions.new.sessions ≡ Some 0) }
     ensures stays { StaysOpen store.old store.new }
 {
     while let Some(id) = sessions.next_expired(now) {

@@ -1,8 +1,9 @@
-use Rattle.std.proofs.Common.{sym, subst, ◌∙◌}
+use Rattle.std.proofs.Common.{ℕ, ◌≡◌, Some, ap, sym, subst, ◌∙◌}
 use Rattle.uci_store.specs.Store.{staged_in}
 use Rattle.rpc_session.specs.SessionList.{SessionList}
+use Rattle.rpc_session.specs.Sessions.{first_expired}
 use Rattle.plane_step.specs.Expiry.{Goes}
-use Rattle.plane_step.proofs.ExpiryLemmas.{one_more, destroyed_done, destroyed_not, destroyed_shorter, stays_itself, stays_both}
+use Rattle.plane_step.proofs.ExpiryLemmas.{one_more, destroyed_done, destroyed_not, destroyed_shorter, kept_is_default, stays_itself, stays_both}
 use Rattle.plane_step.proofs.expiry.end_expired.Goals as goal
 
 pub loop-id-init : goal.loop-id-init
@@ -43,3 +44,14 @@ returns-in_default-destroy-clause-goes c =
 
 pub returns-clause-live : goal.returns-clause-live
 returns-clause-live c = sym c.next_expired.ensures ∙ c.in_default.is
+
+pub returns-in_default-destroy-clause-lacks : goal.returns-in_default-destroy-clause-lacks
+returns-in_default-destroy-clause-lacks c =
+    let first : first_expired c.args.now c.loop-id.sessions.sessions ≡ Some c.in-Some.id = sym c.in-Some.ensures in
+    let zero : c.in-Some.id ≡ 0 =
+    kept_is_default c.args.now c.in-Some.id c.destroy.result c.loop-id.sessions c.destroy.new.self first
+    c.in_default-destroy.not-Ok c.destroy.ensures.done in
+    subst (λ (list : SessionList). first_expired c.args.now list.sessions ≡ Some 0)
+    (sym (destroyed_not c.in-Some.id c.destroy.result c.loop-id.sessions c.destroy.new.self
+    c.in_default-destroy.not-Ok c.destroy.ensures.done))
+    (first ∙ ap (λ (id : ℕ). Some id) zero)
