@@ -1,10 +1,11 @@
 // Laws of the definitions that the contracts cite. Each body is empty, and the contract is the law.
-ghost use Rattle.std.specs.Prelude.{◌≡◌, ℕ, List};
+ghost use Rattle.std.specs.Prelude.{◌≡◌, ℕ, List, codes};
 ghost use Rattle.uci_tree.specs.declared.package.Package.{Package};
 ghost use Rattle.plane_main.specs.declared.command.Command.{Command};
 ghost use Rattle.plane_io.specs.declared.input.TheConstants.{INPUT_LIMIT};
 ghost use Rattle.kern_model.specs.declared.vlan_name.TheConstants.{LEAST_VLAN_ID, MOST_VLAN_ID};
 ghost use Rattle.plane_main.specs.declared.command.TheConstants.{MOST_DEVICES, MOST_BRIDGES};
+ghost use Rattle.plane_main.specs.declared.run_words.TheConstants.{STAGED_FOLDER, EMPTY_ACL};
 ghost use Rattle.net_start.specs.declared.devices.TheConstants.{ETHERNET_MTU};
 ghost use Rattle.plane_run.specs.declared.script.TheConstants.{SCRIPT_LIMIT};
 ghost use Rattle.script_lines.specs.declared.arguments.TheConstants.{USUAL_MTU};
@@ -32,4 +33,10 @@ pub fn named_numbers()
     ensures vlans { (LEAST_VLAN_ID ≡ 1) × (MOST_VLAN_ID ≡ 4094) }
     ensures script { SCRIPT_LIMIT ≡ 16777216 }
     ensures usual_mtu { USUAL_MTU ≡ 1500 }
+{}
+
+/// The words that stand for what the words of `run` do not name.
+pub fn named_words()
+    ensures staged { STAGED_FOLDER.now ≡ codes "/tmp/.uci" }
+    ensures acl { EMPTY_ACL.now ≡ codes "[]" }
 {}

@@ -16,7 +16,7 @@ mod start;
 mod texts;
 
 pub use command::{Command, read_command};
-pub use laws::{named_numbers, one_command, one_network};
+pub use laws::{named_numbers, named_words, one_command, one_network};
 pub use locations::{Locations, places};
 pub use page::Page;
 pub use program::{lack_memory, plane};
