@@ -8,3 +8,5 @@ pub mod RunLemmas
 pub mod HeldLemmas
 -- the sections of a network
 pub mod PackageLemmas
+-- what the checker computes
+pub mod Examples
