@@ -3,14 +3,14 @@ use Rattle.std.proofs.Common.{arith, ℕ, ◌<◌, ◌+◌, ◌≡◌, List, [],
 use Rattle.std.proofs.lemmas.List.{length-map}
 use Rattle.kern_model.proofs.MemberLemmas.{here}
 use Rattle.kern_model.specs.ObjectOrder.{Objects, set_of}
-use Rattle.kern_model.specs.Standing.{gone}
+use Rattle.kern_model.specs.declared.object.Device.{Device}
 use Rattle.plane_words.specs.Distinct.{AreDistinct}
 use Rattle.net_rows.specs.declared.rows.Conf.{Conf}
 use Rattle.net_rows.specs.declared.rows.NameRow.{NameRow}
 use Rattle.net_rows.specs.declared.rows.VlanRow.{VlanRow}
 use Rattle.graph_rules.specs.declared.ids.RadioPort.{RadioPort}
 use Rattle.graph_rules.specs.State.{Named, Known, State, name_list, names_in, nothing_known}
-use Rattle.graph_rules.specs.After.{known_of, loaded_after, ports_after, name_at, with_device, with_names, absent_after}
+use Rattle.graph_rules.specs.After.{known_of, loaded_after, ports_after, name_at, with_device, with_names, left_by, absent_after}
 use Rattle.graph_rules.specs.Edges.{changed_edges}
 use Rattle.graph_rules.specs.Conditions.{CanLoad, ArePorts}
 use Rattle.graph_objects.specs.declared.slot.Wish.{Wish}
@@ -103,12 +103,13 @@ module _ (names : Option Known) (s : Known) (held : Objects) (loads : ℕ) (old 
       let all : (let end : State = record { known = t; held = now; loads = loads } in end) ≡ with_names old (change old.known.names) = λ i. record { known = known_now i; held = (held_now ∙ held_before) i; loads = loads_before i } in
       all
 
-  pub after_leaving : (t : Known) (now : Objects) (id : ℕ) (name : List ℕ) → t ≡ record s { names = with_device s.names id None } → name ≡ (name_at s.names id).name → now ≡ gone held name
+  pub after_leaving : (t : Known) (now : Objects) (id : ℕ) (name : List ℕ) (device : Option Device) → t ≡ record s { names = with_device s.names id None } → name ≡ (name_at s.names id).name → device ≡ (name_at s.names id).device → now ≡ left_by device name held
       → (let end : State = record { known = t; held = now; loads = loads } in end) ≡ absent_after old id
-  after_leaving t now id name names_now named held_now =
+  after_leaving t now id name device names_now named there held_now =
       let known_now : t ≡ record old.known { names = with_device old.known.names id None } = names_now ∙ ap (λ (k : Known). let m : Known = record k { names = with_device k.names id None } in m) known_before in
       let name_now : name ≡ (name_at old.known.names id).name = named ∙ ap (λ (k : Known). (name_at k.names id).name) known_before in
-      let gone_now : now ≡ gone old.held (name_at old.known.names id).name = held_now ∙ ap (λ (h : Objects). gone h name) held_before ∙ ap (gone old.held) name_now in
+      let device_now : device ≡ (name_at old.known.names id).device = there ∙ ap (λ (k : Known). (name_at k.names id).device) known_before in
+      let gone_now : now ≡ left_by (name_at old.known.names id).device (name_at old.known.names id).name old.held = held_now ∙ ap (left_by device name) held_before ∙ ap (λ (d : Option Device). left_by d name old.held) device_now ∙ ap (λ (n : List ℕ). left_by (name_at old.known.names id).device n old.held) name_now in
       let all : (let end : State = record { known = t; held = now; loads = loads } in end) ≡ absent_after old id = λ i. record { known = known_now i; held = gone_now i; loads = loads_before i } in
       all
 

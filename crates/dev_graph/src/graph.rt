@@ -301,7 +301,7 @@ impl Graph {
         judge(names, &mut self.used, &mut self.objects);
     }
 
-    /// A device is gone, and what is held on it with it.
+    /// A device is gone, and what is held on it with it. One that is not there stays so, and what is held too.
     pub fn set_absent<L: Ledger>(&mut self, id: DevId, steps: &mut Steps<L>)
         requires { IsId self.old id.0 }
         ensures state { self.new ≡ after.absent_after self.old id.0 }
@@ -311,9 +311,10 @@ impl Graph {
             return;
         };
         let name = names.names().name(id.0);
+        let device = names.device(id);
         names.set_absent(id, steps);
         judge(names, &mut self.used, &mut self.objects);
-        self.objects.leave(&name);
+        leave_with(&mut self.objects, device, &name);
     }
 
     /// The carrier of a device is on or off. Of one that is not there nothing is told.
@@ -433,5 +434,15 @@ impl Graph {
         ensures { result ≡ calls.due_in self.now }
     {
         self.objects.due()
+    }
+}
+
+/// What stands on the device of a name goes with it, where it was there.
+fn leave_with(objects: &mut DeviceObjects, device: Option<Device>, name: &DevName)
+    ensures held { held_of objects.new ≡ after.left_by device name.now (held_of objects.old) }
+    ensures wishes { objects.new.wishes ≡ objects.old.wishes }
+{
+    if device.is_some() {
+        objects.leave(name);
     }
 }

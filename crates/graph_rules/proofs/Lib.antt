@@ -1,1 +1,3 @@
 pub mod AgreeLemmas
+pub mod WantLemmas
+pub mod KeepLemmas

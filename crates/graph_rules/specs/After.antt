@@ -1,8 +1,9 @@
 -- What events, loads and calls of the kernel make of a graph.
-use Rattle.std.specs.Prelude.{ℕ, ◌+◌, List, [], ◌∷◌, ◌++◌, map, Option, Some, None, Bool, slice_set, slice_index_or, unwrap_or}
+use Rattle.std.specs.Prelude.{ℕ, zero, suc, ◌+◌, List, [], ◌∷◌, ◌++◌, map, Option, Some, None, Bool, slice_set, slice_index_or, unwrap_or}
 use Rattle.std.specs.Option.{option_map}
 use Rattle.kern_model.specs.declared.object.Device.{Device}
 use Rattle.kern_model.specs.declared.object.Call.{Call}
+use Rattle.kern_model.specs.ObjectOrder.{Objects}
 use Rattle.kern_model.specs.Standing.{gone}
 use Rattle.kern_model.specs.Kernel.{after_call, with_carrier}
 use Rattle.net_rows.specs.declared.rows.Conf.{Conf}
@@ -46,11 +47,16 @@ with_names s names = record s { known = record s.known { names = names } }
 abbrev pub present_after : State → ℕ → Device → State
 present_after s id device = with_names s (with_device s.known.names id (Some device))
 
+-- what stands on the device of a name goes with it, where it was there
+abbrev pub left_by : Option Device → List ℕ → Objects → Objects
+left_by None name held = held
+left_by (Some device) name held = gone held name
+
 -- a device is gone, and with it what goes with a device of the kernel
 abbrev pub absent_after : State → ℕ → State
 absent_after s id =
     record (with_names s (with_device s.known.names id None)) {
-      held = gone s.held (name_at s.known.names id).name;
+      held = left_by (name_at s.known.names id).device (name_at s.known.names id).name s.held;
     }
 
 -- the carrier of a present device is on or off
@@ -96,3 +102,21 @@ loaded_after old conf plain radio =
       held = before.held;
       loads = before.loads + 1;
     }
+
+-- ---- a load beside one of nothing
+
+-- a device is there, if there is one
+abbrev pub device_after : State → ℕ → Option Device → State
+device_after s id None = s
+device_after s id (Some device) = present_after s id device
+
+-- the name of an id is told the device and the claims that it had, if any
+abbrev pub told_again : List Named → ℕ → State → State
+told_again old id s =
+    let name = (name_at s.known.names id).name in
+    claimed_after (device_after s id (device_among old name)) id (claims_among old name)
+
+-- each id below a number is, one after another
+abbrev pub all_told_again : List Named → ℕ → State → State
+all_told_again old zero s = s
+all_told_again old (suc n) s = told_again old n (all_told_again old n s)

@@ -6,4 +6,6 @@ mod ids;
 mod laws;
 
 pub use ids::{DevId, RadioPort};
-pub use laws::answers_are_those_of_the_rules;
+pub use laws::{
+    answers_are_those_of_the_rules, loads_keep_devices_and_claims, wishes_are_those_of_the_rules,
+};

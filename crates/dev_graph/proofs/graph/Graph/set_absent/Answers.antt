@@ -1,9 +1,8 @@
 use Rattle.std.proofs.Common.{arith, length, List, map, None, sym, ap, subst, ◌∙◌}
 use Rattle.kern_model.specs.ObjectOrder.{Objects}
-use Rattle.kern_model.specs.Standing.{gone}
 use Rattle.graph_objects.specs.Marks.{held_of}
 use Rattle.graph_rules.specs.State.{Named, Known}
-use Rattle.graph_rules.specs.After.{name_at, with_device}
+use Rattle.graph_rules.specs.After.{name_at, with_device, left_by}
 use Rattle.graph_counts.proofs.AnswerLemmas.{device_spelled}
 use Rattle.graph_wishes.specs.Wishes.{mays}
 use Rattle.graph_tables.specs.Wished.{wish_in}
@@ -24,13 +23,13 @@ pub invariant_of-self-2 : goal.invariant_of-self-2
 invariant_of-self-2 g c =
     let s : Known = c.in-Some.names in
     let ready = ready_after c.self.inside.names s c.set_absent.new.self (with_device s.names c.args.id.0 None) c.self.inside.objects.wishes (length c.self.inside.used.items) c.in-Some.is c.self.invariant.whole c.self.invariant.wishes c.self.invariant.used (device_spelled s.names c.args.id.0 None) c.set_absent.ensures.known in
-    record { whole = whole_some c.set_absent.new.self ready.whole; used = c.judge.ensures.size; wishes = subst (λ ws. HaveSame ws (map (wish_in c.set_absent.new.self) (mays c.set_absent.new.self))) (sym c.leave.ensures.wishes) c.judge.ensures.wishes }
+    record { whole = whole_some c.set_absent.new.self ready.whole; used = c.judge.ensures.size; wishes = subst (λ ws. HaveSame ws (map (wish_in c.set_absent.new.self) (mays c.set_absent.new.self))) (sym c.leave_with.ensures.wishes) c.judge.ensures.wishes }
 
 pub returns-clause-state : goal.returns-clause-state
 returns-clause-state g c =
-    after_leaving c.self.inside.names c.in-Some.names (held_of c.self.inside.objects) c.self.inside.loads c.args.self.now c.in-Some.is c.self.view_is c.set_absent.new.self (held_of c.leave.new.self) c.args.id.0 c.name-name.result
-    c.set_absent.ensures.known (c.name-name.ensures ∙ ap (λ (ns : List Named). (name_at ns c.args.id.0).name) c.names.ensures.names)
-    (c.leave.ensures.held ∙ ap (λ (h : Objects). gone h c.name-name.result) (same_held c.self.inside.objects c.judge.new.objects c.judge.ensures.held))
+    after_leaving c.self.inside.names c.in-Some.names (held_of c.self.inside.objects) c.self.inside.loads c.args.self.now c.in-Some.is c.self.view_is c.set_absent.new.self (held_of c.leave_with.new.objects) c.args.id.0 c.name-name.result c.device-device.result
+    c.set_absent.ensures.known (c.name-name.ensures ∙ ap (λ (ns : List Named). (name_at ns c.args.id.0).name) c.names.ensures.names) c.device-device.ensures
+    (c.leave_with.ensures.held ∙ ap (left_by c.device-device.result c.name-name.result) (same_held c.self.inside.objects c.judge.new.objects c.judge.ensures.held))
 
 pub returns-clause-cost : goal.returns-clause-cost
 returns-clause-cost g c =
