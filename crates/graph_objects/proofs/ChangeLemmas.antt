@@ -187,7 +187,7 @@ module _ (eq : ObjectKey → ObjectKey → Bool) (same : (x y : ObjectKey) → e
             | inr kept ↦ absurd (done x (taken_of (set_on Held es) (set_on Wanted es) x had (touched_held (set_on Held es) (set_on Wanted es) x had unwanted) kept))
           ]
 
-      link_wanted : (v : List ℕ) (kind : LinkKind) → Has (set_on Held (now (Some o))) (object.Link v kind) → Has (set_on Wanted es) (object.Link v kind)
+      pub link_wanted : (v : List ℕ) (kind : LinkKind) → Has (set_on Held (now (Some o))) (object.Link v kind) → Has (set_on Wanted es) (object.Link v kind)
       link_wanted v kind h = elim (held_now (Some o) (object.Link v kind) h) as (λ _. Has (set_on Wanted es) (object.Link v kind)) [
         | inl was ↦ elim (true_or_not (set.contains (set_on Wanted es) (object.Link v kind))) as (λ _. Has (set_on Wanted es) (object.Link v kind)) [
           | inl is ↦ is

@@ -64,7 +64,7 @@ module _ (f : Slot → Slot) where
 
   -- where what is held and what may be wanted stays in each slot, it stays in all
   module _ (held_stays : (s : Slot) → (f s).held ≡ s.held) (wish_stays : (s : Slot) → (f s).wish ≡ s.wish) where
-    on_stays : (side : Side) (s : Slot) → on side (f s) ≡ on side s
+    pub on_stays : (side : Side) (s : Slot) → on side (f s) ≡ on side s
     on_stays Held s = held_stays s
     on_stays Wanted s = ap (option_and_then wished) (wish_stays s)
 
@@ -152,14 +152,14 @@ pub marked_slots : (es : Entries) (name : List ℕ) → AreSlots es → AreSlots
 marked_slots es name slots = subst AreSlots (all_written (marked (set_on Held es) name) es) (more_slots es (first_slots (marked (set_on Held es) name) es (length es)) name (length es) slots refl)
 
 -- what is marked is let go: the slots stay slots
-let_go_wish : (s : Slot) → (let_go s).wish ≡ s.wish
+pub let_go_wish : (s : Slot) → (let_go s).wish ≡ s.wish
 let_go_wish s = by s.leaves refl
   where
     by : (b : Bool) → s.leaves ≡ b → (if b then record s { held = None } else s).wish ≡ s.wish
     by true is = refl
     by false is = refl
 
-let_go_held : (s : Slot) (o : Object) → (let_go s).held ≡ Some o → s.held ≡ Some o
+pub let_go_held : (s : Slot) (o : Object) → (let_go s).held ≡ Some o → s.held ≡ Some o
 let_go_held s o h = by s.leaves h
   where
     by : (b : Bool) → (if b then record s { held = None } else s).held ≡ Some o → s.held ≡ Some o

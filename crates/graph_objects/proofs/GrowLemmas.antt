@@ -33,7 +33,7 @@ pub last_there : (es : Entries) (e : ObjectKey × Slot) → slice_get (es ++ e �
 last_there [] e = refl
 last_there (x ∷ xs) e = last_there xs e
 
-listed_more : (side : Side) (es : Entries) (key : ObjectKey) → listed side (es ++ (key, empty_slot) ∷ []) ≡ listed side es
+pub listed_more : (side : Side) (es : Entries) (key : ObjectKey) → listed side (es ++ (key, empty_slot) ∷ []) ≡ listed side es
 listed_more Held [] key = refl
 listed_more Wanted [] key = refl
 listed_more side (e ∷ es) key = ap (cons_option (on side e.1)) (listed_more side es key)
@@ -283,7 +283,7 @@ HoldsFirst now es n = (x : Object) → Has (set_on Held now) x ↔ HeldBefore es
 pub holds_none : (now es : Entries) → set_on Held now ≡ set.empty → HoldsFirst now es 0
 holds_none now es none x = (λ h. absurd (none_in_empty x (subst (λ s. Has s x) none h)), λ h. let never = h.before in absurd (omega arith))
 
-value_of_entry : (es : Entries) (i : ℕ) (s : Slot) → slice_get (map (λ (e : ObjectKey × Slot). e.1) es) i ≡ Some s → (k : ObjectKey) × (slice_get es i ≡ Some (k, s))
+pub value_of_entry : (es : Entries) (i : ℕ) (s : Slot) → slice_get (map (λ (e : ObjectKey × Slot). e.1) es) i ≡ Some s → (k : ObjectKey) × (slice_get es i ≡ Some (k, s))
 value_of_entry [] i s h = absurd (cc h)
 value_of_entry (e ∷ es) zero s h = let is : e.1 ≡ s = cc h in (e.0, ap (λ (x : Slot). Some (e.0, x)) is)
 value_of_entry (e ∷ es) (suc i) s h = value_of_entry es i s h

@@ -10,3 +10,5 @@ pub mod LookupLemmas
 pub mod KeyLemmas
 pub mod WalkLemmas
 pub mod GrowLemmas
+pub mod BitLemmas
+pub mod MarkedLemmas

@@ -167,7 +167,7 @@ number_is Takes es o h is = ap (λ x. length es - x) is
 number_is Puts es o h is = is
 
 -- an item is read at its place
-some_at : {X : Type 0} (xs : List X) (k : ℕ) (x : X) → k < length xs → slice_index_or xs k x ≡ x → slice_get xs k ≡ Some x
+pub some_at : {X : Type 0} (xs : List X) (k : ℕ) (x : X) → k < length xs → slice_index_or xs k x ≡ x → slice_get xs k ≡ Some x
 some_at [] k x h is = absurd (omega arith)
 some_at (y ∷ ys) zero x h is = ap Some is
 some_at (y ∷ ys) (suc k) x h is = some_at ys k x (omega arith) is

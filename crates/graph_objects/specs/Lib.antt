@@ -18,9 +18,13 @@ pub mod Grown
 pub mod Marks
 -- objects on one side alone
 pub mod Alone
+-- sets of numbers as the bits of words
+pub mod Bits
 -- the first of the takes, and the first of the puts
 pub mod Turns
 -- the place of a call among others
 pub mod Places
+-- slots that are marked
+pub mod Marked
 -- how slots are kept
 pub mod Inside

@@ -1,25 +1,43 @@
 //! What changes in slots: objects are taken, put, or leave with a name, and others are wanted.
-ghost use Rattle.std.specs.Prelude.{◌≡◌, map, true};
+ghost use Rattle.std.specs.Prelude.{◌≡◌, ◌<◌, ◌≤◌, ◌*◌, length, true};
 ghost use Rattle.std.specs.FinSet as set;
+ghost use Rattle.indexmap.specs.IndexMap.{set_value_at};
 ghost use Rattle.kern_model.specs.ObjectOrder.{Has};
 ghost use Rattle.kern_model.specs.Standing.{gone};
 ghost use Rattle.kern_model.specs.Kernel.{after_call};
 ghost use Rattle.kern_model.specs.Touched as touched;
-ghost use Rattle.graph_objects.specs.Marks as marks;
+ghost use Rattle.graph_objects.specs.Marks as uses;
 ghost use Rattle.graph_objects.specs.Slots.{AreSlots, set_on, wishes};
+ghost use Rattle.graph_objects.specs.Bits.{IsPut};
+ghost use Rattle.graph_objects.specs.Marked.{AreMarked, differs};
 ghost use Rattle.graph_objects.specs.Changed as spec;
 
+use crate::bits::Bits;
 use crate::due::stands_on;
 use crate::key::{ObjectKey, key_of};
+use crate::marking::{differs, mark};
 use crate::slot::{Side, Slot, Wish};
 use indexmap::IndexMap;
 use kern_model::{Call, DevName, Object};
 
+/// Writes a slot, and marks it where what it holds and what is wanted in it differ.
+fn write(slots: &mut IndexMap<ObjectKey, Slot>, marks: &mut Bits, index: usize, slot: Slot)
+    requires within { index < length slots.old.entries }
+    requires room { index < 64 * length marks.old }
+    ensures slots { slots.new.entries ≡ set_value_at slots.old.entries index slot }
+    ensures mark { IsPut marks.old marks.new index (differs slot) }
+{
+    marks.put(index, differs(&slot));
+    slots[index] = slot;
+}
+
 /// A held object is held no longer.
-pub(crate) fn take(slots: &mut IndexMap<ObjectKey, Slot>, object: &Object)
+pub(crate) fn take(slots: &mut IndexMap<ObjectKey, Slot>, marks: &mut Bits, object: &Object)
     requires slots { AreSlots slots.old.entries }
+    requires marked { AreMarked marks.old slots.old.entries }
     requires held { Has (set_on Side.Held slots.old.entries) object.now }
     ensures slots { AreSlots slots.new.entries }
+    ensures marked { AreMarked marks.new slots.new.entries }
     ensures held { set_on Side.Held slots.new.entries
         ≡ set.remove (set_on Side.Held slots.old.entries) object.now }
     ensures wishes { wishes slots.new.entries ≡ wishes slots.old.entries }
@@ -27,16 +45,22 @@ pub(crate) fn take(slots: &mut IndexMap<ObjectKey, Slot>, object: &Object)
     let Some(index) = slots.get_index_of(&key_of(object)) else {
         return;
     };
-    slots[index].held = None;
+    let slot = Slot {
+        held: None,
+        ..slots[index]
+    };
+    write(slots, marks, index, slot);
 }
 
 /// A wanted object is held, in place of the one that it replaces. No object is to be taken.
-pub(crate) fn put(slots: &mut IndexMap<ObjectKey, Slot>, object: &Object)
+pub(crate) fn put(slots: &mut IndexMap<ObjectKey, Slot>, marks: &mut Bits, object: &Object)
     requires slots { AreSlots slots.old.entries }
+    requires marked { AreMarked marks.old slots.old.entries }
     requires wanted { Has (set_on Side.Wanted slots.old.entries) object.now }
     requires taken { (o : Object) → touched.is_taken (set_on Side.Held slots.old.entries)
         (set_on Side.Wanted slots.old.entries) o ≡ true → ⊥ }
     ensures slots { AreSlots slots.new.entries }
+    ensures marked { AreMarked marks.new slots.new.entries }
     ensures held { set_on Side.Held slots.new.entries
         ≡ after_call (set_on Side.Held slots.old.entries) (Call.Put object.now) }
     ensures wishes { wishes slots.new.entries ≡ wishes slots.old.entries }
@@ -44,7 +68,11 @@ pub(crate) fn put(slots: &mut IndexMap<ObjectKey, Slot>, object: &Object)
     let Some(index) = slots.get_index_of(&key_of(object)) else {
         return;
     };
-    slots[index].held = Some(*object);
+    let slot = Slot {
+        held: Some(*object),
+        ..slots[index]
+    };
+    write(slots, marks, index, slot);
 }
 
 /// Whether what is held stands on a name.
@@ -58,7 +86,7 @@ fn leaves(slots: &IndexMap<ObjectKey, Slot>, name: &DevName, held: Option<Object
     }
 }
 
-/// Marks what stands on a name.
+/// Notes what stands on a name.
 fn mark_leaving(slots: &mut IndexMap<ObjectKey, Slot>, name: &DevName)
     requires { AreSlots slots.old.entries }
     ensures { slots.new.entries ≡ spec.each_slot
@@ -71,8 +99,8 @@ fn mark_leaving(slots: &mut IndexMap<ObjectKey, Slot>, name: &DevName)
     }
 }
 
-/// The slot without what is marked.
-fn without_marked(slot: &Slot) -> Slot
+/// The slot without what leaves.
+fn without_leaving(slot: &Slot) -> Slot
     ensures { result ≡ spec.let_go slot.now }
 {
     if slot.leaves {
@@ -85,30 +113,37 @@ fn without_marked(slot: &Slot) -> Slot
     }
 }
 
-/// Lets go what is marked.
-fn let_go(slots: &mut IndexMap<ObjectKey, Slot>)
-    ensures { slots.new.entries ≡ spec.each_slot spec.let_go slots.old.entries }
+/// Lets go what leaves.
+fn let_go(slots: &mut IndexMap<ObjectKey, Slot>, marks: &mut Bits)
+    requires { AreMarked marks.old slots.old.entries }
+    ensures slots { slots.new.entries ≡ spec.each_slot spec.let_go slots.old.entries }
+    ensures marked { AreMarked marks.new slots.new.entries }
 {
     for index in 0..slots.len() {
-        let slot = without_marked(&slots[index]);
-        slots[index] = slot;
+        let left = without_leaving(&slots[index]);
+        slots[index] = left;
+        if left.leaves {
+            marks.put(index, differs(&left));
+        }
     }
 }
 
 /// What stands on a name goes with it.
-pub(crate) fn leave(slots: &mut IndexMap<ObjectKey, Slot>, name: &DevName)
-    requires { AreSlots slots.old.entries }
+pub(crate) fn leave(slots: &mut IndexMap<ObjectKey, Slot>, marks: &mut Bits, name: &DevName)
+    requires slots { AreSlots slots.old.entries }
+    requires marked { AreMarked marks.old slots.old.entries }
     ensures slots { AreSlots slots.new.entries }
+    ensures marked { AreMarked marks.new slots.new.entries }
     ensures held { set_on Side.Held slots.new.entries
         ≡ gone (set_on Side.Held slots.old.entries) name.now }
     ensures wishes { wishes slots.new.entries ≡ wishes slots.old.entries }
 {
     mark_leaving(slots, name);
-    let_go(slots);
+    let_go(slots, marks);
 }
 
 fn is_used(used: &[bool], id: usize) -> bool
-    ensures { result ≡ marks.is_used used.now id }
+    ensures { result ≡ uses.is_used used.now id }
 {
     match used.get(id) {
         Some(used) => *used,
@@ -118,7 +153,7 @@ fn is_used(used: &[bool], id: usize) -> bool
 
 /// A wish is wanted where both of its names are used.
 fn judged(used: &[bool], wish: &Wish) -> Wish
-    ensures { result ≡ marks.judged used.now wish.now }
+    ensures { result ≡ uses.judged used.now wish.now }
 {
     Wish {
         wanted: is_used(used, wish.first) && is_used(used, wish.second),
@@ -136,11 +171,23 @@ fn judged_wish(used: &[bool], slot: &Slot) -> Option<Wish>
 }
 
 /// Objects are wanted where the names of their two ids are used.
-pub(crate) fn judge(slots: &mut IndexMap<ObjectKey, Slot>, used: &[bool])
+fn judge_slots(slots: &mut IndexMap<ObjectKey, Slot>, used: &[bool])
     ensures { slots.new.entries ≡ spec.each_slot (spec.judged_slot used.now) slots.old.entries }
 {
     for index in 0..slots.len() {
         let wish = judged_wish(used, &slots[index]);
         slots[index].wish = wish;
     }
+}
+
+/// Objects are wanted where the names of their two ids are used, and slots are marked anew.
+pub(crate) fn judge(slots: &mut IndexMap<ObjectKey, Slot>, marks: &mut Bits, used: &[bool])
+    requires slots { AreSlots slots.old.entries }
+    requires room { length slots.old.entries ≤ 64 * length marks.old }
+    ensures slots { slots.new.entries ≡ spec.each_slot (spec.judged_slot used.now)
+        slots.old.entries }
+    ensures marked { AreMarked marks.new slots.new.entries }
+{
+    judge_slots(slots, used);
+    mark(slots, marks);
 }

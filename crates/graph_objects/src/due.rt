@@ -5,8 +5,10 @@ ghost use Rattle.kern_model.specs.Standing as standing;
 ghost use Rattle.kern_model.specs.Touched as touched;
 ghost use Rattle.kern_calls.specs.Due.{due_count};
 ghost use Rattle.graph_objects.specs.Slots.{AreSlots, set_on, on};
+ghost use Rattle.graph_objects.specs.Marked.{AreMarked};
 ghost use Rattle.graph_objects.specs.Alone as spec;
 
+use crate::bits::Bits;
 use crate::key::ObjectKey;
 use crate::slot::{self, Side, Slot};
 use crate::slots::{has, object_at};
@@ -24,7 +26,7 @@ pub(crate) fn falls(slots: &IndexMap<ObjectKey, Slot>, name: &DevName) -> bool
 }
 
 /// Whether a place of the object falls.
-fn is_on_taken(slots: &IndexMap<ObjectKey, Slot>, object: &Object) -> bool
+pub(crate) fn is_on_taken(slots: &IndexMap<ObjectKey, Slot>, object: &Object) -> bool
     requires { AreSlots slots.now.entries }
     ensures { result ≡ touched.is_on_taken (set_on Side.Held slots.now.entries)
         (set_on Side.Wanted slots.now.entries) object.now }
@@ -112,7 +114,7 @@ pub(crate) fn stands_on(slots: &IndexMap<ObjectKey, Slot>, base: &DevName, objec
 }
 
 /// How many objects of a slot are on one side alone.
-fn alone(slot: &Slot) -> u64
+pub(crate) fn alone(slot: &Slot) -> u64
     ensures { result ≡ spec.alone (on Side.Held slot.now) (on Side.Wanted slot.now) }
 {
     let Some(held) = slot::on(Side::Held, slot) else {
@@ -127,15 +129,19 @@ fn alone(slot: &Slot) -> u64
     }
 }
 
-/// How many objects are on one side alone.
-pub(crate) fn count(slots: &IndexMap<ObjectKey, Slot>) -> u64
-    requires { AreSlots slots.now.entries }
+/// How many objects are on one side alone. Only marked slots have such objects.
+pub(crate) fn count(slots: &IndexMap<ObjectKey, Slot>, marks: &Bits) -> u64
+    requires slots { AreSlots slots.now.entries }
+    requires marked { AreMarked marks.now slots.now.entries }
     ensures { result ≡ due_count (set_on Side.Held slots.now.entries)
         (set_on Side.Wanted slots.now.entries) }
 {
+    let end = slots.len();
     let mut count = 0;
-    for index in 0..slots.len() {
+    let mut start = 0;
+    while let Some(index) = marks.first_between(start, end) {
         count += alone(&slots[index]);
+        start = index + 1;
     }
     count
 }

@@ -1,19 +1,30 @@
 //! Slots are made for objects that may be wanted, and for those that are held from before.
-ghost use Rattle.std.specs.Prelude.{◌≡◌, Some, IfOk, OnOk, OnErr};
+ghost use Rattle.std.specs.Prelude.{◌≡◌, ◌≤◌, ◌*◌, ℕ, length, Some, IfOk, OnOk, OnErr};
 ghost use Rattle.std.specs.FinSet as set;
 ghost use Rattle.graph_objects.specs.Keys as key;
 ghost use Rattle.graph_objects.specs.Slots.{AreSlots, listed, set_on, wishes};
+ghost use Rattle.graph_objects.specs.Bits.{bit};
+ghost use Rattle.graph_objects.specs.Marked.{AreMarked};
 ghost use Rattle.graph_objects.specs.Grown as spec;
 
+use crate::bits::Bits;
 use crate::form::has_form;
 use crate::key::{ObjectKey, key_of};
+use crate::marking::mark_all;
 use crate::slot::{Side, Slot, Wish};
 use indexmap::IndexMap;
 use kern_model::{LinkKind, Object};
 use plane_io::Memory;
 
-/// The place of an object's slot, which is made where there is none.
-fn slot_for(slots: &mut IndexMap<ObjectKey, Slot>, object: &Object) -> Result<usize, Memory>
+/// The place of an object's slot, which is made where there is none, with room for its mark.
+fn slot_for(
+    slots: &mut IndexMap<ObjectKey, Slot>,
+    marks: &mut Bits,
+    object: &Object,
+) -> Result<usize, Memory>
+    requires { length slots.old.entries ≤ 64 * length marks.old }
+    ensures room { length slots.new.entries ≤ 64 * length marks.new }
+    ensures same { (n : ℕ) → bit marks.new n ≡ bit marks.old n }
     ensures ok { IfOk result (spec.HasSlot slots.old.entries slots.new.entries
         (key.key_of object.now)) }
     ensures err { OnErr result (slots.new.entries ≡ slots.old.entries) }
@@ -25,6 +36,7 @@ fn slot_for(slots: &mut IndexMap<ObjectKey, Slot>, object: &Object) -> Result<us
         return Ok(index);
     }
     let index = slots.len();
+    marks.make_room(index)?;
     let slot = Slot {
         held: None,
         wish: None,
@@ -35,72 +47,115 @@ fn slot_for(slots: &mut IndexMap<ObjectKey, Slot>, object: &Object) -> Result<us
 }
 
 /// An object may be wanted, where the names of two ids are used. Another of its key may not.
-pub(crate) fn expect(slots: &mut IndexMap<ObjectKey, Slot>, wish: Wish) -> Result<(), Memory>
+pub(crate) fn expect(
+    slots: &mut IndexMap<ObjectKey, Slot>,
+    marks: &mut Bits,
+    wish: Wish,
+) -> Result<(), Memory>
     requires slots { AreSlots slots.old.entries }
+    requires marked { AreMarked marks.old slots.old.entries }
     requires fits { spec.CanExpect (wishes slots.old.entries) wish }
     ensures slots { AreSlots slots.new.entries }
+    ensures marked { AreMarked marks.new slots.new.entries }
     ensures held { listed Side.Held slots.new.entries ≡ listed Side.Held slots.old.entries }
     ensures ok { OnOk result (spec.HasMore (wishes slots.old.entries) (wishes slots.new.entries)
         wish) }
     ensures err { OnErr result (wishes slots.new.entries ≡ wishes slots.old.entries) }
 {
     has_form(&wish.object);
-    match slot_for(slots, &wish.object) {
+    match slot_for(slots, marks, &wish.object) {
         Ok(index) => {
             slots[index].wish = Some(wish);
+            marks.put(index, true);
             Ok(())
         }
         Err(error) => Err(error),
     }
 }
 
-/// An object is held from before. No other of its key is.
-pub(crate) fn keep(slots: &mut IndexMap<ObjectKey, Slot>, object: &Object) -> Result<(), Memory>
+/// An object is held from before. No other of its key is. No slot is marked for that.
+pub(crate) fn keep(
+    slots: &mut IndexMap<ObjectKey, Slot>,
+    marks: &mut Bits,
+    object: &Object,
+) -> Result<(), Memory>
     requires slots { AreSlots slots.old.entries }
+    requires room { length slots.old.entries ≤ 64 * length marks.old }
     requires fits { spec.CanKeep (set_on Side.Held slots.old.entries) object.now }
     ensures slots { AreSlots slots.new.entries }
+    ensures room { length slots.new.entries ≤ 64 * length marks.new }
     ensures ok { OnOk result (set_on Side.Held slots.new.entries
         ≡ set.insert (set_on Side.Held slots.old.entries) object.now) }
     ensures wishes { wishes slots.new.entries ≡ wishes slots.old.entries }
 {
     has_form(object);
-    let index = slot_for(slots, object)?;
+    let index = slot_for(slots, marks, object)?;
     slots[index].held = Some(*object);
     Ok(())
 }
 
 /// What a slot holds is held from before, if anything.
-fn keep_held(slots: &mut IndexMap<ObjectKey, Slot>, object: Option<Object>) -> Result<(), Memory>
+fn keep_held(
+    slots: &mut IndexMap<ObjectKey, Slot>,
+    marks: &mut Bits,
+    object: Option<Object>,
+) -> Result<(), Memory>
     requires slots { AreSlots slots.old.entries }
+    requires room { length slots.old.entries ≤ 64 * length marks.old }
     requires fits { (o : Object) → object ≡ Some o
         → spec.CanKeep (set_on Side.Held slots.old.entries) o }
     ensures slots { AreSlots slots.new.entries }
+    ensures room { length slots.new.entries ≤ 64 * length marks.new }
     ensures ok { OnOk result (set_on Side.Held slots.new.entries
         ≡ spec.with_held (set_on Side.Held slots.old.entries) object) }
     ensures wishes { wishes slots.new.entries ≡ wishes slots.old.entries }
 {
     match object {
-        Some(object) => keep(slots, &object),
+        Some(object) => keep(slots, marks, &object),
         None => Ok(()),
     }
 }
 
 /// What other slots hold is held from before, where nothing is held yet.
-pub(crate) fn keep_all(
+fn keep_each(
     slots: &mut IndexMap<ObjectKey, Slot>,
+    marks: &mut Bits,
     old: &IndexMap<ObjectKey, Slot>,
 ) -> Result<(), Memory>
     requires slots { AreSlots slots.old.entries }
+    requires room { length slots.old.entries ≤ 64 * length marks.old }
     requires old { AreSlots old.now.entries }
     requires none { set_on Side.Held slots.old.entries ≡ set.empty }
     ensures slots { AreSlots slots.new.entries }
+    ensures room { length slots.new.entries ≤ 64 * length marks.new }
     ensures ok { OnOk result (set_on Side.Held slots.new.entries
         ≡ set_on Side.Held old.now.entries) }
     ensures wishes { wishes slots.new.entries ≡ wishes slots.old.entries }
 {
     for index in 0..old.len() {
         let held = old[index].held;
-        keep_held(slots, held)?;
+        keep_held(slots, marks, held)?;
     }
     Ok(())
+}
+
+/// What other slots hold is held from before, where nothing is held yet. All slots are marked.
+pub(crate) fn keep_all(
+    slots: &mut IndexMap<ObjectKey, Slot>,
+    marks: &mut Bits,
+    old: &IndexMap<ObjectKey, Slot>,
+) -> Result<(), Memory>
+    requires slots { AreSlots slots.old.entries }
+    requires room { length slots.old.entries ≤ 64 * length marks.old }
+    requires old { AreSlots old.now.entries }
+    requires none { set_on Side.Held slots.old.entries ≡ set.empty }
+    ensures slots { AreSlots slots.new.entries }
+    ensures marked { AreMarked marks.new slots.new.entries }
+    ensures ok { OnOk result (set_on Side.Held slots.new.entries
+        ≡ set_on Side.Held old.now.entries) }
+    ensures wishes { wishes slots.new.entries ≡ wishes slots.old.entries }
+{
+    let kept = keep_each(slots, marks, old);
+    mark_all(slots, marks);
+    kept
 }

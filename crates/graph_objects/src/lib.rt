@@ -1,6 +1,7 @@
 //! The objects of a kernel that are held and wanted on devices, each at its key: what is due between them, and in which order.
 #![tactic(auto)]
 
+mod bits;
 mod changes;
 mod due;
 mod form;
@@ -8,6 +9,7 @@ mod growth;
 mod key;
 mod laws;
 mod line;
+mod marking;
 mod objects;
 mod slot;
 mod slots;

@@ -9,6 +9,7 @@ ghost use Rattle.graph_objects.specs.Marks.{no_marks, held_of, wanted_of, judged
 ghost use Rattle.graph_objects.specs.Turns.{IsFirst};
 ghost use Rattle.graph_objects.specs.Grown.{CanExpect, HasMore};
 
+use crate::bits::Bits;
 use crate::key::ObjectKey;
 use crate::slot::{Side, Slot, Wish};
 use crate::slots::has;
@@ -24,6 +25,8 @@ use std::marker::Model;
 #[derive(Drop)]
 pub struct DeviceObjects {
     slots: IndexMap<ObjectKey, Slot>,
+    /// The slots of which an object may be taken or put, by their indexes.
+    marks: Bits,
 }
 
 impl Model for DeviceObjects {
@@ -45,6 +48,7 @@ impl DeviceObjects {
     {
         DeviceObjects {
             slots: IndexMap::new(alloc),
+            marks: Bits::new(alloc),
         }
     }
 
@@ -59,7 +63,7 @@ impl DeviceObjects {
         ensures ok { OnOk result (HasMore self.old.wishes self.new.wishes wish) }
         ensures err { OnErr result (self.new.wishes ≡ self.old.wishes) }
     {
-        growth::expect(&mut self.slots, wish)
+        growth::expect(&mut self.slots, &mut self.marks, wish)
     }
 
     /// What others hold is held, where nothing is held yet.
@@ -72,7 +76,7 @@ impl DeviceObjects {
         ensures ok { OnOk result (held_of self.new ≡ held_of old.now) }
         ensures wishes { self.new.wishes ≡ self.old.wishes }
     {
-        growth::keep_all(&mut self.slots, &old.slots)
+        growth::keep_all(&mut self.slots, &mut self.marks, &old.slots)
     }
 
     /// Whether an object is held.
@@ -102,7 +106,7 @@ impl DeviceObjects {
         ensures none { IfNone result ((o : Object)
             → touched.is_taken (held_of self.now) (wanted_of self.now) o ≡ true → ⊥) }
     {
-        first(&self.slots, Turn::Takes)
+        first(&self.slots, &self.marks, Turn::Takes)
     }
 
     /// The object that is put first.
@@ -111,14 +115,14 @@ impl DeviceObjects {
         ensures none { IfNone result ((o : Object)
             → touched.is_put (held_of self.now) (wanted_of self.now) o ≡ true → ⊥) }
     {
-        first(&self.slots, Turn::Puts)
+        first(&self.slots, &self.marks, Turn::Puts)
     }
 
     /// How many objects are held and not wanted, or wanted and not held.
     pub fn due(&self) -> u64
         ensures { result ≡ due_count (held_of self.now) (wanted_of self.now) }
     {
-        due::count(&self.slots)
+        due::count(&self.slots, &self.marks)
     }
 
     /// A held object was taken.
@@ -127,7 +131,7 @@ impl DeviceObjects {
         ensures held { held_of self.new ≡ set.remove (held_of self.old) object.now }
         ensures wishes { self.new.wishes ≡ self.old.wishes }
     {
-        changes::take(&mut self.slots, object);
+        changes::take(&mut self.slots, &mut self.marks, object);
     }
 
     /// A wanted object was put, where none was to be taken.
@@ -138,7 +142,7 @@ impl DeviceObjects {
         ensures held { held_of self.new ≡ after_call (held_of self.old) (Call.Put object.now) }
         ensures wishes { self.new.wishes ≡ self.old.wishes }
     {
-        changes::put(&mut self.slots, object);
+        changes::put(&mut self.slots, &mut self.marks, object);
     }
 
     /// A device of that name is gone, and what stands on it with it.
@@ -146,7 +150,7 @@ impl DeviceObjects {
         ensures held { held_of self.new ≡ gone (held_of self.old) name.now }
         ensures wishes { self.new.wishes ≡ self.old.wishes }
     {
-        changes::leave(&mut self.slots, name);
+        changes::leave(&mut self.slots, &mut self.marks, name);
     }
 
     /// An object is wanted where the names of its two ids are used.
@@ -154,6 +158,6 @@ impl DeviceObjects {
         ensures held { self.new.held ≡ self.old.held }
         ensures wishes { self.new.wishes ≡ map (judged used.now) self.old.wishes }
     {
-        changes::judge(&mut self.slots, used);
+        changes::judge(&mut self.slots, &mut self.marks, used);
     }
 }

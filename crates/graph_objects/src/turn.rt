@@ -3,9 +3,11 @@ ghost use Rattle.std.specs.Prelude.{◌≡◌, ◌<◌, ◌≤◌, length, IfSom
 ghost use Rattle.kern_model.specs.CallOrder.{rank, height_of};
 ghost use Rattle.kern_model.specs.ObjectOrder.{Has};
 ghost use Rattle.graph_objects.specs.Slots.{AreSlots, set_on};
+ghost use Rattle.graph_objects.specs.Marked.{AreMarked};
 ghost use Rattle.graph_objects.specs.Turns as spec;
 ghost use Rattle.graph_objects.specs.Places as places;
 
+use crate::bits::Bits;
 use crate::due::{is_put, is_taken};
 use crate::key::ObjectKey;
 use crate::line::Line;
@@ -151,17 +153,21 @@ fn sooner(earlier: Option<Placed>, later: Option<Placed>) -> Option<Placed>
     }
 }
 
-/// The first object of a turn.
-pub(crate) fn first(slots: &IndexMap<ObjectKey, Slot>, turn: Turn) -> Option<Object>
-    requires { AreSlots slots.now.entries }
+/// The first object of a turn. It is in a marked slot.
+pub(crate) fn first(slots: &IndexMap<ObjectKey, Slot>, marks: &Bits, turn: Turn) -> Option<Object>
+    requires slots { AreSlots slots.now.entries }
+    requires marked { AreMarked marks.now slots.now.entries }
     ensures some { IfSome result (spec.IsFirst turn (set_on Side.Held slots.now.entries)
         (set_on Side.Wanted slots.now.entries)) }
     ensures none { IfNone result ((o : Object) → spec.is_due turn
         (set_on Side.Held slots.now.entries) (set_on Side.Wanted slots.now.entries) o ≡ true → ⊥) }
 {
+    let end = slots.len();
     let mut best: Option<Placed> = None;
-    for index in 0..slots.len() {
+    let mut start = 0;
+    while let Some(index) = marks.first_between(start, end) {
         best = sooner(best, due_at(slots, turn, index));
+        start = index + 1;
     }
     match best {
         Some(placed) => Some(placed.object),

@@ -1,9 +1,13 @@
-use Rattle.std.proofs.Common.{None, sym, subst, ◌≡◌}
+use Rattle.std.proofs.Common.{arith, None, sym, subst, ap, refl, ◌∙◌, ◌≡◌}
 use Rattle.std.specs.Map.{lookup}
+use Rattle.graph_objects.specs.declared.slot.Slot.{Slot}
 use Rattle.graph_objects.specs.declared.slot.Side.TheVariants.{Held}
+use Rattle.graph_objects.specs.Slots.{AreSlots, set_on, wishes}
+use Rattle.graph_objects.specs.Marked.{AreMarked}
 use Rattle.graph_objects.proofs.KeyLemmas.{key_eq, key_same, key_itself}
 use Rattle.graph_objects.proofs.SlotLemmas.{none_of, not_absent, entry_at}
 use Rattle.graph_objects.proofs.ChangeLemmas.{take_slots, take_held, held_here, wishes_now}
+use Rattle.graph_objects.proofs.MarkedLemmas.{marks_after_write, fewer_after}
 use Rattle.graph_objects.proofs.changes.take.Goals as goal
 
 pub returns-in_default-clause-held : goal.returns-in_default-clause-held
@@ -15,18 +19,31 @@ returns-in_default-clause-held c =
 pub returns-clause-slots : goal.returns-clause-slots
 returns-clause-slots c =
     let es = c.args.slots.now.entries in
-    let at = entry_at key_eq key_same key_itself c.key_of.result es c.in-Some.index c.index_mut.result.now (sym c.in-Some.ensures.index) c.index_mut.ensures.value in
-    take_slots key_eq key_same key_itself es c.requires.slots c.get_index_of.ensures.unique c.in-Some.index c.key_of.result c.index_mut.result.now at c.args.object.now c.key_of.ensures
+    let at = entry_at key_eq key_same key_itself c.key_of.result es c.in-Some.index c.index.result.now (sym c.in-Some.ensures.index) c.index.ensures in
+    subst AreSlots (sym c.write.ensures.slots) (take_slots key_eq key_same key_itself es c.requires.slots c.get_index_of.ensures.unique c.in-Some.index c.key_of.result c.index.result.now at c.args.object.now c.key_of.ensures)
+
+pub returns-clause-marked : goal.returns-clause-marked
+returns-clause-marked c =
+    let es = c.args.slots.now.entries in
+    let s : Slot = c.index.result.now in
+    let w : Slot = record s { held = None } in
+    let at = entry_at key_eq key_same key_itself c.key_of.result es c.in-Some.index s (sym c.in-Some.ensures.index) c.index.ensures in
+    subst (AreMarked c.write.new.marks) (sym c.write.ensures.slots)
+    (marks_after_write es c.in-Some.index c.key_of.result s w at c.args.marks.now c.write.new.marks c.requires.marked c.write.ensures.mark
+    (fewer_after es c.in-Some.index c.key_of.result s w at (λ x h. cc h) refl) (λ x h on. cc h))
 
 pub returns-clause-held : goal.returns-clause-held
 returns-clause-held c =
     let es = c.args.slots.now.entries in
-    let at = entry_at key_eq key_same key_itself c.key_of.result es c.in-Some.index c.index_mut.result.now (sym c.in-Some.ensures.index) c.index_mut.ensures.value in
-    take_held key_eq key_same key_itself es c.requires.slots c.get_index_of.ensures.unique c.in-Some.index c.key_of.result c.index_mut.result.now at c.args.object.now c.key_of.ensures
-    (held_here key_eq key_same key_itself es c.requires.slots c.get_index_of.ensures.unique c.in-Some.index c.key_of.result c.index_mut.result.now at c.args.object.now c.key_of.ensures c.requires.held)
+    let at = entry_at key_eq key_same key_itself c.key_of.result es c.in-Some.index c.index.result.now (sym c.in-Some.ensures.index) c.index.ensures in
+    ap (set_on Held) c.write.ensures.slots ∙ take_held key_eq key_same key_itself es c.requires.slots c.get_index_of.ensures.unique c.in-Some.index c.key_of.result c.index.result.now at c.args.object.now c.key_of.ensures
+    (held_here key_eq key_same key_itself es c.requires.slots c.get_index_of.ensures.unique c.in-Some.index c.key_of.result c.index.result.now at c.args.object.now c.key_of.ensures c.requires.held)
 
 pub returns-clause-wishes : goal.returns-clause-wishes
 returns-clause-wishes c =
     let es = c.args.slots.now.entries in
-    let at = entry_at key_eq key_same key_itself c.key_of.result es c.in-Some.index c.index_mut.result.now (sym c.in-Some.ensures.index) c.index_mut.ensures.value in
-    wishes_now key_eq key_same key_itself es c.requires.slots c.get_index_of.ensures.unique c.in-Some.index c.key_of.result c.index_mut.result.now at None
+    let at = entry_at key_eq key_same key_itself c.key_of.result es c.in-Some.index c.index.result.now (sym c.in-Some.ensures.index) c.index.ensures in
+    ap wishes c.write.ensures.slots ∙ wishes_now key_eq key_same key_itself es c.requires.slots c.get_index_of.ensures.unique c.in-Some.index c.key_of.result c.index.result.now at None
+
+pub write-requires-clause-room : goal.write-requires-clause-room
+write-requires-clause-room c = omega (arith, c.in-Some.ensures.within, c.requires.marked.room)

@@ -1,7 +1,8 @@
-use Rattle.std.proofs.Common.{ap, refl, sym, subst}
+use Rattle.std.proofs.Common.{arith, Some, ap, refl, sym, subst}
 use Rattle.graph_objects.specs.Slots.{AreSlots, wishes}
 use Rattle.graph_objects.specs.Keys.{key_of}
 use Rattle.graph_objects.proofs.GrowLemmas.{within, kept_slots, kept_held, kept_wishes}
+use Rattle.graph_objects.proofs.MarkedLemmas.{size_stays}
 use Rattle.graph_objects.proofs.growth.keep.Goals as goal
 
 pub index_mut-requires : goal.index_mut-requires
@@ -21,3 +22,6 @@ returns-in_err-index-clause-slots c = subst AreSlots (sym c.in_err-index.ensures
 
 pub returns-in_err-index-clause-wishes : goal.returns-in_err-index-clause-wishes
 returns-in_err-index-clause-wishes c = ap wishes c.in_err-index.ensures.err
+
+pub returns-clause-room : goal.returns-clause-room
+returns-clause-room c = omega (arith, size_stays c.slot_for.new.slots.entries c.in_ok-index.index (record c.index_mut.result.now { held = Some c.args.object.now }), c.in_ok-index.ensures.room)

@@ -15,3 +15,6 @@ returns-clause-ok c = subst (λ (m : Marks). OnOk c.expect.result (HasMore m.wis
 
 pub returns-clause-err : goal.returns-clause-err
 returns-clause-err c = subst (λ (m : Marks). OnErr c.expect.result (wishes c.expect.new.slots.entries ≡ m.wishes)) c.self.view_is c.expect.ensures.err
+
+pub invariant_of-self : goal.invariant_of-self
+invariant_of-self c = record { slots = c.expect.ensures.slots; marked = c.expect.ensures.marked }

@@ -13,3 +13,6 @@ returns-clause-ok c = subst (λ (m : Marks). OnOk c.keep_all.result (set_on Held
 
 pub returns-clause-wishes : goal.returns-clause-wishes
 returns-clause-wishes c = c.keep_all.ensures.wishes ∙ ap (λ (m : Marks). m.wishes) c.self.view_is
+
+pub invariant_of-self : goal.invariant_of-self
+invariant_of-self c = record { slots = c.keep_all.ensures.slots; marked = c.keep_all.ensures.marked }

@@ -8,3 +8,6 @@ returns-clause-held c = c.leave.ensures.held ∙ ap (λ (m : Marks). gone (held_
 
 pub returns-clause-wishes : goal.returns-clause-wishes
 returns-clause-wishes c = c.leave.ensures.wishes ∙ ap (λ (m : Marks). m.wishes) c.self.view_is
+
+pub invariant_of-self : goal.invariant_of-self
+invariant_of-self c = record { slots = c.leave.ensures.slots; marked = c.leave.ensures.marked }

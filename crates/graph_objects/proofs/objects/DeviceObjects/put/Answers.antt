@@ -19,3 +19,6 @@ returns-clause-held c = c.put.ensures.held ∙ ap (λ (m : Marks). after_call (h
 
 pub returns-clause-wishes : goal.returns-clause-wishes
 returns-clause-wishes c = c.put.ensures.wishes ∙ ap (λ (m : Marks). m.wishes) c.self.view_is
+
+pub invariant_of-self : goal.invariant_of-self
+invariant_of-self c = record { slots = c.put.ensures.slots; marked = c.put.ensures.marked }

@@ -12,3 +12,6 @@ returns-clause-held c = c.take.ensures.held ∙ ap (λ (m : Marks). set.remove (
 
 pub returns-clause-wishes : goal.returns-clause-wishes
 returns-clause-wishes c = c.take.ensures.wishes ∙ ap (λ (m : Marks). m.wishes) c.self.view_is
+
+pub invariant_of-self : goal.invariant_of-self
+invariant_of-self c = record { slots = c.take.ensures.slots; marked = c.take.ensures.marked }
