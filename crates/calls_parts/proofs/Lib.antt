@@ -1,0 +1,5 @@
+pub mod SplitLemmas
+pub mod PartLemmas
+pub mod UpperLemmas
+pub mod FollowLemmas
+pub mod CountLemmas
