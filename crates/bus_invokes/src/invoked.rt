@@ -7,7 +7,7 @@ ghost use Rattle.bus_table.specs.Frames.{is_set};
 ghost use Rattle.bus_table.specs.Calls as calls;
 ghost use Rattle.bus_outbox.specs.Fits.{fits};
 ghost use Rattle.bus_state.specs.State.{table_of};
-ghost use Rattle.bus_state.specs.Change.{changed, IsNumbered};
+ghost use Rattle.bus_state.specs.Change.{changed, IsPossible};
 ghost use Rattle.bus_plans.specs.Plan.{Plans};
 
 use crate::events::event;
@@ -267,7 +267,7 @@ fn opening(client: &Client, request: &Frame, object: u32) -> Change
     ensures table { (table : TableRow) → table.place ≡ 0 → changed table result
         ≡ (if is_set request.now.no_reply then table
         else spec.with_call table (calls.call_on table client.now request.now object)) }
-    ensures numbered { (table : TableRow) → IsNumbered table result }
+    ensures possible { (table : TableRow) → IsPossible table result }
 {
     if is_set(request.no_reply) {
         return Change::Nothing;

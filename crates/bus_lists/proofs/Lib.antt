@@ -6,3 +6,5 @@ pub mod NamedLemmas
 pub mod PlaceLemmas
 pub mod PairLemmas
 pub mod SubscriptionLemmas
+pub mod ObjectLemmas
+pub mod PathLemmas

@@ -25,7 +25,7 @@ rises number (row ∷ rows) climb zero (suc j) d lower within = All-get_or (λ o
 rises number (row ∷ rows) climb (suc i) zero d lower within = absurd (omega arith)
 rises number (row ∷ rows) climb (suc i) (suc j) d lower within = rises number rows climb.1 i j d (omega arith) (omega arith)
 
-climbs_filtered : {X : Type 0} (number : X → ℕ) (p : X → Bool) (rows : List X) → Climbs number rows → Climbs number (filter p rows)
+pub climbs_filtered : {X : Type 0} (number : X → ℕ) (p : X → Bool) (rows : List X) → Climbs number rows → Climbs number (filter p rows)
 climbs_filtered number p [] climb = tt
 climbs_filtered {X} number p (row ∷ rows) climb = by_test (p row) (climbs_filtered number p rows climb.1)
   where
@@ -43,6 +43,10 @@ rising_pushed number rows next last rising is = (
   rises number (rows ++ last ∷ []) (climbs_pushed number rows last (climbs number rows rising.0) (λ k d within. let below = rising.1 k d within in omega (arith, below, is))),
   All-push (λ row. number row < number last + 1) rows last (λ k d within. let below = rising.1 k d within in omega (arith, below, is)) (omega arith),
 )
+
+-- all are below one of the next number
+pub all_below : {X : Type 0} (number : X → ℕ) (rows : List X) (next : ℕ) (last : X) → IsRising number rows next → number last ≡ next → All (λ row. number row < number last) rows
+all_below number rows next last rising is = λ k d within. let below = rising.1 k d within in omega (arith, below, is)
 
 -- rows that pass a test
 pub rising_filtered : {X : Type 0} (number : X → ℕ) (p : X → Bool) (rows : List X) (next : ℕ) → IsRising number rows next → IsRising number (filter p rows) next

@@ -1,5 +1,5 @@
 -- Subscriptions and the pairs that they are kept as.
-use Rattle.std.proofs.Common.{arith, ℕ, ◌≡◌, ◌==◌, List, [], ◌∷◌, ◌++◌, map, Bool, true, false, not, cond, refl, ap, sym, ◌∙◌}
+use Rattle.std.proofs.Common.{arith, ℕ, ◌≡◌, ◌==◌, List, [], ◌∷◌, map, Bool, true, false, not, cond, refl, ap, sym, ◌∙◌}
 use Rattle.std.specs.Prelude.{if◌then◌else◌, ◌&&◌, ◌||◌, filter}
 use Rattle.std.specs.Ordering.{nat_cmp}
 use Rattle.std.specs.List.{list_any}

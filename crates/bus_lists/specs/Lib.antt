@@ -12,3 +12,5 @@ pub mod Rising
 pub mod Pairs
 -- how subscriptions are kept
 pub mod SubscriptionRows
+-- objects by path
+pub mod Paths

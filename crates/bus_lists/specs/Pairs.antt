@@ -5,6 +5,7 @@ use Rattle.std.specs.Ordering.{nat_cmp, ordering_then}
 use Rattle.std.specs.declared.cmp.Ordering.{Ordering}
 use Rattle.std.specs.BTreeMap.{is_at}
 use Rattle.std.specs.BTreeSet.{BTreeSet, contains}
+use Rattle.bus_table.specs.declared.rows.Object.{Object}
 
 -- by the first number, and then by the second
 abbrev pub pair_cmp : ℕ × ℕ → ℕ × ℕ → Ordering
@@ -21,3 +22,11 @@ seconds_in first pairs = map (λ (pair : ℕ × ℕ). pair.1) (filter (has_first
 -- the set has the pairs of the list
 abbrev pub HasPairs : BTreeSet (ℕ × ℕ) → List (ℕ × ℕ) → Type 0
 HasPairs set pairs = (pair : ℕ × ℕ) → contains pair_cmp set pair ≡ list_any (is_at (pair_cmp pair)) pairs
+
+-- the owner of an object, and its number
+abbrev pub owner_pair : Object → ℕ × ℕ
+owner_pair object = (object.owner, object.number)
+
+-- the type of an object, and its number
+abbrev pub type_pair : Object → ℕ × ℕ
+type_pair object = (object.objtype, object.number)

@@ -228,7 +228,7 @@ fn place_numbered(calls: &[OpenCall], number: u64) -> Option<usize>
 }
 
 /// The place, where it is the right one.
-fn place_if(is_right: bool, place: usize) -> Option<usize>
+pub(crate) fn place_if(is_right: bool, place: usize) -> Option<usize>
     ensures { result ≡ (if is_right then Some place else None) }
 {
     if is_right { Some(place) } else { None }

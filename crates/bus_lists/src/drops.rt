@@ -1,10 +1,9 @@
 ghost use Rattle.std.specs.Prelude.{◌≡◌, ◌==◌, filter, not};
 ghost use Rattle.bus_table.specs.declared.rows.Client.{Client as ClientRow};
 ghost use Rattle.bus_table.specs.declared.rows.Registration.{Registration as RegistrationRow};
-ghost use Rattle.bus_table.specs.Table.{has_number};
 ghost use Rattle.bus_lists.specs.Among as among;
 
-use bus_table::{Client, Object, Registration};
+use bus_table::{Client, Registration};
 
 /// Whether the number is one of these.
 pub fn is_among(numbers: &[u32], number: u32) -> bool
@@ -13,27 +12,12 @@ pub fn is_among(numbers: &[u32], number: u32) -> bool
     numbers.iter().any(|n| *n == number)
 }
 
-/// Drops the object of a number.
-pub(crate) fn drop_numbered(objects: &mut Vec<Object>, number: u32)
-    ensures { objects.new.items
-        ≡ filter (λ object. not (has_number number object)) objects.old.items }
-{
-    objects.retain(|object| object.number != number);
-}
-
 /// Drops the registrations of an object.
 pub fn drop_registered(registrations: &mut Vec<Registration>, number: u32)
     ensures { registrations.new.items
         ≡ filter (λ (r : RegistrationRow). not (r.object == number)) registrations.old.items }
 {
     registrations.retain(|r| r.object != number);
-}
-
-/// Drops the objects of these numbers.
-pub(crate) fn drop_among(objects: &mut Vec<Object>, numbers: &[u32])
-    ensures { objects.new.items ≡ among.objects_but numbers.now objects.old.items }
-{
-    objects.retain(|object| !is_among(numbers, object.number));
 }
 
 /// Drops the registrations of the objects of these numbers.

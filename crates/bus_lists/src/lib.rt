@@ -9,6 +9,7 @@ mod numbers;
 mod object_rows;
 mod own_objects;
 mod pairs;
+mod paths;
 mod rows;
 mod subscription_rows;
 mod subscriptions;
@@ -20,7 +21,5 @@ pub use drops::{drop_registered, drop_registered_among, is_among};
 pub use numbers::ordered_numbers;
 pub use object_rows::ObjectRows;
 pub use own_objects::OwnObjects;
-pub use rows::{
-    EVENT_OBJECT, NO_CLIENT, find_of_type, is_local, path_of, some_has_path, some_has_type,
-};
+pub use rows::{EVENT_OBJECT, NO_CLIENT, find_of_type, has_path, has_type, is_local, path_of};
 pub use subscription_rows::SubscriptionRows;

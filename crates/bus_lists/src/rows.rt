@@ -1,5 +1,5 @@
 //! Rows found by their numbers.
-ghost use Rattle.std.specs.Prelude.{◌≡◌, ◌==◌, ◌&&◌, ◌++◌, filter, not};
+ghost use Rattle.std.specs.Prelude.{◌≡◌, ◌==◌};
 ghost use Rattle.std.specs.Option.{option_copied};
 ghost use Rattle.std.specs.List.{find, list_any};
 ghost use Rattle.bus_table.specs.declared.rows.Object.{Object as ObjectRow};
@@ -33,50 +33,20 @@ pub fn find_of_type(objects: &[Object], objtype: u32) -> Option<&Object>
     objects.iter().find(|object| object.objtype == objtype)
 }
 
-/// Whether an object of one of two lists has the path.
-#[tactic(auto, using(crate::proofs::ListLemmas::any_first, crate::proofs::ListLemmas::any_later))]
-pub fn some_has_path(own: &[Object], objects: &[Object], path: &[u8]) -> bool
-    ensures { result ≡ list_any (λ (object : ObjectRow). is_path_of path.now object.path)
-        (own.now ++ objects.now) }
-{
-    has_path(own, path) || has_path(objects, path)
-}
-
-fn has_path(objects: &[Object], path: &[u8]) -> bool
+/// Whether an object has the path.
+pub fn has_path(objects: &[Object], path: &[u8]) -> bool
     ensures { result
         ≡ list_any (λ (object : ObjectRow). is_path_of path.now object.path) objects.now }
 {
     objects.iter().any(|object| is_path_of(path, &object.path))
 }
 
-/// Whether an object of one of two lists has the type; an object that leaves does not count in the second list.
-#[tactic(auto, using(crate::proofs::ListLemmas::any_first, crate::proofs::ListLemmas::any_later))]
-pub fn some_has_type(own: &[Object], objects: &[Object], left: u32, objtype: u32) -> bool
-    ensures { result ≡ list_any (λ (object : ObjectRow). object.objtype == objtype)
-        (own.now ++ filter (λ object. not (has_number left object)) objects.now) }
-{
-    has_type(own, objtype) || has_type_but(objects, left, objtype)
-}
-
-fn has_type(objects: &[Object], objtype: u32) -> bool
+/// Whether an object has the type.
+pub fn has_type(objects: &[Object], objtype: u32) -> bool
     ensures { result
         ≡ list_any (λ (object : ObjectRow). object.objtype == objtype) objects.now }
 {
     objects.iter().any(|object| object.objtype == objtype)
-}
-
-fn has_type_but(objects: &[Object], left: u32, objtype: u32) -> bool
-    ensures { result ≡ list_any (λ (object : ObjectRow). object.objtype == objtype)
-        (filter (λ object. not (has_number left object)) objects.now) }
-{
-    is_type_of_another(objects, left, objtype)
-}
-
-fn is_type_of_another(objects: &[Object], left: u32, objtype: u32) -> bool
-    ensures { result ≡ list_any (λ (object : ObjectRow).
-        not (has_number left object) && object.objtype == objtype) objects.now }
-{
-    objects.iter().any(|object| object.number != left && object.objtype == objtype)
 }
 
 fn is_path_of(path: &[u8], other: &Option<Text>) -> bool

@@ -8,7 +8,7 @@ use Rattle.bus_table.specs.Frames.{to_owner}
 use Rattle.bus_table.specs.Calls.{opened, passed_on, told_subscribers}
 use Rattle.bus_table.specs.Refusal.{Step, says}
 use Rattle.bus_outbox.specs.Out.{out_of}
-use Rattle.bus_state.specs.Change.{changed, IsNumbered}
+use Rattle.bus_state.specs.Change.{changed, IsPossible}
 use Rattle.bus_plans.specs.declared.plan.Plan.{Plan}
 
 -- the plan is for this step
@@ -16,7 +16,7 @@ pub record Plans (step : Step) (before : Table) (plan : Plan) : Type 0 where
   pub table : changed before plan.change ≡ step.table
   pub sent : plan.out ≡ out_of step.sent
   pub handed : plan.call ≡ step.local
-  pub numbered : IsNumbered before plan.change
+  pub possible : IsPossible before plan.change
 
 -- a NOTIFY of an object with these subscribers
 abbrev pub notified_to : (Frame → Bool) → Table → Client → Frame → ℕ → List ℕ → Step

@@ -1,7 +1,11 @@
-ghost use Rattle.std.specs.Prelude.{◌≡◌, ◌++◌, ◌∷◌, List, IfOk, OnOk, map, filter};
+ghost use Rattle.std.specs.Prelude.{◌≡◌, ◌++◌, ◌∷◌, [], List, ℕ, IfOk, IfSome, OnOk, false, map, filter};
+ghost use Rattle.std.specs.Option.{option_copied, option_to_list};
 ghost use Rattle.plane_words.specs.InOrder.{ordered};
+ghost use Rattle.plane_words.specs.Pattern.{fits_front};
 ghost use Rattle.bus_table.specs.declared.rows.Object.{Object as ObjectRow};
 ghost use Rattle.bus_table.specs.Asked as spec;
+ghost use Rattle.bus_table.specs.Table.{same_text};
+ghost use Rattle.bus_lists.specs.Paths.{has_path};
 ghost use Rattle.bus_outbox.specs.Fits.{fits};
 ghost use Rattle.bus_outbox.specs.Out.{out_of};
 ghost use Rattle.bus_state.specs.State.{table_of};
@@ -47,9 +51,71 @@ fn descriptions(bus: &Bus, request: &Frame) -> Result<Vec<Frame>, Memory>
         (spec.asked_for (table_of bus.now) request.now.path)) }
 {
     let mut told = Vec::new(bus.alloc);
-    describe(bus.alloc, &mut told, request, &bus.objects.rows)?;
+    describe_clients(bus, &mut told, request)?;
     describe(bus.alloc, &mut told, request, bus.own.local())?;
     Ok(told)
+}
+
+/// Adds what is told of clients' objects, where nothing was told. Of a single path no other object is looked at.
+fn describe_clients(bus: &Bus, told: &mut Vec<Frame>, request: &Frame) -> Result<(), Memory>
+    ensures { told.old.items ≡ [] → OnOk result (told.new.items ≡ map (spec.description request.now)
+        (ordered spec.by_path
+        (filter (spec.is_asked request.now.path) (table_of bus.now).objects))) }
+{
+    match single(&request.path) {
+        Some(path) => describe_found(bus.alloc, told, request, bus.objects.find_of_path(path)),
+        None => describe(bus.alloc, told, request, &bus.objects.rows),
+    }
+}
+
+/// The path that is asked for, where it is a single one.
+fn single(pattern: &Option<Text>) -> Option<&Text>
+    ensures { IfSome result (λ path. (object : ObjectRow)
+        → spec.is_asked pattern.now object ≡ has_path path.now object) }
+{
+    match pattern {
+        Some(pattern) => if_single(pattern),
+        None => None,
+    }
+}
+
+/// The pattern, where it fits itself alone.
+fn if_single(pattern: &Text) -> Option<&Text>
+    ensures { IfSome result (λ path. (object : ObjectRow)
+        → spec.fits_path pattern.now object.path ≡ has_path path.now object) }
+{
+    if ends_with_star(pattern.as_bytes()) {
+        return None;
+    }
+    Some(pattern)
+}
+
+/// Whether the last byte is `*`; if not, the pattern fits itself alone.
+fn ends_with_star(pattern: &[u8]) -> bool
+    ensures { result ≡ false → (text : List ℕ)
+        → fits_front pattern.now text ≡ same_text pattern.now text }
+{
+    match pattern.split_last() {
+        Some((last, _front)) => *last == b'*',
+        None => false,
+    }
+}
+
+/// Adds what is told of an object that was found, where nothing was told.
+fn describe_found(
+    alloc: Global,
+    told: &mut Vec<Frame>,
+    request: &Frame,
+    object: Option<&Object>,
+) -> Result<(), Memory>
+    ensures { told.old.items ≡ [] → OnOk result (told.new.items ≡ map (spec.description request.now)
+        (ordered spec.by_path (filter (spec.is_asked request.now.path)
+        (option_to_list (option_copied object.entry))))) }
+{
+    match object {
+        Some(object) => describe_one(alloc, told, request, object),
+        None => Ok(()),
+    }
 }
 
 /// Adds what is told of objects that stand before those that were told.

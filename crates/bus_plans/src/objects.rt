@@ -5,6 +5,7 @@ ghost use Rattle.bus_table.specs.Frames.{with_data};
 ghost use Rattle.bus_table.specs.Objects as spec;
 ghost use Rattle.bus_outbox.specs.Fits.{fits};
 ghost use Rattle.bus_outbox.specs.Out.{out_of};
+ghost use Rattle.bus_lists.specs.Paths.{IsFree};
 ghost use Rattle.bus_state.specs.State.{table_of};
 ghost use Rattle.bus_plans.specs.Plan.{Plans};
 
@@ -77,7 +78,7 @@ fn is_refused_path(bus: &Bus, path: &Option<Text>) -> bool
     ensures { result ≡ spec.is_refused_path (table_of bus.now) path.now }
 {
     match path {
-        Some(path) => path.as_bytes().is_empty() || bus.is_taken(path.as_bytes()),
+        Some(path) => path.as_bytes().is_empty() || bus.is_taken(path),
         None => false,
     }
 }
@@ -113,7 +114,8 @@ fn has_all_objects(bus: &Bus) -> bool
 }
 
 fn added(bus: &Bus, client: &Client, request: &Frame) -> Result<Plan, Memory>
-    requires { (table_of bus.now).next_object ≤ LAST_NUMBER }
+    requires last { (table_of bus.now).next_object ≤ LAST_NUMBER }
+    requires free { IsFree request.now.path (table_of bus.now).objects }
     ensures { IfOk result (λ plan. Plans
         (spec.added fits (table_of bus.now) client.now request.now
         (spec.new_object (table_of bus.now) client.now request.now)) (table_of bus.now) plan) }

@@ -4,6 +4,7 @@ use Rattle.bus_table.specs.Table.{Table, Call}
 use Rattle.bus_table.specs.Subscriptions.{without}
 use Rattle.bus_table.specs.Objects.{without_object}
 use Rattle.bus_lists.specs.Calls.{call_of, calls_of}
+use Rattle.bus_lists.specs.Paths.{IsFree}
 use Rattle.bus_state.specs.declared.change.Change.{Change}
 use Rattle.bus_state.specs.declared.change.Change.TheVariants.{Nothing, Adds, Removes, Subscribes, Unsubscribes, Registers, Opens, OpensAll, Closes}
 
@@ -23,14 +24,14 @@ changed table (Opens call) = record table { calls = table.calls ++ call_of call 
 changed table (OpensAll calls) = with_calls table (calls_of calls.items)
 changed table (Closes place) = record table { calls = remove table.calls place }
 
--- an object that is added has the next number
-abbrev pub IsNumbered : Table → Change → Type 0
-IsNumbered table Nothing = ⊤
-IsNumbered table (Adds object) = object.number ≡ table.next_object
-IsNumbered table (Removes number) = ⊤
-IsNumbered table (Subscribes subscription) = ⊤
-IsNumbered table (Unsubscribes subscription) = ⊤
-IsNumbered table (Registers registration) = ⊤
-IsNumbered table (Opens call) = ⊤
-IsNumbered table (OpensAll calls) = ⊤
-IsNumbered table (Closes place) = ⊤
+-- the change can be done: an object that is added has the next number, and a path that is free
+abbrev pub IsPossible : Table → Change → Type 0
+IsPossible table Nothing = ⊤
+IsPossible table (Adds object) = (object.number ≡ table.next_object) × IsFree object.path table.objects
+IsPossible table (Removes number) = ⊤
+IsPossible table (Subscribes subscription) = ⊤
+IsPossible table (Unsubscribes subscription) = ⊤
+IsPossible table (Registers registration) = ⊤
+IsPossible table (Opens call) = ⊤
+IsPossible table (OpensAll calls) = ⊤
+IsPossible table (Closes place) = ⊤

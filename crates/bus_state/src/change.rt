@@ -1,7 +1,8 @@
 ghost use Rattle.std.specs.Prelude.{◌≡◌, OnOk, OnErr};
 ghost use Rattle.bus_table.specs.Objects.{without_object};
 ghost use Rattle.bus_lists.specs.Calls.{calls_of};
-ghost use Rattle.bus_state.specs.Change.{changed, with_calls, IsNumbered};
+ghost use Rattle.bus_lists.specs.Paths.{IsFree};
+ghost use Rattle.bus_state.specs.Change.{changed, with_calls, IsPossible};
 ghost use Rattle.bus_state.specs.State.{table_of};
 ghost use Rattle.bus_state.specs.declared.change.Change.TheVariants.{Adds, Opens};
 
@@ -28,7 +29,7 @@ pub enum Change {
 impl Bus {
     /// Does a change. Where there is not enough memory, the bus stays.
     pub fn change(&mut self, change: Change) -> Result<(), Memory>
-        requires { IsNumbered (table_of self.old) change }
+        requires { IsPossible (table_of self.old) change }
         ensures ok { OnOk result (table_of self.new ≡ changed (table_of self.old) change) }
         ensures err { OnErr result (table_of self.new ≡ table_of self.old) }
     {
@@ -58,7 +59,8 @@ impl Bus {
     }
 
     fn add_object(&mut self, object: Object) -> Result<(), Memory>
-        requires { object.number ≡ (table_of self.old).next_object }
+        requires next { object.number ≡ (table_of self.old).next_object }
+        requires free { IsFree object.path (table_of self.old).objects }
         ensures ok { OnOk result (table_of self.new ≡ changed (table_of self.old) (Adds object)) }
         ensures err { OnErr result (table_of self.new ≡ table_of self.old) }
     {

@@ -1,6 +1,5 @@
 ghost use Rattle.std.specs.Prelude.{◌≡◌, ◌++◌, ◌==◌, ◌&&◌, [], false, Some, OnOk, IfOk, if◌then◌else◌, not, map, filter};
 ghost use Rattle.std.specs.List.{flat_map};
-ghost use Rattle.bus_table.specs.declared.rows.Object.{Object as ObjectRow};
 ghost use Rattle.bus_table.specs.Table.{owner_of};
 ghost use Rattle.bus_table.specs.Frames as frames;
 ghost use Rattle.bus_table.specs.Frames.{to_owner};
@@ -18,7 +17,6 @@ use crate::Bus;
 use bus_lists::{OpenCall, SubscriptionRows, drop_calls_on, drop_registered_among, forget_calls};
 use bus_messages::{active, call_status, gone as farewell};
 use bus_outbox::{Outgoing, send_to};
-use bus_table::Object;
 use plane_io::{Items, Memory};
 use std::alloc::Global;
 
@@ -197,21 +195,8 @@ impl Bus {
         ensures { IfOk result (λ numbers. numbers.items
             ≡ clients.numbers_of (table_of self.now) client) }
     {
-        owned_numbers(self.alloc, &self.objects.rows, client)
+        self.objects.numbers_of(self.alloc, client)
     }
-}
-
-fn owned_numbers(alloc: Global, objects: &[Object], client: u32) -> Result<Vec<u32>, Memory>
-    ensures { IfOk result (λ numbers. numbers.items ≡ map (λ (object : ObjectRow). object.number)
-        (filter (λ (object : ObjectRow). object.owner == client) objects.now)) }
-{
-    let mut numbers = Vec::new(alloc);
-    for object in objects {
-        if object.owner == client {
-            numbers.push(object.number)?;
-        }
-    }
-    Ok(numbers)
 }
 
 /// The open calls on an object that leaves get STATUS 10.

@@ -10,8 +10,9 @@ ghost use Rattle.bus_state.specs.Leaving.{partly};
 ghost use Rattle.bus_state.specs.State.{table_of};
 
 use crate::Bus;
-use bus_lists::{ObjectRows, find_of_type, is_among, some_has_path, some_has_type};
+use bus_lists::{ObjectRows, find_of_type, has_path, has_type, is_among};
 use bus_table::Object;
+use plane_io::Text;
 
 impl Bus {
     /// The object of a number.
@@ -66,23 +67,25 @@ impl Bus {
     {
         match find_of_type(self.own.local(), objtype) {
             Some(object) => Some(object),
-            None => find_of_type(&self.objects.rows, objtype),
+            None => self.objects.find_of_type(objtype),
         }
     }
 
     /// Whether an object has the path.
-    pub fn is_taken(&self, path: &[u8]) -> bool
+    #[tactic(auto, using(bus_lists::proofs::ListLemmas::any_first, bus_lists::proofs::ListLemmas::any_later))]
+    pub fn is_taken(&self, path: &Text) -> bool
         ensures { result ≡ table.is_taken (table_of self.now) path.now }
     {
-        some_has_path(self.own.local(), &self.objects.rows, path)
+        has_path(self.own.local(), path.as_bytes()) || self.objects.has_path(path)
     }
 
     /// Whether an object but this one has the type.
+    #[tactic(auto, using(bus_lists::proofs::ListLemmas::any_first, bus_lists::proofs::ListLemmas::any_later))]
     pub fn is_type_kept(&self, number: u32, objtype: u32) -> bool
         ensures { result ≡ list_any (λ (object : ObjectRow). object.objtype == objtype)
             (table.typed (without_object (table_of self.now) number)) }
     {
-        some_has_type(self.own.local(), &self.objects.rows, number, objtype)
+        has_type(self.own.local(), objtype) || self.objects.has_type_but(number, objtype)
     }
 
     /// The number of an object's owner, where these objects have left.

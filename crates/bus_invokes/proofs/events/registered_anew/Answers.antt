@@ -40,5 +40,5 @@ returns c =
       table = ap (λ (pattern : List ℕ). record table { registrations = kept ++ record { object = c.args.object; pattern = pattern } ∷ [] }) c.in_ok-pattern.ensures;
       sent = c.in_ok-out.ensures table client refl;
       handed = refl;
-      numbered = tt;
+      possible = tt;
     })

@@ -38,5 +38,5 @@ returns c =
           ∙ (ap (λ (out : List Outgoing). out ++ out_of (where_fits fits c.args.object.now.owner c.args.frame)) c.new-out.ensures
           ∙ ap (λ (frame : Frame). out_of (where_fits fits c.args.object.now.owner frame)) c.requires);
       handed = refl;
-      numbered = c.opening.ensures.numbered table;
+      possible = c.opening.ensures.possible table;
     }

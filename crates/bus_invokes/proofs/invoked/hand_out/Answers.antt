@@ -36,5 +36,5 @@ returns c =
       table = ap (λ (call : Call). with_call table call) (c.call_on.ensures table refl);
       sent = c.new.ensures;
       handed = ap Some c.in_ok-call.ensures;
-      numbered = tt;
+      possible = tt;
     }

@@ -1,35 +1,15 @@
-use Rattle.std.proofs.Common.{ℕ, ◌≡◌, ◌++◌, ◌==◌, List, [], ◌∷◌, Option, Some, None, Bool, true, false, not, IfOk, OnOk, refl, sym, ap, subst, ◌∙◌, append-nil}
-use Rattle.std.specs.Prelude.{◌&&◌, ◌||◌, if◌then◌else◌, codes, unwrap_or, remove}
-use Rattle.std.specs.Option.{option_copied}
-use Rattle.std.specs.List.{flat_map, position}
+use Rattle.std.proofs.Common.{◌≡◌, ◌==◌, List, [], None, true, IfOk, sym, ap, subst, ◌∙◌}
 use Rattle.ubus_frames.specs.declared.frame.Frame.{Frame}
-use Rattle.bus_table.specs.Table.{Table, Call, object_of, owner_of, of_type, typed, path_of}
-use Rattle.bus_table.specs.declared.rows.Client.{Client}
-use Rattle.bus_table.specs.declared.rows.Object.{Object}
-use Rattle.bus_table.specs.declared.rows.Subscription.{Subscription}
-use Rattle.bus_table.specs.Frames.{Sent, with_data, where_fits, to_owner, answer, is_set, call_data}
-use Rattle.bus_table.specs.Refusal.{Step, Refusal, says, refuses, refused, refused_if_asked, numbered, denial}
-use Rattle.bus_table.specs.Objects.{removes_named, removes_found, object_data, new_object, object_left, without_object, lost_type, told}
-use Rattle.bus_table.specs.Subscriptions.{subscribes_named, subscribes_found, unsubscribes_named, is_alone, activity, without, subscribers_of}
-use Rattle.bus_table.specs.Calls.{notifies_named, notifies_found, refuses_notify, passed_on, opened, call_on, is_answered, told_subscribers, subscribers_told}
-use Rattle.bus_outbox.specs.declared.outbox.Outgoing.{Outgoing}
+use Rattle.bus_table.specs.Table.{Table}
+use Rattle.bus_table.specs.Frames.{Sent}
+use Rattle.bus_table.specs.Refusal.{Step}
 use Rattle.bus_outbox.specs.Fits.{fits}
 use Rattle.bus_outbox.specs.Out.{out_of}
-use Rattle.bus_outbox.proofs.OutLemmas.{out_more}
-use Rattle.bus_lists.specs.declared.calls.OpenCall.{OpenCall}
-use Rattle.bus_lists.specs.Calls.{call_of, calls_of}
-use Rattle.bus_lists.proofs.ListLemmas.{none_found, position_of_map}
 use Rattle.bus_state.specs.State.{table_of}
-use Rattle.bus_state.specs.Change.{changed}
-use Rattle.bus_state.specs.declared.change.Change.TheVariants.{Adds}
-use Rattle.bus_plans.specs.Plan.{Plans, notified_to}
-use Rattle.bus_plans.proofs.PlanLemmas.{taken, passed, says_plan, planned_as, plan_for}
-use Rattle.std.proofs.Common.{map, arith}
-use Rattle.std.specs.Prelude.{filter, vec_len}
+use Rattle.std.proofs.Common.{arith}
+use Rattle.std.specs.Prelude.{vec_len}
 use Rattle.std.proofs.lemmas.Bool.Decides.{nat_tests}
-use Rattle.plane_words.specs.InOrder.{ordered}
-use Rattle.bus_table.specs.Table.{local_objects}
-use Rattle.bus_table.specs.Asked.{by_path, is_asked, description, asked_for}
+use Rattle.bus_table.specs.Asked.{asked_for}
 use Rattle.bus_plans.proofs.AskedLemmas.{told_nothing, empty_of}
 use Rattle.bus_plans.proofs.asked.look_up.Goals as goal
 

@@ -29,5 +29,5 @@ returns c =
           (c.in_ok-pass_on_all.ensures.calls ∙ ap (λ (calls : List OpenCall). calls_of calls ++ opened fits table client request subscribers) c.new-calls.ensures.items);
       sent = c.in_ok-pass_on_all.ensures.out ∙ (ap (λ (out : List Outgoing). out ++ out_of more) c.in_ok-out.ensures ∙ sym (out_more [] told more));
       handed = refl;
-      numbered = tt;
+      possible = tt;
     }

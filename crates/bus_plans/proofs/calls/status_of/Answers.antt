@@ -31,5 +31,5 @@ returns c = λ table. record {
   table = refl;
   sent = c.in_ok-push.ensures.ok ∙ (ap (λ (out : List Outgoing). out ++ c.told.result ∷ []) c.new-out.ensures ∙ ap (λ (o : Outgoing). o ∷ []) c.told.ensures);
   handed = refl;
-  numbered = tt;
+  possible = tt;
 }

@@ -23,7 +23,7 @@ use Rattle.bus_state.specs.State.{table_of}
 use Rattle.bus_state.specs.Change.{changed}
 use Rattle.bus_state.specs.declared.change.Change.TheVariants.{Adds}
 use Rattle.bus_plans.specs.Plan.{Plans, notified_to}
-use Rattle.bus_plans.proofs.PlanLemmas.{taken, passed, says_plan, planned_as, plan_for}
+use Rattle.bus_plans.proofs.PlanLemmas.{free_path, taken, passed, says_plan, planned_as, plan_for}
 use Rattle.bus_plans.proofs.objects.add_allowed.Goals as goal
 
 pub returns-then-has_all_objects : goal.returns-then-has_all_objects
@@ -41,3 +41,6 @@ returns c =
     let request : Frame = c.args.request.now in
     planned_as c.added.result table _ _ c.added.ensures
     (passed _ c.requires.good ∙ (passed _ (ap not c.requires.allowed) ∙ passed _ (sym c.if-has_all_objects.ensures.full)))
+
+pub added-requires-clause-free : goal.added-requires-clause-free
+added-requires-clause-free c = free_path (table_of c.args.bus.now) c.args.request.now.path _ c.requires.good

@@ -18,6 +18,7 @@ use Rattle.bus_outbox.specs.Out.{out_of}
 use Rattle.bus_outbox.proofs.OutLemmas.{out_more}
 use Rattle.bus_lists.specs.declared.calls.OpenCall.{OpenCall}
 use Rattle.bus_lists.specs.Calls.{call_of, calls_of}
+use Rattle.bus_lists.specs.Paths.{IsFree}
 use Rattle.bus_lists.proofs.ListLemmas.{none_found, position_of_map}
 use Rattle.bus_state.specs.State.{table_of}
 use Rattle.bus_state.specs.Change.{changed}
@@ -35,5 +36,5 @@ returns c =
       table = ap (λ (object : Object). changed table (Adds object)) c.in_ok-object.ensures;
       sent = c.in_ok-out.ensures ∙ ap (λ (object : Object). out_of (with_data fits client.number request (object_data request object.number (Some object.objtype) ∷ []))) c.in_ok-object.ensures;
       handed = refl;
-      numbered = ap (λ (object : Object). object.number) c.in_ok-object.ensures;
+      possible = (ap (λ (object : Object). object.number) c.in_ok-object.ensures, subst (λ (object : Object). IsFree object.path table.objects) (sym c.in_ok-object.ensures) c.requires.free);
     }

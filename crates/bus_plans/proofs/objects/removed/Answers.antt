@@ -42,5 +42,5 @@ returns c =
           ∙ (ap (λ (fs : List Frame). out_of left.sent ++ out_of (with_data fits client.number request fs)) c.in_ok-frames.ensures
           ∙ sym (out_more [] left.sent (with_data fits client.number request lost))));
       handed = refl;
-      numbered = tt;
+      possible = tt;
     }

@@ -38,5 +38,5 @@ returns c =
       table = refl;
       sent = c.in_ok-tell_first.ensures ∙ ap (λ (out : List Outgoing). out ++ out_of more) c.in_ok-out.ensures;
       handed = refl;
-      numbered = tt;
+      possible = tt;
     })

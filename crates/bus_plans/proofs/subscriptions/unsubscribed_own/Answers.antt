@@ -39,5 +39,5 @@ returns c =
       table = refl;
       sent = c.in_ok-tell_last.ensures ∙ ap (λ (out : List Outgoing). out ++ out_of more) c.in_ok-out.ensures;
       handed = refl;
-      numbered = tt;
+      possible = tt;
     })

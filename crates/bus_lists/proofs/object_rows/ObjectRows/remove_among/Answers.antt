@@ -1,12 +1,18 @@
-use Rattle.std.proofs.Common.{List, sym, subst, not}
+use Rattle.std.proofs.Common.{ℕ, get_or, List, not, true, filter, refl, sym, ap, ◌∙◌}
 use Rattle.bus_table.specs.declared.rows.Object.{Object}
-use Rattle.bus_lists.specs.Among.{is_among}
-use Rattle.bus_lists.specs.Rising.{IsRising, object_number}
-use Rattle.bus_lists.proofs.RisingLemmas.{rising_filtered}
+use Rattle.bus_table.specs.Table.{has_number}
+use Rattle.bus_lists.proofs.ListLemmas.{filter_every}
+use Rattle.bus_lists.proofs.ObjectLemmas.{but_more}
 use Rattle.bus_lists.proofs.object_rows.ObjectRows.remove_among.Goals as goal
 
-pub invariant_of-self : goal.invariant_of-self
-invariant_of-self c = record {
-  rising = subst (λ (rows : List Object). IsRising object_number rows c.args.self.now.next) (sym c.drop_among.ensures)
-      (rising_filtered object_number (λ (object : Object). not (is_among c.args.numbers.now object.number)) c.args.self.now.rows.items c.args.self.now.next c.args.self.now.rising);
-}
+pub loop-number-init : goal.loop-number-init
+loop-number-init c = record { rows = sym (filter_every (λ (object : Object). true) (λ object. refl) c.args.self.now.rows.items); next = refl }
+
+pub loop-number-preserved : goal.loop-number-preserved
+loop-number-preserved c =
+    let numbers : List ℕ = c.args.numbers.now in
+    let index : ℕ = c.loop-number.number-index in
+    record {
+      rows = c.remove.ensures.rows ∙ ap (filter (λ (object : Object). not (has_number (get_or numbers index 0) object))) c.loop-number.invariant.rows ∙ but_more numbers index c.args.self.now.rows.items c.loop-number-test.true;
+      next = c.remove.ensures.next ∙ c.loop-number.invariant.next;
+    }
