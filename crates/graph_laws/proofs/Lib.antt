@@ -3,3 +3,8 @@ pub mod LoadLemmas
 pub mod RadioLemmas
 pub mod UsedLemmas
 pub mod EdgeLemmas
+pub mod BelowLemmas
+pub mod DeviceLemmas
+pub mod LowerLemmas
+pub mod StoodLemmas
+pub mod FallLemmas

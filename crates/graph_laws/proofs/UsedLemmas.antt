@@ -30,7 +30,7 @@ use Rattle.graph_laws.specs.Knowing.{KnowsRows}
 use Rattle.graph_laws.proofs.LoadLemmas.{read_sound}
 
 -- a name has a row, or that of a name without one
-row_or_less : (rows : List NameRow) (name : List ℕ) → Contains (map (λ (row : NameRow). row.name) rows) name ⊎ (row_at rows name ≡ rowless name)
+pub row_or_less : (rows : List NameRow) (name : List ℕ) → Contains (map (λ (row : NameRow). row.name) rows) name ⊎ (row_at rows name ≡ rowless name)
 row_or_less [] name = inr refl
 row_or_less (row ∷ rows) name = go (bytes_eq row.name name) refl (row_or_less rows name)
   where
