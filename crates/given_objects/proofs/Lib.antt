@@ -1,0 +1,10 @@
+pub mod KeyLemmas
+pub mod TableLemmas
+pub mod OrderLemmas
+pub mod FirstLemmas
+pub mod ChangeLemmas
+pub mod KeepLemmas
+pub mod PlaceLemmas
+pub mod CallLemmas
+pub mod DueLemmas
+pub mod KeptLemmas

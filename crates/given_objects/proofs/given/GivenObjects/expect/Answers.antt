@@ -1,0 +1,31 @@
+use Rattle.std.proofs.Common.{◌≡◌, false, ap, sym, subst, ◌∙◌}
+use Rattle.given_objects.specs.Gifts.{AreGifts, has_place}
+use Rattle.given_objects.specs.Changes.{with_place, empty_gift}
+use Rattle.given_objects.specs.Inside.{listed}
+use Rattle.given_objects.specs.declared.gift.Counts.{Counts}
+use Rattle.given_objects.proofs.TableLemmas.{key_of, has_looked, added, place_there, place_new}
+use Rattle.given_objects.proofs.KeepLemmas.{more_gifts}
+use Rattle.given_objects.proofs.given.GivenObjects.expect.Goals as goal
+
+pub returns-then-contains_key-clause-ok : goal.returns-then-contains_key-clause-ok
+returns-then-contains_key-clause-ok c =
+    let o = c.args.object.now in
+    place_there c.args.self.now o
+    (sym (ap (λ gs. has_place gs o) c.self.view_is) ∙ sym (has_looked (key_of o) c.self.inside.table.entries c.contains_key.result c.contains_key.ensures) ∙ c.if-contains_key.true)
+
+pub invariant_of-self-2 : goal.invariant_of-self-2
+invariant_of-self-2 c =
+    let o = c.args.object.now in
+    let es = c.self.inside.table.entries in
+    let off : has_place (listed es) o ≡ false = sym (has_looked (key_of o) es c.contains_key.result c.contains_key.ensures) ∙ c.if-contains_key.false in
+    let counts : Counts = record { givers = 0; held = false; falls = false } in
+    subst AreGifts (sym (ap listed c.in_ok-_none.ensures.entries ∙ added (key_of o) counts es off))
+    (more_gifts (listed es) (empty_gift o) off c.requires (c.has_form.ensures c.requires) c.self.invariant)
+
+pub returns-clause-ok : goal.returns-clause-ok
+returns-clause-ok c =
+    let o = c.args.object.now in
+    let es = c.self.inside.table.entries in
+    let off : has_place (listed es) o ≡ false = sym (has_looked (key_of o) es c.contains_key.result c.contains_key.ensures) ∙ c.if-contains_key.false in
+    let counts : Counts = record { givers = 0; held = false; falls = false } in
+    ap listed c.in_ok-_none.ensures.entries ∙ added (key_of o) counts es off ∙ place_new (listed es) o off ∙ ap (λ gs. with_place gs o) c.self.view_is

@@ -1,0 +1,36 @@
+use Rattle.std.proofs.Common.{arith, ◌+◌, ap, refl, sym, subst, ◌∙◌}
+use Rattle.given_objects.specs.declared.gift.Gift.{Gift}
+use Rattle.given_objects.specs.declared.gift.Counts.{Counts}
+use Rattle.given_objects.specs.Gifts.{AreGifts, givers_of}
+use Rattle.given_objects.specs.Changes.{given_once_more}
+use Rattle.given_objects.specs.Inside.{listed}
+use Rattle.given_objects.proofs.TableLemmas.{key_of, entry_at, written, givers_at, not_lacking}
+use Rattle.given_objects.proofs.KeepLemmas.{give_gifts}
+use Rattle.given_objects.proofs.given.GivenObjects.give.Goals as goal
+
+pub returns : goal.returns
+returns c =
+    let es = c.self.inside.table.entries in
+    let counts : Counts = c.index_mut.result.now in
+    written (λ (g : Gift). record g { givers = g.givers + 1 }) (key_of c.args.object.now) counts (record counts { givers = counts.givers + 1 }) refl es c.in-Some.place c.get_index_of.ensures.unique
+    (entry_at (key_of c.args.object.now) es c.in-Some.place counts (sym c.in-Some.ensures.index) c.index_mut.ensures.value)
+    ∙ ap (λ gs. given_once_more gs c.args.object.now) c.self.view_is
+
+pub invariant_of-self : goal.invariant_of-self
+invariant_of-self c =
+    let es = c.self.inside.table.entries in
+    let counts : Counts = c.index_mut.result.now in
+    subst AreGifts (sym (written (λ (g : Gift). record g { givers = g.givers + 1 }) (key_of c.args.object.now) counts (record counts { givers = counts.givers + 1 }) refl es c.in-Some.place c.get_index_of.ensures.unique
+    (entry_at (key_of c.args.object.now) es c.in-Some.place counts (sym c.in-Some.ensures.index) c.index_mut.ensures.value)))
+    (give_gifts (listed es) c.args.object.now c.self.invariant)
+
+pub returns-in_default : goal.returns-in_default
+returns-in_default c = absurd (not_lacking (key_of c.args.object.now) c.self.inside.table.entries _ c.self.view_is c.in_default.ensures.found c.requires.place)
+
+pub overflow_add-index_mut : goal.overflow_add-index_mut
+overflow_add-index_mut c =
+    let es = c.self.inside.table.entries in
+    let counts : Counts = c.index_mut.result.now in
+    let here = givers_at (key_of c.args.object.now) counts es c.in-Some.place c.get_index_of.ensures.unique (entry_at (key_of c.args.object.now) es c.in-Some.place counts (sym c.in-Some.ensures.index) c.index_mut.ensures.value) in
+    let same = ap (λ gs. givers_of gs c.args.object.now) c.self.view_is in
+    omega (arith, here, same, c.requires.few)

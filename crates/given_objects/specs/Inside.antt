@@ -1,0 +1,24 @@
+-- How gifts are kept: a table from objects to what is told of each.
+use Rattle.std.specs.Prelude.{List, map}
+use Rattle.given_objects.specs.declared.key.GiftKey.{GiftKey}
+use Rattle.given_objects.specs.declared.gift.Gift.{Gift}
+use Rattle.given_objects.specs.declared.gift.Counts.{Counts}
+use Rattle.given_objects.specs.declared.given.GivenObjects.TheInside.{Inside}
+use Rattle.given_objects.specs.Gifts.{Gifts, AreGifts}
+
+abbrev pub Entries : Type 0
+Entries = List (GiftKey × Counts)
+
+-- the gift of an entry
+abbrev pub gift_in : GiftKey × Counts → Gift
+gift_in e = record { object = e.0.0; givers = e.1.givers; held = e.1.held; falls = e.1.falls }
+
+abbrev pub listed : Entries → Gifts
+listed es = map gift_in es
+
+abbrev pub gifts_in : Inside → Gifts
+gifts_in given = listed given.table.entries
+
+-- what is kept are gifts
+abbrev pub IsKept : Inside → Type 0
+IsKept given = AreGifts (gifts_in given)
