@@ -8,7 +8,7 @@ use thiserror::Error;
 /// Why a step was not taken.
 #[derive(Clone, Copy, Debug, PartialEq, Eq, Error)]
 pub enum Refusal {
-    /// There was not enough memory. The graph is as it was.
+    /// There was not enough memory. The graph is as it was, but for the calls of a settling that a text had no room to tell.
     #[error("out of memory")]
     Memory,
     /// There is no graph yet.
@@ -26,6 +26,9 @@ pub enum Refusal {
     /// Radios may not have these ports.
     #[error("no ports of radios")]
     Ports,
+    /// More than 1,024 claims are told of a name.
+    #[error("too many claims")]
+    Claims,
     /// A call of the graph was refused, and the graph is not as it was.
     #[error("changed by a refused call")]
     Changed,

@@ -95,7 +95,8 @@ impl Session {
     ///
     /// # Errors
     ///
-    /// Why the step was not taken. The graph is then as it was, but for calls of which a text had no room to tell.
+    /// Why the step was not taken. The graph is then as it was, but where it is `Changed`, and but for the calls of a settling that a text
+    /// had no room to tell.
     pub fn take(&mut self, alloc: Global, step: Step) -> Result<Vec<u8>, Refusal> {
         match step {
             Step::New => {

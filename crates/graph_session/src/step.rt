@@ -7,9 +7,11 @@ pub enum Event {
     Present(bool),
     /// This device is there.
     Own(Device),
+    /// The device is gone.
     Absent,
+    /// The carrier of the device is on or off.
     Carrier(bool),
-    /// So many claim the name, at most 1024.
+    /// So many claim the name, at most 1,024.
     Claims(u32),
 }
 

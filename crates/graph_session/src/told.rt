@@ -39,7 +39,28 @@ fn tell_device<L: Ledger>(graph: &mut Graph, id: DevId, device: Device, steps: &
     graph.set_present(id, device.carrier, device.mtu, device.mac, steps);
 }
 
-fn tell_by<L: Ledger>(graph: &mut Graph, id: DevId, event: Event, blank: Blank)
+fn tell_claims<L: Ledger>(
+    graph: &mut Graph,
+    id: DevId,
+    claims: u32,
+    steps: &mut Steps<L>,
+) -> Result<(), Refusal>
+    requires { IsId graph.old id.0 }
+    ensures { AreAlike graph.old graph.new }
+{
+    if claims > 1024 {
+        return Err(Refusal::Claims);
+    }
+    graph.set_claim(id, claims, steps);
+    Ok(())
+}
+
+fn tell_by<L: Ledger>(
+    graph: &mut Graph,
+    id: DevId,
+    event: Event,
+    blank: Blank,
+) -> Result<(), Refusal>
     requires id { IsId graph.old id.0 }
     requires name { blank.name ≡ L.name }
     requires parts { blank.parts ≡ L.parts }
@@ -48,15 +69,23 @@ fn tell_by<L: Ledger>(graph: &mut Graph, id: DevId, event: Event, blank: Blank)
 {
     let mut steps = Steps::<L>::new(blank);
     match event {
-        Event::Present(carrier) => tell_device(graph, id, plain_device(carrier), &mut steps),
-        Event::Own(device) => tell_device(graph, id, device, &mut steps),
-        Event::Absent => graph.set_absent(id, &mut steps),
-        Event::Carrier(on) => graph.set_carrier(id, on, &mut steps),
-        Event::Claims(claims) => {
-            if claims <= 1024 {
-                graph.set_claim(id, claims, &mut steps);
-            }
+        Event::Present(carrier) => {
+            tell_device(graph, id, plain_device(carrier), &mut steps);
+            Ok(())
         }
+        Event::Own(device) => {
+            tell_device(graph, id, device, &mut steps);
+            Ok(())
+        }
+        Event::Absent => {
+            graph.set_absent(id, &mut steps);
+            Ok(())
+        }
+        Event::Carrier(on) => {
+            graph.set_carrier(id, on, &mut steps);
+            Ok(())
+        }
+        Event::Claims(claims) => tell_claims(graph, id, claims, &mut steps),
     }
 }
 
@@ -65,6 +94,5 @@ pub(crate) fn tell(graph: &mut Graph, text: &str, event: Event) -> Result<(), Re
     ensures { AreAlike graph.old graph.new }
 {
     let id = id_of(graph, text)?;
-    tell_by::<Brand>(graph, id, event, Blank::new(1));
-    Ok(())
+    tell_by::<Brand>(graph, id, event, Blank::new(1))
 }

@@ -1,5 +1,5 @@
 //! Steps with their answers.
-use graph_session::{Refusal, Session, Step};
+use graph_session::{Session, Step};
 use std::alloc::Global;
 use std::process::Abort;
 use std::test::Fail;
@@ -10,14 +10,6 @@ pub(crate) type Row<'a> = (Step<'a>, &'a str);
 /// The answer where nothing is due.
 pub(crate) const NOTHING: &str = "due 0\ndue 0\n";
 
-/// Takes a step, once more where it was refused for want of memory, which leaves the graph.
-pub(crate) fn take(session: &mut Session, alloc: Global, step: Step) -> Result<Vec<u8>, Refusal> {
-    match session.take(alloc, step) {
-        Err(Refusal::Memory) => session.take(alloc, step),
-        answer => answer,
-    }
-}
-
 /// The steps of a session have their answers, one after another.
 pub(crate) fn go_on(
     rt: &impl Abort,
@@ -27,7 +19,7 @@ pub(crate) fn go_on(
 ) -> Result<(), Fail> {
     for place in 0..rows.len() {
         let (step, answer) = rows[place];
-        let told = take(session, alloc, step)?;
+        let told = session.take(alloc, step)?;
         assert_eq!(rt; told.as_slice(), answer.as_bytes(), "row {place}");
     }
     Ok(())
