@@ -1,0 +1,9 @@
+pub mod PlaceLemmas
+pub mod RisingLemmas
+pub mod DeviceLemmas
+pub mod NameLemmas
+pub mod StandLemmas
+pub mod RoomLemmas
+pub mod AskLemmas
+pub mod EventLemmas
+pub mod FoundLemmas
