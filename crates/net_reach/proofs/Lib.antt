@@ -1,0 +1,4 @@
+pub mod SetLemmas
+pub mod GroupLemmas
+pub mod WalkLemmas
+pub mod ReachLemmas

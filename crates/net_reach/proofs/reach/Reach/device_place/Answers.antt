@@ -1,0 +1,5 @@
+use Rattle.std.proofs.Common.{◌∙◌}
+use Rattle.net_reach.proofs.reach.Reach.device_place.Goals as goal
+
+pub returns : goal.returns
+returns c = λ inputs is. c.place_of_name.ensures ∙ is.devices c.args.name.now

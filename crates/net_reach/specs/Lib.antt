@@ -1,0 +1,12 @@
+-- What reaches what, by name.
+
+-- places, each once, and the places of items that a test tells
+pub mod Places
+-- how places are kept
+pub mod PlaceInside
+-- lists of places by name
+pub mod Groups
+-- the walk up from a name
+pub mod Walk
+-- what reaches what
+pub mod Reach

@@ -1,0 +1,82 @@
+//! Lists of places by name.
+ghost use Rattle.std.specs.Prelude.{◌≡◌, ◌++◌, [], ◌∷◌, ℕ, List, None, if◌then◌else◌, OnOk, bytes_eq};
+ghost use Rattle.std.specs.BTreeMap.{get, is_at};
+ghost use Rattle.std.specs.Ordering.{nat_cmp};
+ghost use Rattle.std.specs.Cmp.Lexicographic.{slice_cmp};
+ghost use Rattle.net_view.specs.RadioPorts.{group_in};
+ghost use Rattle.net_reach.specs.Groups as spec;
+
+use kern_model::DevName;
+use plane_io::Memory;
+use std::alloc::Global;
+use std::collections::BTreeMap;
+
+/// The places of a name.
+pub(crate) fn places_at<'a>(
+    groups: &'a BTreeMap<DevName, Vec<usize>>,
+    name: &DevName,
+) -> &'a [usize]
+    ensures { result.now ≡ group_in groups.now name.now }
+{
+    match groups.get(name) {
+        Some(places) => places.as_slice(),
+        None => &[],
+    }
+}
+
+/// Adds a place to those of a name, at the end.
+pub(crate) fn add_place(
+    alloc: Global,
+    groups: &mut BTreeMap<DevName, Vec<usize>>,
+    name: &DevName,
+    place: usize,
+) -> Result<(), Memory>
+    ensures { OnOk result ((q : List ℕ) → group_in groups.new q
+        ≡ group_in groups.old q ++ (if bytes_eq name.now q then place ∷ [] else [])) }
+{
+    let mut group = take_group(alloc, groups, name);
+    group.push(place)?;
+    let _none = groups.insert(*name, group)?;
+    Ok(())
+}
+
+/// Adds a place to those of a name, at the end, where it is not the last of them.
+pub(crate) fn add_last(
+    alloc: Global,
+    groups: &mut BTreeMap<DevName, Vec<usize>>,
+    name: &DevName,
+    place: usize,
+) -> Result<(), Memory>
+    ensures { OnOk result ((q : List ℕ) → group_in groups.new q ≡ (if bytes_eq name.now q
+        then spec.with_last (group_in groups.old q) place else group_in groups.old q)) }
+{
+    if is_last(places_at(groups, name), place) {
+        return Ok(());
+    }
+    add_place(alloc, groups, name, place)
+}
+
+fn is_last(places: &[usize], place: usize) -> bool
+    ensures { result ≡ spec.is_last places.now place }
+{
+    match places.last() {
+        Some(last) => *last == place,
+        None => false,
+    }
+}
+
+// Takes the places of a name out of the map.
+fn take_group(
+    alloc: Global,
+    groups: &mut BTreeMap<DevName, Vec<usize>>,
+    name: &DevName,
+) -> Vec<usize>
+    ensures places { result.items ≡ group_in groups.old name.now }
+    ensures others { (q : List ℕ) → get (slice_cmp nat_cmp) groups.new q
+        ≡ (if is_at (slice_cmp nat_cmp name.now) q then None else get (slice_cmp nat_cmp) groups.old q) }
+{
+    match groups.remove(name) {
+        Some(group) => group,
+        None => Vec::new(alloc),
+    }
+}
