@@ -1,6 +1,7 @@
 ghost use Rattle.std.specs.Prelude.{◌≡◌, ◌≤◌, ◌<◌, ◌+◌, ◌*◌, List, [], map, length, Some, None, IfOk, IfErr, OnOk, OnErr};
 ghost use Rattle.std.specs.Option.{option_map};
 ghost use Rattle.kern_model.specs.declared.object.Device.{Device};
+ghost use Rattle.kern_calls.specs.Calls as between;
 ghost use Rattle.graph_rules.specs.State as state;
 ghost use Rattle.graph_rules.specs.Answers as answers;
 ghost use Rattle.graph_rules.specs.Calls as calls;
@@ -420,6 +421,13 @@ impl Graph {
             Some(object) => Some(Call::Put(object)),
             None => None,
         }
+    }
+
+    /// The take of any object, with the own values of its name's device: also of an address or a route.
+    pub fn take_of(&self, object: Object) -> Call
+        ensures { result ≡ between.own_take (state.devices_in self.now.known) object }
+    {
+        own_take(&self.names, object)
     }
 
     /// Whether the link of a name is taken, or a link on which the name stands.
