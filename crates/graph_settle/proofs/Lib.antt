@@ -1,0 +1,5 @@
+pub mod CourseLemmas
+pub mod NextLemmas
+pub mod MadeLemmas
+pub mod EndLemmas
+pub mod LeaveLemmas
