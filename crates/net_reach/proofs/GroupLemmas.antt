@@ -82,7 +82,7 @@ of_places : {X : Type 0} (test : X → Bool) (count : ℕ) → (xs : List X) (to
 of_places test count [] told inside = absurd (none_in_nil told inside)
 of_places {X} test count (y ∷ ys) told inside = of_step test count y ys told (test y) refl (of_places test (suc count) ys told) inside
 
-pub members_of : {X : Type 0} (places : List ℕ) (test : X → Bool) (xs : List X) → places ≡ places_by test xs → AreMembers places test xs
+pub members_of : {X : Type 0} (places : List ℕ) (test : X → Bool) (xs : List X) → places ≡ places_by test xs → AreMembers places (λ place x. test x) xs
 members_of {X} places test xs are = record {
   all = λ place x found passes.
       let same : 0 + place ≡ place = omega arith in

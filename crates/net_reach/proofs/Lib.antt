@@ -2,3 +2,10 @@ pub mod SetLemmas
 pub mod GroupLemmas
 pub mod WalkLemmas
 pub mod ReachLemmas
+pub mod DeviceLemmas
+pub mod GoneLemmas
+pub mod MemberLemmas
+pub mod LayerLemmas
+pub mod AlikeLemmas
+pub mod RoomLemmas
+pub mod ComeLemmas

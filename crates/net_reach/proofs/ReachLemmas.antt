@@ -90,7 +90,7 @@ module _ (inputs : Inputs) (reach : Reach) (is : IsReachOf inputs reach) (base :
     touched_all room place is_touched =
         let touches = (all_above is_touched.name is_touched.above).1 in
         let within = subst (λ k. place < k) (sym room) (slice_get_within inputs.conf.interfaces place is_touched.row is_touched.found) in
-        elim (either (is_at_device inputs is_touched.name is_touched.row) (is_at_layer inputs is_touched.name is_touched.row) is_touched.at) as (λ _. Contains touched.list place) [
+        elim (either (is_at_device inputs is_touched.name is_touched.row) (is_at_layer inputs is_touched.name place is_touched.row) is_touched.at) as (λ _. Contains touched.list place) [
           | inl device ↦ touches.device place ((members_of (group_in reach.at_device is_touched.name) (is_at_device inputs is_touched.name) inputs.conf.interfaces (is.at_device is_touched.name)).all place is_touched.row is_touched.found device) within
           | inr layer ↦ touches.layer place ((is.at_layer is_touched.name).all place is_touched.row is_touched.found layer) within
         ]
@@ -112,10 +112,10 @@ module _ (inputs : Inputs) (reach : Reach) (is : IsReachOf inputs reach) (base :
   at_name name place above at = elim at as (λ _. IsTouched inputs base place) [
     | inl device ↦
         let found = (members_of (group_in reach.at_device name) (is_at_device inputs name) inputs.conf.interfaces (is.at_device name)).only place device in
-        record { row = found.0; found = found.1; name = name; at = of_left (is_at_device inputs name found.0) (is_at_layer inputs name found.0) found.2; above = above }
+        record { row = found.0; found = found.1; name = name; at = of_left (is_at_device inputs name found.0) (is_at_layer inputs name place found.0) found.2; above = above }
     | inr layer ↦
         let found = (is.at_layer name).only place layer in
-        record { row = found.0; found = found.1; name = name; at = of_right (is_at_device inputs name found.0) (is_at_layer inputs name found.0) found.2; above = above }
+        record { row = found.0; found = found.1; name = name; at = of_right (is_at_device inputs name found.0) (is_at_layer inputs name place found.0) found.2; above = above }
   ]
 
   pub touched_only : (rows none mid touched : Places) → none.list ≡ [] → AreClimbed reach.above reach.names.items base rows → TouchesOnly reach.at_device reach.at_layer base none mid → ((place : ℕ) → Contains touched.list place → Contains mid.list place ⊎ IsAtRow reach.at_device reach.at_layer reach.names.items rows.list place) → (place : ℕ) → Contains touched.list place → IsTouched inputs base place

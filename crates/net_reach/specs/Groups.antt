@@ -1,7 +1,9 @@
 -- Lists of places by name.
-use Rattle.std.specs.Prelude.{ℕ, ◌≡◌, ◌<◌, ◌-◌, List, [], ◌∷◌, ◌++◌, length, Bool, if◌then◌else◌, Contains, Some, true, Vec}
+use Rattle.std.specs.Prelude.{ℕ, ◌≡◌, ◌<◌, ◌-◌, ◌==◌, List, [], ◌∷◌, ◌++◌, filter, length, Bool, not, if◌then◌else◌, Contains, Some, true, Vec, vec_len, vec_capacity}
 use Rattle.std.specs.List.{slice_get}
-use Rattle.std.specs.BTreeMap.{BTreeMap}
+use Rattle.std.specs.Ordering.{nat_cmp}
+use Rattle.std.specs.Cmp.Lexicographic.{slice_cmp}
+use Rattle.std.specs.BTreeMap.{BTreeMap, get}
 use Rattle.std.specs.declared.alloc.Global.{Global}
 use Rattle.net_view.specs.Places.{is_place}
 use Rattle.net_view.specs.RadioPorts.{group_in}
@@ -18,18 +20,29 @@ is_last places place = is_place place (slice_get places (length places - 1))
 abbrev pub with_last : List ℕ → ℕ → List ℕ
 with_last places place = if is_last places place then places else places ++ place ∷ []
 
+-- places without one
+abbrev pub without_place : List ℕ → ℕ → List ℕ
+without_place places place = filter (λ other. not (other == place)) places
+
 -- a map has for each name the places of the items that a test tells for it, rising
 abbrev pub HasGroups : {X : Type 0} → Groups → (List ℕ → X → Bool) → List X → Type 0
 HasGroups groups test xs = (name : List ℕ) → group_in groups name ≡ places_by (test name) xs
 
--- the places of the items that a test tells for a name, in no stated order
-pub record AreMembers {X : Type 0} (places : List ℕ) (test : X → Bool) (xs : List X) : Type 0 where
-  pub all : (place : ℕ) (x : X) → slice_get xs place ≡ Some x → test x ≡ true → Contains places place
-  pub only : (place : ℕ) → Contains places place → (x : X) × (slice_get xs place ≡ Some x) × (test x ≡ true)
+-- the places of the items that a test tells by place and item, in no stated order
+pub record AreMembers {X : Type 0} (places : List ℕ) (test : ℕ → X → Bool) (xs : List X) : Type 0 where
+  pub all : (place : ℕ) (x : X) → slice_get xs place ≡ Some x → test place x ≡ true → Contains places place
+  pub only : (place : ℕ) → Contains places place
+      → (x : X) × (slice_get xs place ≡ Some x) × (test place x ≡ true)
 
 -- a map has for each name these places
-abbrev pub HasMembers : {X : Type 0} → Groups → (List ℕ → X → Bool) → List X → Type 0
+abbrev pub HasMembers : {X : Type 0} → Groups → (List ℕ → ℕ → X → Bool) → List X → Type 0
 HasMembers groups test xs = (name : List ℕ) → AreMembers (group_in groups name) (test name) xs
+
+-- a map has room for one more place of a name
+pub record HasRoomAt (groups : Groups) (name : List ℕ) : Type 0 where
+  pub group : Vec ℕ Global
+  pub found : get (slice_cmp nat_cmp) groups name ≡ Some group
+  pub room : vec_len group < vec_capacity group
 
 -- a place came to the names that a test tells, at the end of their places
 abbrev pub Gains : Groups → Groups → (List ℕ → Bool) → ℕ → Type 0

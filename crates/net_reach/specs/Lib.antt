@@ -6,7 +6,11 @@ pub mod Places
 pub mod PlaceInside
 -- lists of places by name
 pub mod Groups
+-- places where one is gone
+pub mod Gone
 -- the walk up from a name
 pub mod Walk
 -- what reaches what
 pub mod Reach
+-- inputs in which other layer-3 devices are told
+pub mod Layers

@@ -1,8 +1,9 @@
 -- What reaches what, as the program keeps it.
-use Rattle.std.specs.Prelude.{ℕ, ◌≡◌, List, map, length, Bool, true, ◌||◌, Option, Contains, Some, slice_get}
+use Rattle.std.specs.Prelude.{ℕ, ◌≡◌, List, map, length, Bool, true, ◌||◌, Option, Contains, None, Some, if◌then◌else◌, slice_get}
 use Rattle.std.specs.List.Sorted.{IsStrictlySortedBy}
 use Rattle.std.specs.Ordering.{nat_cmp}
 use Rattle.std.specs.Option.{option_and_then}
+use Rattle.net_rows.specs.declared.rows.Conf.{Conf}
 use Rattle.net_rows.specs.declared.rows.NameRow.{NameRow}
 use Rattle.net_rows.specs.declared.rows.InterfaceRow.{InterfaceRow}
 use Rattle.net_rules.specs.declared.inputs.Inputs.{Inputs}
@@ -11,7 +12,7 @@ use Rattle.net_rules.specs.RadioPorts.{device_of}
 use Rattle.net_rules.specs.Standing.{stands}
 use Rattle.net_rules.specs.Inputs.{facts_of, open_interface}
 use Rattle.net_asked.specs.Above.{IsAbove}
-use Rattle.net_view.specs.Places.{HasPlaces}
+use Rattle.net_view.specs.Places.{HasPlaces, is_place, place_of}
 use Rattle.net_wants.specs.Grouped.{HasItems, is_route_named}
 use Rattle.net_reach.specs.Groups.{HasGroups, HasMembers}
 use Rattle.net_reach.specs.declared.reach.Reach.{Reach}
@@ -30,9 +31,18 @@ told_layer inputs interface =
 abbrev pub is_at_device : Inputs → List ℕ → InterfaceRow → Bool
 is_at_device inputs name row = is_name (device_of (facts_of inputs) row) name
 
--- a name is the device of the latest answer for an interface
-abbrev pub is_at_layer : Inputs → List ℕ → InterfaceRow → Bool
-is_at_layer inputs name row = is_name (told_layer inputs row.name) name
+-- the first place of the name of an interface
+abbrev pub interface_place : Conf → List ℕ → Option ℕ
+interface_place conf name = place_of (map (λ row. row.name) conf.interfaces) name
+
+-- the device of the latest answer for the row at a place, where it is the first of its name
+abbrev pub layer_at : Inputs → ℕ → InterfaceRow → Option (List ℕ)
+layer_at inputs place row =
+    if is_place place (interface_place inputs.conf row.name) then told_layer inputs row.name else None
+
+-- a name is the device of the latest answer for the row at a place
+abbrev pub is_at_layer : Inputs → List ℕ → ℕ → InterfaceRow → Bool
+is_at_layer inputs name place row = is_name (layer_at inputs place row) name
 
 -- All is that of the inputs: the places of interfaces, radios, present devices and rows by name; the
 -- names of the rows, and the rows that stand right on a name; the interfaces at a device and at an
@@ -51,12 +61,12 @@ pub record IsReachOf (inputs : Inputs) (reach : Reach) : Type 0 where
   pub place_room : reach.visit.touched.bound ≡ length inputs.conf.interfaces
 
 -- A place is that of a touched interface: its device or answered layer-3 device is the base, or
--- stands on it, however far above.
+-- stands on it, however far above. Of several rows of one name the first has the answers.
 pub record IsTouched (inputs : Inputs) (base : List ℕ) (place : ℕ) : Type 0 where
   pub row : InterfaceRow
   pub found : slice_get inputs.conf.interfaces place ≡ Some row
   pub name : List ℕ
-  pub at : (is_at_device inputs name row || is_at_layer inputs name row) ≡ true
+  pub at : (is_at_device inputs name row || is_at_layer inputs name place row) ≡ true
   pub above : IsAbove (facts_of inputs) base name
 
 -- the touched places, rising

@@ -80,3 +80,45 @@ fn take_group(
         None => Vec::new(alloc),
     }
 }
+
+/// Takes room for one more place of a name. Each name keeps its places and its room, also where memory lacks.
+pub(crate) fn reserve_place(
+    alloc: Global,
+    groups: &mut BTreeMap<DevName, Vec<usize>>,
+    name: &DevName,
+) -> Result<(), Memory>
+    ensures room { OnOk result (spec.HasRoomAt groups.new name.now) }
+    ensures rooms { (q : List ℕ) → spec.HasRoomAt groups.old q → spec.HasRoomAt groups.new q }
+    ensures places { (q : List ℕ) → group_in groups.new q ≡ group_in groups.old q }
+{
+    if let Some(group) = groups.get_mut(name) {
+        group.reserve(1)?;
+        return Ok(());
+    }
+    let mut group = Vec::new(alloc);
+    group.reserve(1)?;
+    let _none = groups.insert(*name, group)?;
+    Ok(())
+}
+
+/// Adds a place to those of a name, at the end. It takes no memory.
+pub(crate) fn put_place(groups: &mut BTreeMap<DevName, Vec<usize>>, name: &DevName, place: usize)
+    requires { spec.HasRoomAt groups.old name.now }
+    ensures { (q : List ℕ) → group_in groups.new q
+        ≡ group_in groups.old q ++ (if bytes_eq name.now q then place ∷ [] else []) }
+{
+    if let Some(group) = groups.get_mut(name) {
+        group.push_reserved(place);
+    }
+}
+
+/// Takes a place out of those of a name. Its room stays.
+pub(crate) fn take_place(groups: &mut BTreeMap<DevName, Vec<usize>>, name: &DevName, place: usize)
+    ensures places { (q : List ℕ) → group_in groups.new q ≡ (if bytes_eq name.now q
+        then spec.without_place (group_in groups.old q) place else group_in groups.old q) }
+    ensures rooms { (q : List ℕ) → spec.HasRoomAt groups.old q → spec.HasRoomAt groups.new q }
+{
+    if let Some(group) = groups.get_mut(name) {
+        group.retain(|other| *other != place);
+    }
+}

@@ -6,14 +6,14 @@ ghost use Rattle.net_rules.specs.RadioPorts as radio_ports;
 ghost use Rattle.net_rules.specs.Inputs.{facts_of};
 ghost use Rattle.net_view.specs.Index.{IsIndexOf};
 ghost use Rattle.net_view.specs.RadioPorts.{ArePortsOf};
-ghost use Rattle.net_reach.specs.Groups.{HasGroups, Gains};
+ghost use Rattle.net_reach.specs.Groups.{HasGroups, HasMembers, Gains};
 ghost use Rattle.net_reach.specs.Reach as spec;
 
 use crate::groups::add_place;
 use kern_model::DevName;
 use net_rows::InterfaceRow;
 use net_rules::{Answer, Inputs};
-use net_view::{Index, RadioPorts};
+use net_view::{Index, RadioPorts, is_first};
 use plane_io::{Memory, Text};
 use std::alloc::Global;
 use std::collections::BTreeMap;
@@ -36,7 +36,7 @@ pub(crate) fn interfaces_at(
     Ok(groups)
 }
 
-/// The places of the interfaces whose open ask was answered with each device.
+/// The places of the interfaces whose open ask was last answered with each device.
 pub(crate) fn interfaces_told(
     alloc: Global,
     index: &Index,
@@ -44,11 +44,11 @@ pub(crate) fn interfaces_told(
     rows: &[InterfaceRow],
 ) -> Result<BTreeMap<DevName, Vec<usize>>, Memory>
     requires { IsIndexOf inputs.now index.now }
-    ensures { IfOk result (λ groups. HasGroups groups (spec.is_at_layer inputs.now) rows.now) }
+    ensures { IfOk result (λ groups. HasMembers groups (spec.is_at_layer inputs.now) rows.now) }
 {
     let mut groups = BTreeMap::new(alloc);
     for (place, row) in rows.iter().enumerate() {
-        let layer = told_layer(index, inputs, &row.name);
+        let layer = layer_at(index, inputs, row, place);
         add_at(alloc, &mut groups, layer, place)?;
     }
     Ok(groups)
@@ -76,6 +76,17 @@ fn device_of(ports: &RadioPorts, inputs: &Inputs, row: &InterfaceRow) -> Option<
         Some(device) => Some(*device),
         None => ports.first_port(&row.name),
     }
+}
+
+// The answers for a name are those for its first row.
+fn layer_at(index: &Index, inputs: &Inputs, row: &InterfaceRow, place: usize) -> Option<DevName>
+    requires { IsIndexOf inputs.now index.now }
+    ensures { result ≡ spec.layer_at inputs.now place row.now }
+{
+    if !is_first(&index.interfaces, &row.name, place) {
+        return None;
+    }
+    told_layer(index, inputs, &row.name)
 }
 
 fn told_layer(index: &Index, inputs: &Inputs, interface: &Text) -> Option<DevName>

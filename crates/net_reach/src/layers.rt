@@ -1,0 +1,63 @@
+//! The layer-3 devices that the latest answers tell.
+ghost use Rattle.std.specs.Prelude.{◌≡◌, ℕ, List, Some, IfSome, OnOk, if◌then◌else◌};
+ghost use Rattle.net_rules.specs.declared.inputs.Inputs.{Inputs};
+ghost use Rattle.net_rules.specs.Rows as rows;
+ghost use Rattle.net_view.specs.RadioPorts.{group_in};
+ghost use Rattle.net_reach.specs.Groups.{HasRoomAt, Gains, without_place};
+ghost use Rattle.net_reach.specs.Reach.{IsReachOf, interface_place};
+ghost use Rattle.net_reach.specs.Layers.{TellsLayer};
+
+use crate::groups::{put_place, reserve_place, take_place};
+use crate::reach::Reach;
+use kern_model::DevName;
+use plane_io::Memory;
+use std::alloc::Global;
+use std::collections::BTreeMap;
+
+impl Reach {
+    /// Takes room for one more interface that is told a layer-3 device.
+    ///
+    /// # Errors
+    ///
+    /// `Memory` where there is not enough of it. What reaches what stays in any case, and so does all room.
+    pub fn reserve_layer(&mut self, alloc: Global, layer: &DevName) -> Result<(), Memory>
+        ensures room { OnOk result (HasRoomAt self.new.at_layer layer.now) }
+        ensures rooms { (name : List ℕ) → HasRoomAt self.old.at_layer name
+            → HasRoomAt self.new.at_layer name }
+        ensures stays { (inputs : Inputs) → IsReachOf inputs self.old → IsReachOf inputs self.new }
+        ensures visit { self.new.visit ≡ self.old.visit }
+    {
+        reserve_place(alloc, &mut self.at_layer, layer)
+    }
+
+    /// The first row of an interface's name, at this place, is told another layer-3 device than it was, or none. It takes no memory.
+    pub fn set_layer(&mut self, place: usize, was: Option<DevName>, layer: Option<DevName>)
+        requires room { IfSome layer (HasRoomAt self.old.at_layer) }
+        ensures told { (before now : Inputs) (interface : List ℕ) → IsReachOf before self.old
+            → interface_place before.conf interface ≡ Some place
+            → TellsLayer before now interface was layer → IsReachOf now self.new }
+        ensures visit { self.new.visit ≡ self.old.visit }
+    {
+        leave(&mut self.at_layer, was, place);
+        join(&mut self.at_layer, layer, place);
+    }
+}
+
+fn leave(groups: &mut BTreeMap<DevName, Vec<usize>>, was: Option<DevName>, place: usize)
+    ensures places { (q : List ℕ) → group_in groups.new q ≡ (if rows.is_name was q
+        then without_place (group_in groups.old q) place else group_in groups.old q) }
+    ensures rooms { (q : List ℕ) → HasRoomAt groups.old q → HasRoomAt groups.new q }
+{
+    if let Some(was) = was {
+        take_place(groups, &was, place);
+    }
+}
+
+fn join(groups: &mut BTreeMap<DevName, Vec<usize>>, layer: Option<DevName>, place: usize)
+    requires { IfSome layer (HasRoomAt groups.old) }
+    ensures { Gains groups.old groups.new (λ q. rows.is_name layer q) place }
+{
+    if let Some(layer) = layer {
+        put_place(groups, &layer, place);
+    }
+}
