@@ -1,0 +1,4 @@
+pub mod PairLemmas
+pub mod MoveLemmas
+pub mod AnswerLemmas
+pub mod ClaimLemmas

@@ -1,0 +1,4 @@
+pub mod TimesLemmas
+pub mod FoldLemmas
+pub mod BareLemmas
+pub mod GivenLemmas
