@@ -1,0 +1,11 @@
+//! Why an event is refused, looked up: names by the maps of what reaches what, open asks by their numbers.
+#![tactic(auto)]
+
+mod devices;
+mod interfaces;
+mod radios;
+mod stale;
+
+pub use devices::device_refusal;
+pub use interfaces::{answer_refusal, operator_refusal};
+pub use radios::radio_refusal;
