@@ -12,7 +12,7 @@ use std::process::ExitCode;
 use std::rt::Env;
 use std::sync::ledger::{Blank, Ledger};
 use std::{env, io};
-use use_counts::{Edge, Graph, Kind, Row, Steps, can_load};
+use use_counts::{Edge, Graph, Kind, MarkedIds, Row, Steps, can_load};
 
 /// What the words of the command line ask for.
 #[derive(Drop)]
@@ -55,7 +55,14 @@ fn edges_of(alloc: Global, bridges: u16) -> Result<Vec<Edge>, Memory> {
     Ok(edges)
 }
 
-fn tell<L: Ledger>(graph: &mut Graph, id: usize, bridges: u16, turns: u32, blank: Blank) -> u32
+fn tell<L: Ledger>(
+    graph: &mut Graph,
+    id: usize,
+    bridges: u16,
+    turns: u32,
+    uses: &mut MarkedIds,
+    blank: Blank,
+) -> u32
     requires name { blank.name ≡ L.name }
     requires parts { blank.parts ≡ L.parts }
     requires some { 0 < L.parts }
@@ -63,14 +70,15 @@ fn tell<L: Ledger>(graph: &mut Graph, id: usize, bridges: u16, turns: u32, blank
     let mut steps = Steps::<L>::new(blank);
     for port in 0..=usize::from(bridges) {
         let place = usize::from(bridges) + port;
-        if place < graph.len() {
-            graph.set_present(place, true, &mut steps);
+        if place < graph.len() && graph.len() <= uses.room() {
+            graph.set_present(place, true, uses, &mut steps);
         }
     }
     let mut told = 0;
     for turn in 0..turns {
-        if id < graph.len() {
-            graph.set_carrier(id, turn % 2 == 1, &mut steps);
+        if id < graph.len() && graph.len() <= uses.room() {
+            graph.set_carrier(id, turn % 2 == 1, uses, &mut steps);
+            uses.clear();
             told = turn + 1;
         }
     }
@@ -90,7 +98,15 @@ fn run(alloc: Global, load: &Load) -> Result<u32, Memory> {
     } else {
         name
     };
-    Ok(tell::<Brand>(&mut graph, id, load.bridges, load.turns, Blank::new(1)))
+    let mut uses = MarkedIds::with_room(alloc, graph.len())?;
+    Ok(tell::<Brand>(
+        &mut graph,
+        id,
+        load.bridges,
+        load.turns,
+        &mut uses,
+        Blank::new(1),
+    ))
 }
 
 fn asked(rt: &(impl Env + AllocGlobal)) -> io::Result<Load> {

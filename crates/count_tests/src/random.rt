@@ -6,7 +6,7 @@ use std::alloc::{AllocError, Global};
 use std::marker::Brand;
 use std::process::Abort;
 use std::sync::ledger::{Blank, Ledger};
-use use_counts::{Edge, Graph, Steps, can_load};
+use use_counts::{Edge, Graph, MarkedIds, Steps, can_load};
 
 /// What a node is told.
 #[derive(Clone, Copy)]
@@ -50,15 +50,21 @@ fn after(entry: Entry, event: Event) -> Entry {
     }
 }
 
-fn tell<L: Ledger>(graph: &mut Graph, id: usize, event: Event, steps: &mut Steps<L>) {
-    if id < graph.len() {
+fn tell<L: Ledger>(
+    graph: &mut Graph,
+    id: usize,
+    event: Event,
+    uses: &mut MarkedIds,
+    steps: &mut Steps<L>,
+) {
+    if id < graph.len() && graph.len() <= uses.room() {
         match event {
-            Event::Present(carrier) => graph.set_present(id, carrier, steps),
-            Event::Absent => graph.set_absent(id, steps),
-            Event::Carrier(carrier) => graph.set_carrier(id, carrier, steps),
+            Event::Present(carrier) => graph.set_present(id, carrier, uses, steps),
+            Event::Absent => graph.set_absent(id, uses, steps),
+            Event::Carrier(carrier) => graph.set_carrier(id, carrier, uses, steps),
             Event::Claim(claims) => {
                 if claims <= 1024 {
-                    graph.set_claim(id, claims, steps);
+                    graph.set_claim(id, claims, uses, steps);
                 }
             }
         }
@@ -75,6 +81,17 @@ fn assert_same(rt: &impl Abort, graph: &Graph, table: &[Entry]) {
             assert_eq!(rt; graph.used(id), entry.used);
             assert_eq!(rt; graph.users(id), entry.users);
         }
+    }
+}
+
+fn has_changed(id: usize, before: &[Entry], table: &[Entry]) -> bool {
+    id < before.len() && id < table.len() && before[id].used != table[id].used
+}
+
+/// Marked are those whose use differs, and no others.
+fn assert_marked(rt: &impl Abort, uses: &MarkedIds, before: &[Entry], table: &[Entry]) {
+    for id in 0..table.len() {
+        assert_eq!(rt; uses.ids().contains(&id), has_changed(id, before, table));
     }
 }
 
@@ -109,18 +126,23 @@ fn run<L: Ledger>(
     let mut steps = Steps::<L>::new(blank);
     let mut table = Entry::all(alloc, &shape.rows)?;
     let mut edges = Vec::from_slice(alloc, &shape.fixed)?;
+    let mut uses = MarkedIds::with_room(alloc, table.len()).expect(rt, "memory");
     for turn in 0..60 {
         if turn % 12 == 11 {
             edges = rejoined(rt, alloc, graph, shape, words)?;
+            compute(&mut table, &edges);
         }
+        let before = Vec::from_slice(alloc, &table)?;
         let id = words.below(table.len());
         let event = event_of(words);
-        tell(graph, id, event, &mut steps);
+        tell(graph, id, event, &mut uses, &mut steps);
         if id < table.len() {
             table[id] = after(table[id], event);
         }
         compute(&mut table, &edges);
         assert_same(rt, graph, &table);
+        assert_marked(rt, &uses, &before, &table);
+        uses.clear();
     }
     Ok(())
 }

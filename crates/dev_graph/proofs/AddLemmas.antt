@@ -1,5 +1,5 @@
 -- one more plain name
-use Rattle.std.proofs.Common.{arith, ℕ, zero, suc, ◌<◌, ◌+◌, ◌≡◌, List, [], ◌∷◌, ◌++◌, map, length, take, Option, Some, None, Result, Ok, Err, OnOk, OnErr, bytes_eq, position, slice_index_or, refl, sym, ap, subst, ◌∙◌}
+use Rattle.std.proofs.Common.{arith, ℕ, zero, suc, ◌<◌, ◌≤◌, ◌+◌, ◌≡◌, List, [], ◌∷◌, ◌++◌, map, length, take, Option, Some, None, Result, Ok, Err, OnOk, OnErr, bytes_eq, position, slice_index_or, refl, sym, ap, subst, ◌∙◌}
 use Rattle.std.proofs.lemmas.List.{length-map, take_more}
 use Rattle.plane_words.specs.Distinct.{AreDistinct}
 use Rattle.kern_model.proofs.MemberLemmas.{none_in_nil}
@@ -16,7 +16,7 @@ use Rattle.graph_counts.proofs.LoadLemmas.{names_kept}
 use Rattle.graph_counts.proofs.GrowLemmas.{sound_with_name}
 use Rattle.graph_tables.specs.Whole.{IsWhole}
 use Rattle.graph_tables.specs.Wished.{wish_in}
-use Rattle.graph_tables.specs.Lists.{HaveSame}
+use Rattle.graph_tables.specs.Lists.{AreUsed, HaveSame}
 use Rattle.graph_wishes.specs.Wishes.{mays}
 use Rattle.graph_objects.specs.Marks.{Marks}
 use Rattle.dev_graph.specs.declared.graph.Graph.TheInside.{Inside}
@@ -100,16 +100,23 @@ module _ (names : Option Known) (held : Objects) (loads : ℕ) (old : State) (vi
 
 -- a graph after one more name, or as it was
 pub tied_after_adding : {A E : Type 0} (r : Result A E) (g h : Inside) (s t : Known) (name : List ℕ) → g.names ≡ Some s → IsTied g → h.names ≡ Some t → place_among s.names name ≡ None → OnOk r (t ≡ record s { names = with_name s.names name })
-    → OnOk r (length h.used.items ≡ length t.names) → OnOk r (HaveSame h.objects.wishes (map (wish_in t) (mays t))) → OnErr r (t ≡ s) → OnErr r ((h.objects ≡ g.objects) × (h.used.items ≡ g.used.items)) → IsTied h
-tied_after_adding (Ok a) g h s t name is tied now other more used wishes stays kept = record {
+    → OnOk r (length h.used.items ≡ length t.names) → OnOk r (AreUsed t h.used.items) → OnOk r (HaveSame h.objects.wishes (map (wish_in t) (mays t))) → OnErr r (t ≡ s) → OnErr r ((h.objects ≡ g.objects) × (h.used.items ≡ g.used.items)) → length t.names ≤ h.uses.room
+    → h.uses.ids ≡ g.uses.ids → IsTied h
+tied_after_adding (Ok a) g h s t name is tied now other more used looked wishes stays kept room ids = record {
   whole = λ k e. whole_some t (subst IsWhole (sym more) (whole_added s name (tied.whole s is) other)) k (sym now ∙ e);
   used = used ∙ ap (λ n. length (known_in n).names) (sym now);
+  looked = subst (λ n. AreUsed (known_in n) h.used.items) (sym now) looked;
+  room = subst (λ n. length (known_in n).names ≤ h.uses.room) (sym now) room;
+  none = ids ∙ tied.none;
   wishes = subst (λ n. HaveSame h.objects.wishes (map (wish_in (known_in n)) (mays (known_in n)))) (sym now) wishes;
 }
-tied_after_adding (Err e) g h s t name is tied now other more used wishes stays kept =
+tied_after_adding (Err e) g h s t name is tied now other more used looked wishes stays kept room ids =
     let names : g.names ≡ h.names = is ∙ ap (λ (k : Known). Some k) (sym stays) ∙ sym now in
     record {
       whole = λ k e. tied.whole k (names ∙ e);
       used = ap length kept.1 ∙ tied.used ∙ ap (λ n. length (known_in n).names) names;
+      looked = subst (λ us. AreUsed (known_in h.names) us) (sym kept.1) (subst (λ n. AreUsed (known_in n) g.used.items) names tied.looked);
+      room = subst (λ n. length (known_in n).names ≤ h.uses.room) (sym now) room;
+      none = ids ∙ tied.none;
       wishes = subst (λ (o : Marks). HaveSame o.wishes (map (wish_in (known_in h.names)) (mays (known_in h.names)))) (sym kept.0) (subst (λ n. HaveSame g.objects.wishes (map (wish_in (known_in n)) (mays (known_in n)))) names tied.wishes);
     }

@@ -1,7 +1,7 @@
 -- a graph after an event, a load, or other ports of radios
-use Rattle.std.proofs.Common.{arith, ℕ, ◌<◌, ◌+◌, ◌≡◌, List, [], ◌∷◌, map, length, Option, Some, None, refl, sym, ap, subst, ◌∙◌}
+use Rattle.std.proofs.Common.{arith, ℕ, ◌<◌, ◌+◌, ◌≡◌, ◌⊎◌, inl, inr, Bool, true, false, List, [], ◌∷◌, map, length, Contains, Option, Some, None, refl, sym, ap, subst, ◌∙◌}
 use Rattle.std.proofs.lemmas.List.{length-map}
-use Rattle.kern_model.proofs.MemberLemmas.{here}
+use Rattle.kern_model.proofs.MemberLemmas.{here, none_in_nil}
 use Rattle.kern_model.specs.ObjectOrder.{Objects, set_of}
 use Rattle.kern_model.specs.declared.object.Device.{Device}
 use Rattle.plane_words.specs.Distinct.{AreDistinct}
@@ -11,21 +11,26 @@ use Rattle.net_rows.specs.declared.rows.VlanRow.{VlanRow}
 use Rattle.graph_rules.specs.declared.ids.RadioPort.{RadioPort}
 use Rattle.graph_rules.specs.State.{Named, Known, State, name_list, names_in, nothing_known}
 use Rattle.graph_rules.specs.After.{known_of, loaded_after, ports_after, name_at, with_device, with_names, left_by, absent_after}
-use Rattle.graph_rules.specs.Edges.{changed_edges}
+use Rattle.graph_rules.specs.Answers.{used_in}
+use Rattle.graph_rules.specs.Edges.{changed_edges, differs}
 use Rattle.graph_rules.specs.Conditions.{CanLoad, ArePorts}
 use Rattle.graph_objects.specs.declared.slot.Wish.{Wish}
 use Rattle.graph_objects.specs.Marks.{Marks, held_of}
+use Rattle.use_counts.specs.Uses.{Marking}
+use Rattle.graph_counts.specs.Counted.{name_of}
 use Rattle.graph_counts.specs.Sound.{IsSound}
+use Rattle.graph_counts.specs.Uses.{TellsUses}
 use Rattle.graph_counts.proofs.AnswerLemmas.{sound_names}
 use Rattle.graph_counts.proofs.LoadLemmas.{sound_loaded}
 use Rattle.graph_counts.proofs.SoundLemmas.{rowless_bridge}
 use Rattle.graph_wishes.specs.Wishes.{mays}
 use Rattle.graph_tables.specs.Wished.{known, wish_in, wishes_at}
-use Rattle.graph_tables.specs.Lists.{HaveSame, unjudged}
+use Rattle.graph_tables.specs.Lists.{AreUsed, HaveSame, unjudged}
+use Rattle.graph_tables.specs.Differing.{DiffersAt}
 use Rattle.graph_tables.specs.Whole.{IsWhole}
 use Rattle.dev_graph.specs.declared.graph.Graph.TheInside.{Inside}
 use Rattle.dev_graph.specs.Inside.{known_in, IsTied}
-use Rattle.graph_tables.proofs.ListLemmas.{named_unjudged, first_unjudged}
+use Rattle.graph_tables.proofs.ListLemmas.{same_mays, first_unjudged}
 
 -- what can be loaded is sound
 pub whole_loaded : (old : List Named) (conf : Conf) (plain : List (List ℕ)) (radio : List RadioPort) → CanLoad conf plain radio → IsWhole (known_of old conf plain radio)
@@ -46,27 +51,54 @@ whole_ports s radio whole ports =
       vlans = whole.vlans;
     }
 
--- what is known after an event, before it is looked which names are used
+-- what is known, before it is looked which names are used
 pub record IsReady (t : Known) (ws : List Wish) (marks : ℕ) : Type 0 where
   pub whole : IsWhole t
   pub size : marks ≡ length t.names
   pub wishes : HaveSame (map unjudged ws) (wishes_at (names_in t) (mays t))
 
-pub ready_named : (s t : Known) (ns : List Named) (ws : List Wish) (marks : ℕ) → IsWhole s → HaveSame ws (map (wish_in s) (mays s)) → marks ≡ length s.names → name_list ns ≡ names_in s → t ≡ record s { names = ns } → IsReady t ws marks
-ready_named s t ns ws marks whole same size spelled is =
-    let sizes : length ns ≡ length s.names = sym (length-map ns (λ (n : Named). n.name)) ∙ ap length spelled ∙ length-map s.names (λ (n : Named). n.name) in
-    let at : IsReady (record s { names = ns }) ws marks = record {
-      whole = whole_named s ns whole spelled;
-      size = size ∙ sym sizes;
-      wishes = named_unjudged s ns ws spelled same;
-    } in
-    subst (λ k. IsReady k ws marks) (sym is) at
+-- what differs is not the same
+unlike : (a b : Bool) → (a ≡ b → ⊥) → differs a b ≡ true
+unlike true true other = absurd (other refl)
+unlike true false other = refl
+unlike false true other = refl
+unlike false false other = absurd (other refl)
 
-pub ready_after : (names : Option Known) (s t : Known) (ns : List Named) (ws : List Wish) (marks : ℕ) → names ≡ Some s → ((k : Known) → names ≡ Some k → IsWhole k) → HaveSame ws (map (wish_in (known_in names)) (mays (known_in names))) → marks ≡ length (known_in names).names
-    → name_list ns ≡ names_in s → t ≡ record s { names = ns } → IsReady t ws marks
-ready_after names s t ns ws marks is whole same size spelled now =
-    let here : known_in names ≡ s = ap known_in is in
-    ready_named s t ns ws marks (whole s is) (subst (λ k. HaveSame ws (map (wish_in k) (mays k))) here same) (size ∙ ap (λ (k : Known). length k.names) here) spelled now
+-- what an event leaves to judge: names of another telling, and the ids that it noted
+pub record IsTold (s t : Known) (ids : List ℕ) (used : List Bool) (ws : List Wish) : Type 0 where
+  pub whole : IsWhole t
+  pub within : (id : ℕ) → Contains ids id → id < length t.names
+  pub differing : DiffersAt s t ids used ws
+
+told_named : (s : Known) (ns : List Named) (ws : List Wish) (used : List Bool) (old new : Marking) → IsWhole s → HaveSame ws (map (wish_in s) (mays s)) → length used ≡ length s.names → AreUsed s used → old.ids ≡ [] → name_list ns ≡ names_in s
+    → TellsUses s (record s { names = ns }) old new → IsTold s (record s { names = ns }) new.ids used ws
+told_named s ns ws used old new whole same size are none spelled tells =
+    let sizes : length ns ≡ length s.names = sym (length-map ns (λ (n : Named). n.name)) ∙ ap length spelled ∙ length-map s.names (λ (n : Named). n.name) in
+    let t : Known = record s { names = ns } in
+    record {
+      whole = whole_named s ns whole spelled;
+      within = λ id marked. elim (tells.only id marked) as (λ _. id < length ns) [
+        | inl before ↦ absurd (none_in_nil id (subst (λ ids. Contains ids id) none before))
+        | inr inside ↦ omega (arith, inside, sizes)
+      ];
+      differing = record {
+        spelling = sym spelled;
+        objects = sym (same_mays s ns spelled);
+        size = size ∙ sym sizes;
+        uses = are;
+        wishes = same;
+        differing = λ id inside other. tells.all id (omega (arith, inside, sizes)) (unlike (used_in s (name_of s id)) (used_in t (name_of t id)) other);
+      };
+    }
+
+pub told_after : (g : Inside) (s t : Known) (ns : List Named) (new : Marking) → g.names ≡ Some s → IsTied g → name_list ns ≡ names_in s → t ≡ record s { names = ns } → TellsUses s t g.uses new → IsTold s t new.ids g.used.items g.objects.wishes
+told_after g s t ns new is tied spelled now tells =
+    let there : known_in g.names ≡ s = ap known_in is in
+    let same : HaveSame g.objects.wishes (map (wish_in s) (mays s)) = subst (λ k. HaveSame g.objects.wishes (map (wish_in k) (mays k))) there tied.wishes in
+    let size : length g.used.items ≡ length s.names = tied.used ∙ ap (λ (k : Known). length k.names) there in
+    let are : AreUsed s g.used.items = subst (λ k. AreUsed k g.used.items) there tied.looked in
+    subst (λ k. IsTold s k new.ids g.used.items g.objects.wishes) (sym now)
+    (told_named s ns g.objects.wishes g.used.items g.uses new (tied.whole s is) same size are tied.none spelled (subst (λ k. TellsUses s k g.uses new) now tells))
 
 pub same_held : (old new : Marks) → new.held ≡ old.held → held_of new ≡ held_of old
 same_held old new same = ap set_of same

@@ -11,12 +11,13 @@ ghost use Rattle.graph_rules.specs.Edges.{changed_edges};
 ghost use Rattle.graph_counts.specs.Counted.{name_of};
 ghost use Rattle.graph_objects.specs.Marks.{held_of};
 ghost use Rattle.graph_wishes.specs.Wishes.{mays};
-ghost use Rattle.graph_tables.specs.Lists.{HaveSame};
+ghost use Rattle.graph_tables.specs.Lists.{AreUsed, HaveSame};
 ghost use Rattle.graph_tables.specs.Whole.{IsWhole};
 ghost use Rattle.graph_tables.specs.Wished.{wish_in};
 ghost use Rattle.dev_graph.specs.Inside.{known_in};
 
 use crate::adding::{one_plain, with_plain};
+use crate::judging::judge_uses;
 use crate::own::own_take;
 use graph_counts::CountedNames;
 use graph_names::Names;
@@ -29,7 +30,7 @@ use plane_io::Memory;
 use std::alloc::Global;
 use std::marker::Model;
 use std::sync::ledger::Ledger;
-use use_counts::Steps;
+use use_counts::{MarkedIds, Steps};
 
 /// The graph of network devices: the names of rows with further plain ones, their devices and claims, the ports of radios, and what is
 /// held on devices.
@@ -40,6 +41,8 @@ pub struct Graph {
     objects: DeviceObjects,
     /// For each id whether its name is used.
     used: Vec<bool>,
+    /// Ids whose name's use an event changes, noted until it is judged. There is room for all ids.
+    uses: MarkedIds,
     loads: u64,
 }
 
@@ -92,14 +95,19 @@ fn add_to(
     name: DevName,
     objects: &mut DeviceObjects,
     used: &mut Vec<bool>,
+    uses: &mut MarkedIds,
 ) -> Result<DevId, Memory>
     requires whole { IsWhole names.old }
     requires other { state.place_among names.old.names name ≡ None }
+    requires room { length names.old.names ≤ uses.old.room }
+    ensures room { length names.new.names ≤ uses.new.room }
+    ensures uses { uses.new.ids ≡ uses.old.ids }
     ensures ok { OnOk result (names.new ≡ record names.old {
       names = after.with_name names.old.names name;
     }) }
     ensures id { IfOk result (λ id. id.0 ≡ length names.old.names) }
-    ensures used { OnOk result (length used.new.items ≡ length names.new.names) }
+    ensures size { OnOk result (length used.new.items ≡ length names.new.names) }
+    ensures used { OnOk result (AreUsed names.new used.new.items) }
     ensures held { OnOk result (held_of objects.new ≡ held_of objects.old) }
     ensures wishes { OnOk result (HaveSame objects.new.wishes
         (map (wish_in names.new) (mays names.new))) }
@@ -107,16 +115,12 @@ fn add_to(
     ensures kept { OnErr result ((objects.new ≡ objects.old) × (used.new.items ≡ used.old.items)) }
 {
     let more = with_plain(alloc, names.names(), name)?;
-    let mut wishes = table(
-        alloc,
-        &more,
-        names.rows(),
-        names.vlans(),
-        names.radio(),
-        objects,
-    )?;
+    let rows = names.rows();
+    let vlans = names.vlans();
+    let mut wishes = table(alloc, &more, rows, vlans, names.radio(), objects)?;
     let mut marks = Vec::new(alloc);
     marks.resize(more.len(), false)?;
+    uses.add_room()?;
     let id = names.add_plain(alloc, name)?;
     judge(names, &mut marks, &mut wishes);
     *objects = wishes;
@@ -133,6 +137,7 @@ impl Graph {
             names: None,
             objects: DeviceObjects::new(alloc),
             used: Vec::new(alloc),
+            uses: MarkedIds::new(alloc),
             loads: 0,
         }
     }
@@ -161,11 +166,13 @@ impl Graph {
         )?;
         let mut used = Vec::new(alloc);
         used.resize(names.names().len(), false)?;
+        let uses = MarkedIds::with_room(alloc, used.len())?;
         judge(&names, &mut used, &mut objects);
         Ok(Graph {
             names: Some(names),
             objects,
             used,
+            uses,
             loads,
         })
     }
@@ -247,7 +254,10 @@ impl Graph {
         ensures err { OnErr result (self.new ≡ self.old) }
     {
         match &mut self.names {
-            Some(names) => add_to(alloc, names, name, &mut self.objects, &mut self.used),
+            Some(names) => {
+                let objects = &mut self.objects;
+                add_to(alloc, names, name, objects, &mut self.used, &mut self.uses)
+            }
             None => {
                 let names = one_plain(alloc, name)?;
                 *self = Graph::over(alloc, names, &self.objects, self.loads)?;
@@ -298,8 +308,9 @@ impl Graph {
         let Some(names) = &mut self.names else {
             return;
         };
-        names.set_present(id, Device { carrier, mtu, mac }, steps);
-        judge(names, &mut self.used, &mut self.objects);
+        let device = Device { carrier, mtu, mac };
+        names.set_present(id, device, &mut self.uses, steps);
+        judge_uses(names, &mut self.used, &mut self.uses, &mut self.objects);
     }
 
     /// A device is gone, and what is held on it with it. One that is not there stays so, and what is held too.
@@ -313,8 +324,8 @@ impl Graph {
         };
         let name = names.names().name(id.0);
         let device = names.device(id);
-        names.set_absent(id, steps);
-        judge(names, &mut self.used, &mut self.objects);
+        names.set_absent(id, &mut self.uses, steps);
+        judge_uses(names, &mut self.used, &mut self.uses, &mut self.objects);
         leave_with(&mut self.objects, device, &name);
     }
 
@@ -327,8 +338,8 @@ impl Graph {
         let Some(names) = &mut self.names else {
             return;
         };
-        names.set_carrier(id, on, steps);
-        judge(names, &mut self.used, &mut self.objects);
+        names.set_carrier(id, on, &mut self.uses, steps);
+        judge_uses(names, &mut self.used, &mut self.uses, &mut self.objects);
     }
 
     /// A name has this many claims.
@@ -341,8 +352,8 @@ impl Graph {
         let Some(names) = &mut self.names else {
             return;
         };
-        names.set_claim(id, claims, steps);
-        judge(names, &mut self.used, &mut self.objects);
+        names.set_claim(id, claims, &mut self.uses, steps);
+        judge_uses(names, &mut self.used, &mut self.uses, &mut self.objects);
     }
 
     /// Whether the name of an id is available.
@@ -374,6 +385,17 @@ impl Graph {
     {
         match &self.names {
             Some(names) => names.users(id),
+            None => 0,
+        }
+    }
+
+    /// How many claim the name of an id.
+    pub fn claims(&self, id: DevId) -> u32
+        requires { IsId self.now id.0 }
+        ensures { result ≡ (after.name_at self.now.known.names id.0).claims }
+    {
+        match &self.names {
+            Some(names) => names.names().claims(id.0),
             None => 0,
         }
     }

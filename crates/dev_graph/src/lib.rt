@@ -3,6 +3,7 @@
 
 mod adding;
 mod graph;
+mod judging;
 mod own;
 
 pub use graph::{Graph, NotLoaded};

@@ -17,27 +17,8 @@ use Rattle.graph_rules.specs.Conditions.{ArePorts}
 use Rattle.graph_counts.specs.Sound.{BeginWithRows, IsSound}
 use Rattle.graph_counts.specs.Told.{HasFewClaims}
 
--- the names from a place on are that of the place and those behind it
-name_next : (names : List Named) (k : ℕ) → k < length names → drop k (name_list names) ≡ (name_at names k).name ∷ drop (suc k) (name_list names)
-name_next [] k h = absurd (omega (arith, h))
-name_next (n ∷ ns) zero h = refl
-name_next (n ∷ ns) (suc k) h = name_next ns k (omega (arith, h))
-
-pub name_then : (names : List Named) (k : ℕ) → k < length names → drop k (name_list names) ≡ (name_at names k).name ∷ drop (k + 1) (name_list names)
-name_then names k h = rw add-one (name_next names k h)
-
--- past the last there are none
-pub none_behind : (names : List Named) (k : ℕ) → length names ≤ k → drop k (name_list names) ≡ []
-none_behind [] zero h = refl
-none_behind [] (suc k) h = refl
-none_behind (n ∷ ns) zero h = absurd (omega (arith, h))
-none_behind (n ∷ ns) (suc k) h = none_behind ns k (omega (arith, h))
-
-pub nothing_behind : (xs : List (List ℕ)) → xs ++ [] ≡ xs
-nothing_behind [] = refl
-nothing_behind (x ∷ xs) = ap (λ (ys : List (List ℕ)). x ∷ ys) (nothing_behind xs)
-
-absent : (ns : List Named) (x : List ℕ) → place_among ns x ≡ None → Contains (name_list ns) x → ⊥
+-- a name that is not found is not among the names
+pub absent : (ns : List Named) (x : List ℕ) → place_among ns x ≡ None → Contains (name_list ns) x → ⊥
 absent [] x h m = none_in_nil x m
 absent (n ∷ ns) x h m =
     let off = lacks x n ns h in
@@ -56,7 +37,8 @@ distinct_push (y ∷ ys) x d off = (
   distinct_push ys x d.1 (λ m. off (there y ys x m)),
 )
 
-names_more : (ns : List Named) (x : List ℕ) → name_list (with_name ns x) ≡ name_list ns ++ x ∷ []
+-- the names with one more
+pub names_more : (ns : List Named) (x : List ℕ) → name_list (with_name ns x) ≡ name_list ns ++ x ∷ []
 names_more [] x = refl
 names_more (n ∷ ns) x = ap (λ (xs : List (List ℕ)). n.name ∷ xs) (names_more ns x)
 
@@ -87,21 +69,6 @@ sound_with_name s x sound new =
 pub few_with_name : (ns : List Named) (x : List ℕ) → HasFewClaims ns → HasFewClaims (with_name ns x)
 few_with_name [] x few = All-cons (λ (n : Named). n.claims ≤ 1024) (record { name = x; device = None; claims = 0 }) [] (omega arith) (All-nil (λ (n : Named). n.claims ≤ 1024))
 few_with_name (n ∷ ns) x few = All-cons (λ (n : Named). n.claims ≤ 1024) n (with_name ns x) (All-head (λ (n : Named). n.claims ≤ 1024) n ns few) (few_with_name ns x (All-tail (λ (n : Named). n.claims ≤ 1024) n ns few))
-
--- behind the rows' names come the plain ones
-pub front_and_rest : (s : Known) → IsSound s → names_in s ≡ map (λ (row : NameRow). row.name) s.rows ++ drop (length s.rows) (names_in s)
-front_and_rest s sound = by s.rows (names_in s) sound.names.plain sound.names.front
-  where
-    by : (rows : List NameRow) (names plain : List (List ℕ)) → names ≡ map (λ (row : NameRow). row.name) rows ++ plain → names ≡ map (λ (row : NameRow). row.name) rows ++ drop (length rows) names
-    by rows names plain is = is ∙ ap (λ p. map (λ (row : NameRow). row.name) rows ++ p) (sym (ap (drop (length rows)) is ∙ behind rows plain))
-      where
-        behind : (rows : List NameRow) (plain : List (List ℕ)) → drop (length rows) (map (λ (row : NameRow). row.name) rows ++ plain) ≡ plain
-        behind [] plain = refl
-        behind (r ∷ rs) plain = behind rs plain
-
--- no VLAN of a bridge counts
-pub without_vlans : (s : Known) → IsSound s → IsSound (record s { vlans = [] })
-without_vlans s sound = record { levels = sound.levels; standing = sound.standing; names = sound.names; ports_once = sound.ports_once; ports = sound.ports }
 
 -- the parts of what is known, with one more name, are sound
 pub sound_added : (s : Known) (x : List ℕ) (rows : List NameRow) (vlans : List VlanRow) (names : List Named) (radio : List RadioPort) → IsSound s → place_among s.names x ≡ None → rows ≡ s.rows → names ≡ with_name s.names x → radio ≡ s.radio

@@ -10,3 +10,5 @@ pub mod FewLemmas
 pub mod TellLemmas
 pub mod LoadLemmas
 pub mod GrowLemmas
+pub mod UseLemmas
+pub mod AddLemmas

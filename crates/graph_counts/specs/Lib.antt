@@ -6,5 +6,7 @@ pub mod Counted
 pub mod Sound
 -- how many claims names may have
 pub mod Told
+-- which ids' names' use changed
+pub mod Uses
 -- how names and their counts are kept
 pub mod Inside

@@ -8,9 +8,11 @@ ghost use Rattle.graph_counts.specs.Told.{HasFewClaims};
 ghost use Rattle.graph_rules.specs.Answers as spec;
 ghost use Rattle.graph_rules.specs.Edges.{changed_edges};
 ghost use Rattle.graph_counts.specs.Counted.{name_of};
+ghost use Rattle.graph_counts.specs.Uses.{TellsUses};
 
 use crate::edges::port_edges;
-use crate::loading::{counts_again, counts_of};
+use crate::loading::counts_of;
+use crate::nodes::rowless_row;
 use graph_names::{Names, Told, kept_names};
 use graph_rules::{DevId, RadioPort};
 use kern_model::{DevName, Device};
@@ -20,7 +22,7 @@ use plane_io::{Items, Memory};
 use std::alloc::Global;
 use std::marker::Model;
 use std::sync::ledger::Ledger;
-use use_counts::{Graph, Steps};
+use use_counts::{Graph, MarkedIds, Steps};
 
 /// Names with their rows, their devices, their claims and the ports of radios, and the counts over them.
 #[derive(Drop)]
@@ -91,12 +93,8 @@ impl CountedNames {
             claims: 0,
         };
         self.names.add(name, told)?;
-        let rows = self.rows.as_slice();
-        match counts_again(alloc, &self.names, rows, self.radio.as_slice()) {
-            Ok(counts) => {
-                self.counts = counts;
-                Ok(DevId(id))
-            }
+        match self.counts.add(alloc, rowless_row(&name)) {
+            Ok(()) => Ok(DevId(id)),
             Err(error) => {
                 self.names.forget_last();
                 Err(error)
@@ -201,35 +199,53 @@ impl CountedNames {
     }
 
     /// A device is there.
-    pub fn set_present<L: Ledger>(&mut self, id: DevId, device: Device, steps: &mut Steps<L>)
-        requires { id.0 < length self.old.names }
+    pub fn set_present<L: Ledger>(
+        &mut self,
+        id: DevId,
+        device: Device,
+        uses: &mut MarkedIds,
+        steps: &mut Steps<L>,
+    )
+        requires within { id.0 < length self.old.names }
+        requires room { length self.old.names ≤ uses.old.room }
         ensures known { self.new ≡ record self.old {
           names = with_device self.old.names id.0 (Some device);
         } }
         ensures cost { steps.new ≤ steps.old + (1 + 2 * changed_edges self.old self.new) }
+        ensures uses { TellsUses self.old self.new uses.old uses.new }
     {
         self.names.set_device(id.0, Some(device));
-        self.counts.set_present(id.0, device.carrier, steps);
+        self.counts.set_present(id.0, device.carrier, uses, steps);
     }
 
     /// A device is gone.
-    pub fn set_absent<L: Ledger>(&mut self, id: DevId, steps: &mut Steps<L>)
-        requires { id.0 < length self.old.names }
+    pub fn set_absent<L: Ledger>(&mut self, id: DevId, uses: &mut MarkedIds, steps: &mut Steps<L>)
+        requires within { id.0 < length self.old.names }
+        requires room { length self.old.names ≤ uses.old.room }
         ensures known { self.new ≡ record self.old { names = with_device self.old.names id.0 None } }
         ensures cost { steps.new ≤ steps.old + (1 + 2 * changed_edges self.old self.new) }
+        ensures uses { TellsUses self.old self.new uses.old uses.new }
     {
         self.names.set_device(id.0, None);
-        self.counts.set_absent(id.0, steps);
+        self.counts.set_absent(id.0, uses, steps);
     }
 
     /// The carrier of a device is on or off. Of one that is not there nothing is told.
-    pub fn set_carrier<L: Ledger>(&mut self, id: DevId, on: bool, steps: &mut Steps<L>)
-        requires { id.0 < length self.old.names }
+    pub fn set_carrier<L: Ledger>(
+        &mut self,
+        id: DevId,
+        on: bool,
+        uses: &mut MarkedIds,
+        steps: &mut Steps<L>,
+    )
+        requires within { id.0 < length self.old.names }
+        requires room { length self.old.names ≤ uses.old.room }
         ensures known { self.new ≡ record self.old {
           names = with_device self.old.names id.0
               (option_map (with_carrier on) (name_at self.old.names id.0).device);
         } }
         ensures cost { steps.new ≤ steps.old + (1 + 2 * changed_edges self.old self.new) }
+        ensures uses { TellsUses self.old self.new uses.old uses.new }
     {
         if let Some(device) = self.names.device(id.0) {
             self.set_present(
@@ -238,21 +254,30 @@ impl CountedNames {
                     carrier: on,
                     ..device
                 },
+                uses,
                 steps,
             );
         }
     }
 
     /// The name of an id has this many claims.
-    pub fn set_claim<L: Ledger>(&mut self, id: DevId, claims: u32, steps: &mut Steps<L>)
+    pub fn set_claim<L: Ledger>(
+        &mut self,
+        id: DevId,
+        claims: u32,
+        uses: &mut MarkedIds,
+        steps: &mut Steps<L>,
+    )
         requires within { id.0 < length self.old.names }
+        requires room { length self.old.names ≤ uses.old.room }
         requires few { claims ≤ 1024 }
         ensures known { self.new ≡ record self.old {
           names = with_claims self.old.names id.0 claims;
         } }
         ensures cost { steps.new ≤ steps.old + (1 + 2 * changed_edges self.old self.new) }
+        ensures uses { TellsUses self.old self.new uses.old uses.new }
     {
         self.names.set_claims(id.0, claims);
-        self.counts.set_claim(id.0, claims, steps);
+        self.counts.set_claim(id.0, claims, uses, steps);
     }
 }

@@ -51,7 +51,7 @@ fn node_row(row: &NameRow) -> Row
 }
 
 /// The node of a name without a row.
-fn rowless_row(name: &DevName) -> Row
+pub(crate) fn rowless_row(name: &DevName) -> Row
     ensures { result ≡ spec.node_row (rowless name.now) }
 {
     let kind = if vlan_parts(name).is_some() {

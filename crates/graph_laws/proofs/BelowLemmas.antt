@@ -22,7 +22,7 @@ use Rattle.graph_rules.specs.State.{Named, Known, named_in, names_in, name_list,
 use Rattle.graph_rules.specs.Answers.{port_of, given_ports, standing_in, opens_in, available_in, links_in, link_in}
 use Rattle.graph_laws.specs.Knowing.{KnowsRows}
 use Rattle.graph_laws.specs.Below.{AgreesBelow}
-use Rattle.graph_laws.proofs.UsedLemmas.{row_or_less}
+use Rattle.graph_wishes.proofs.StoodLemmas.{row_or_less}
 
 module _ (facts : Facts) (s : Known) (agrees : AgreesBelow facts s) where
   standing_below : (name : List ℕ) → standing_in s name ≡ standing_at facts name

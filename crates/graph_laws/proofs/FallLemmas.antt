@@ -38,7 +38,7 @@ use Rattle.graph_counts.specs.Sound.{IsSound}
 use Rattle.graph_wishes.specs.Wishes.{May, may_alone, may_master, may_entry, is_own_entry, vlan_mays, mays_by, mays_of, mays, is_used_may, used_mays}
 use Rattle.graph_wishes.proofs.WishLemmas.{wants_used_mays}
 use Rattle.graph_laws.specs.Links.{HoldsLinksOfRows}
-use Rattle.graph_laws.proofs.StoodLemmas.{used_lower}
+use Rattle.graph_wishes.proofs.StoodLemmas.{used_lower}
 
 -- a link that a row may make: its name decides it alone, and the row of a VLAN is over the same
 record IsLinkMay (s : Known) (name : List ℕ) (made : LinkKind) (m : May) : Type 0 where

@@ -1,5 +1,5 @@
 -- A graph shares the used names of its network.
-use Rattle.std.proofs.Common.{◌≡◌, ◌⊎◌, inl, inr, ℕ, List, [], ◌∷◌, ◌++◌, map, Bool, true, false, cond, Contains, Option, Some, None, refl, ap, sym, subst, ◌∙◌}
+use Rattle.std.proofs.Common.{◌≡◌, inl, inr, ℕ, List, [], ◌∷◌, ◌++◌, map, Bool, true, false, cond, Contains, Option, Some, None, refl, ap, sym, subst, ◌∙◌}
 use Rattle.std.specs.Prelude.{bytes_eq, is_some}
 use Rattle.std.specs.Option.{option_and_then}
 use Rattle.std.proofs.lemmas.List.Elements.{Contains-append_left}
@@ -27,22 +27,8 @@ use Rattle.graph_rules.specs.Agreeing.{Agrees, SharesUsed, wanted_on_names}
 use Rattle.graph_rules.specs.Wanted.{want_in}
 use Rattle.graph_rules.proofs.WantLemmas.{wants_same}
 use Rattle.graph_laws.specs.Knowing.{KnowsRows}
+use Rattle.graph_wishes.proofs.StoodLemmas.{row_or_less}
 use Rattle.graph_laws.proofs.LoadLemmas.{read_sound}
-
--- a name has a row, or that of a name without one
-pub row_or_less : (rows : List NameRow) (name : List ℕ) → Contains (map (λ (row : NameRow). row.name) rows) name ⊎ (row_at rows name ≡ rowless name)
-row_or_less [] name = inr refl
-row_or_less (row ∷ rows) name = go (bytes_eq row.name name) refl (row_or_less rows name)
-  where
-    others : List (List ℕ)
-    others = map (λ (r : NameRow). r.name) rows
-
-    go : (b : Bool) → bytes_eq row.name name ≡ b → Contains others name ⊎ (row_at rows name ≡ rowless name) → Contains (row.name ∷ others) name ⊎ (cond {A = NameRow} b row (row_at rows name) ≡ rowless name)
-    go true is rest = inl (subst (Contains (row.name ∷ others)) (bytes_same row.name name is) (here row.name others))
-    go false is rest = elim rest as (λ _. Contains (row.name ∷ others) name ⊎ (row_at rows name ≡ rowless name)) [
-      | inl member ↦ inl (there row.name others name member)
-      | inr less ↦ inr less
-    ]
 
 -- a name with a device is among the names
 with_device : (names : List Named) (name : List ℕ) → is_some (device_among names name) ≡ true → Contains (name_list names) name

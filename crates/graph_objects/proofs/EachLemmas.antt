@@ -18,7 +18,8 @@ use Rattle.graph_objects.specs.declared.slot.Side.TheVariants.{Held, Wanted}
 use Rattle.graph_objects.specs.Steady.{IsGrounded}
 use Rattle.graph_objects.specs.Slots.{on, wished, Entries, listed, set_on, wishes, wished_set, IsAt, IsSlot, AreSlots}
 use Rattle.graph_objects.specs.Marks.{judged}
-use Rattle.graph_objects.specs.Changed.{each_slot, first_slots, leaves_with, marked, let_go, judged_slot}
+use Rattle.graph_objects.specs.Decided.{is_decided, judged_by}
+use Rattle.graph_objects.specs.Changed.{each_slot, first_slots, leaves_with, marked, let_go, judged_slot, judged_slot_by}
 use Rattle.graph_objects.proofs.SteadyLemmas.{grounded_within}
 use Rattle.graph_objects.proofs.SlotLemmas.{in_slot, of_slot}
 
@@ -189,7 +190,42 @@ gone_wishes es name =
     ∙ ap wishes (sym (all_written (marked (set_on Held es) name) es))
     ∙ wishes_stay (marked (set_on Held es) name) (λ s. refl) (λ s. refl) es (length es)
 
--- what may be wanted is judged
+-- what may be wanted is judged, and its objects stay
+module _ (g : Wish → Wish) (objects : (w : Wish) → (g w).object ≡ w.object) where
+  abbrev with_wish : Slot → Slot
+  with_wish s = record s { wish = option_map g s.wish }
+
+  pub changed_wishes : (es : Entries) → wishes (each_slot with_wish es) ≡ map g (wishes es)
+  changed_wishes [] = refl
+  changed_wishes (e ∷ es) = by (changed_wishes es) e.1.wish
+    where
+      by : wishes (each_slot with_wish es) ≡ map g (wishes es) → (r : Option Wish) → cons_option (option_map g r) (wishes (each_slot with_wish es)) ≡ map g (cons_option r (wishes es))
+      by rest None = rest
+      by rest (Some w) = ap (λ (ws : List Wish). g w ∷ ws) rest
+
+  pub changed_held : (es : Entries) → listed Held (each_slot with_wish es) ≡ listed Held es
+  changed_held [] = refl
+  changed_held (e ∷ es) = ap (cons_option e.1.held) (changed_held es)
+
+  same_objects : (ws : List Wish) → map (λ (w : Wish). w.object) (map g ws) ≡ map (λ (w : Wish). w.object) ws
+  same_objects [] = refl
+  same_objects (w ∷ ws) = λ i. objects w i ∷ same_objects ws i
+
+  changed_wish : (key : ObjectKey) (r : Option Wish) → ((w : Wish) → r ≡ Some w → IsAt key w.object) → (w : Wish) → option_map g r ≡ Some w → IsAt key w.object
+  changed_wish key None is w h = cc h
+  changed_wish key (Some v) is w h = let same : g v ≡ w = cc h in subst (IsAt key) (sym (objects v) ∙ ap (λ (u : Wish). u.object) same) (is v refl)
+
+  pub changed_slots : (es : Entries) → AreSlots es → AreSlots (each_slot with_wish es)
+  changed_slots es slots = record {
+    each = λ e member.
+        let from = member_of_map (λ (e : ObjectKey × Slot). (e.0, with_wish e.1)) es e member in
+        let was = slots.each from.source from.member in
+        subst IsSlot from.same (record { held = was.held; wish = changed_wish from.source.0 from.source.1.wish was.wish });
+    held = subst (λ xs. IsGrounded (set.from_list xs)) (sym (changed_held es)) slots.held;
+    wishes = subst (λ os. IsGrounded (set.from_list os)) (sym (ap (map (λ (w : Wish). w.object)) (changed_wishes es) ∙ same_objects (wishes es))) slots.wishes;
+  }
+
+-- by the use of names
 module _ (used : List Bool) where
   pub more_judged : (es now : Entries) (i : ℕ) (s t : Slot) (r : Option Wish) → now ≡ first_slots (judged_slot used) es i
       → slice_get (map (λ (e : ObjectKey × Slot). e.1) now) i ≡ Some t → slice_get (map (λ (e : ObjectKey × Slot). e.1) now) i ≡ Some s → r ≡ (judged_slot used t).wish
@@ -199,31 +235,28 @@ module _ (used : List Bool) where
       more_written (judged_slot used) es now i t (record s { wish = r }) is at (ap (λ (y : Slot). record y { wish = r }) same ∙ ap (λ (w : Option Wish). record t { wish = w }) told)
 
   pub judged_wishes : (es : Entries) → wishes (each_slot (judged_slot used) es) ≡ map (judged used) (wishes es)
-  judged_wishes [] = refl
-  judged_wishes (e ∷ es) = by (judged_wishes es) e.1.wish
-    where
-      by : wishes (each_slot (judged_slot used) es) ≡ map (judged used) (wishes es) → (r : Option Wish) → cons_option (option_map (judged used) r) (wishes (each_slot (judged_slot used) es)) ≡ map (judged used) (cons_option r (wishes es))
-      by rest None = rest
-      by rest (Some w) = ap (λ (ws : List Wish). judged used w ∷ ws) rest
+  judged_wishes es = changed_wishes (judged used) (λ w. refl) es
 
   pub judged_held : (es : Entries) → listed Held (each_slot (judged_slot used) es) ≡ listed Held es
-  judged_held [] = refl
-  judged_held (e ∷ es) = ap (cons_option e.1.held) (judged_held es)
-
-  same_objects : (ws : List Wish) → map (λ (w : Wish). w.object) (map (judged used) ws) ≡ map (λ (w : Wish). w.object) ws
-  same_objects [] = refl
-  same_objects (w ∷ ws) = ap (λ (os : List Object). w.object ∷ os) (same_objects ws)
-
-  judged_wish : (key : ObjectKey) (r : Option Wish) → ((w : Wish) → r ≡ Some w → IsAt key w.object) → (w : Wish) → option_map (judged used) r ≡ Some w → IsAt key w.object
-  judged_wish key None is w h = cc h
-  judged_wish key (Some v) is w h = let same : judged used v ≡ w = cc h in subst (λ (u : Wish). IsAt key u.object) same (is v refl)
+  judged_held es = changed_held (judged used) (λ w. refl) es
 
   pub judged_slots : (es : Entries) → AreSlots es → AreSlots (each_slot (judged_slot used) es)
-  judged_slots es slots = record {
-    each = λ e member.
-        let from = member_of_map (λ (e : ObjectKey × Slot). (e.0, judged_slot used e.1)) es e member in
-        let was = slots.each from.source from.member in
-        subst IsSlot from.same (record { held = was.held; wish = judged_wish from.source.0 from.source.1.wish was.wish });
-    held = subst (λ xs. IsGrounded (set.from_list xs)) (sym (judged_held es)) slots.held;
-    wishes = subst (λ os. IsGrounded (set.from_list os)) (sym (ap (map (λ (w : Wish). w.object)) (judged_wishes es) ∙ same_objects (wishes es))) slots.wishes;
-  }
+  judged_slots es slots = changed_slots (judged used) (λ w. refl) es slots
+
+  -- and by some ids
+  module _ (ids : List ℕ) where
+    same_object : (w : Wish) (b : Bool) → (if b then judged used w else w).object ≡ w.object
+    same_object w true = refl
+    same_object w false = refl
+
+    pub decided_object : (w : Wish) → (judged_by used ids w).object ≡ w.object
+    decided_object w = same_object w (is_decided ids w)
+
+    pub decided_wishes : (es : Entries) → wishes (each_slot (judged_slot_by used ids) es) ≡ map (judged_by used ids) (wishes es)
+    decided_wishes es = changed_wishes (judged_by used ids) decided_object es
+
+    pub decided_held : (es : Entries) → listed Held (each_slot (judged_slot_by used ids) es) ≡ listed Held es
+    decided_held es = changed_held (judged_by used ids) decided_object es
+
+    pub decided_slots : (es : Entries) → AreSlots es → AreSlots (each_slot (judged_slot_by used ids) es)
+    decided_slots es slots = changed_slots (judged_by used ids) decided_object es slots

@@ -1,5 +1,5 @@
 -- What one more object that may be wanted, or that is held, makes of the slots.
-use Rattle.std.proofs.Common.{arith, ℕ, zero, suc, ◌≡◌, ◌<◌, ◌+◌, ◌⊎◌, ◌↔◌, inl, inr, List, [], ◌∷◌, ◌++◌, map, length, Contains, Option, Some, None, true, refl, ap, sym, subst, ◌∙◌}
+use Rattle.std.proofs.Common.{arith, ℕ, zero, suc, ◌≡◌, ◌≤◌, ◌<◌, ◌+◌, ◌⊎◌, ◌↔◌, inl, inr, List, [], ◌∷◌, ◌++◌, map, length, Contains, Option, Some, None, true, refl, ap, sym, subst, ◌∙◌}
 use Rattle.std.specs.Prelude.{slice_get, slice_index_or, position, nat_lt}
 use Rattle.std.specs.List.{cons_option, IsDistinct}
 use Rattle.std.specs.Map.{keys_of}
@@ -73,6 +73,16 @@ has_more old new key index is last =
 
 pub within : (es : Entries) (i : ℕ) (e : ObjectKey × Slot) → slice_get es i ≡ Some e → i < length es
 within es i e h = slice_get_within es i e h
+
+pub one_slot_more : (old new : Entries) (key : ObjectKey) (index : ℕ) → HasSlot old new key index → length new ≤ length old + 1
+one_slot_more old new key index has = elim has.more as (λ _. length new ≤ length old + 1) [
+  | inl is ↦ omega (arith, ap length is)
+  | inr more ↦ omega (arith, ap length more, one_longer old (key, empty_slot))
+]
+  where
+    one_longer : (es : Entries) (e : ObjectKey × Slot) → length (es ++ e ∷ []) ≡ length es + 1
+    one_longer [] e = refl
+    one_longer (x ∷ xs) e = let rest = one_longer xs e in omega (arith, rest)
 
 empty_is : (key : ObjectKey) → IsSlot (key, empty_slot)
 empty_is key = record { held = λ o none. cc none; wish = λ w none. cc none }

@@ -12,3 +12,8 @@ pub mod WalkLemmas
 pub mod GrowLemmas
 pub mod BitLemmas
 pub mod MarkedLemmas
+pub mod DeciderLemmas
+pub mod JudgeLemmas
+pub mod SomeMarkedLemmas
+pub mod OrderLemmas
+pub mod ListedLemmas

@@ -137,12 +137,12 @@ size_stays [] i w = refl
 size_stays (x ∷ xs) zero w = refl
 size_stays (x ∷ xs) (suc i) w = ap suc (size_stays xs i w)
 
-at_written : (es : Entries) (i : ℕ) (key : ObjectKey) (s w : Slot) → slice_get es i ≡ Some (key, s) → slice_get (set_value_at es i w) i ≡ Some (key, w)
+pub at_written : (es : Entries) (i : ℕ) (key : ObjectKey) (s w : Slot) → slice_get es i ≡ Some (key, s) → slice_get (set_value_at es i w) i ≡ Some (key, w)
 at_written [] i key s w at = cc at
 at_written (x ∷ xs) zero key s w at = let same : x ≡ (key, s) = cc at in ap (λ (e : ObjectKey × Slot). Some (e.0, w)) same
 at_written (x ∷ xs) (suc i) key s w at = at_written xs i key s w at
 
-at_others : (es : Entries) (i j : ℕ) (w : Slot) → j ≢ i → slice_get (set_value_at es i w) j ≡ slice_get es j
+pub at_others : (es : Entries) (i j : ℕ) (w : Slot) → j ≢ i → slice_get (set_value_at es i w) j ≡ slice_get es j
 at_others [] i j w apart = refl
 at_others (x ∷ xs) zero zero w apart = absurd (apart refl)
 at_others (x ∷ xs) zero (suc j) w apart = refl
@@ -226,7 +226,7 @@ marked_with_room old new es room same marked =
 put_more : (old new : List ℕ) (i : ℕ) → IsPut old new i true → (n : ℕ) → bit old n ≡ 1 → bit new n ≡ 1
 put_more old new i put n h = elim (cases_eq n i) as (λ _. bit new n ≡ 1) [ inl same ↦ ap (bit new) same ∙ put.here | inr other ↦ put.others n other ∙ h ]
 
-value_is : (es : Entries) (i : ℕ) (s : Slot) (e : ObjectKey × Slot) → slice_get (map (λ (e : ObjectKey × Slot). e.1) es) i ≡ Some s → slice_get es i ≡ Some e → s ≡ e.1
+pub value_is : (es : Entries) (i : ℕ) (s : Slot) (e : ObjectKey × Slot) → slice_get (map (λ (e : ObjectKey × Slot). e.1) es) i ≡ Some s → slice_get es i ≡ Some e → s ≡ e.1
 value_is [] i s e h g = cc h
 value_is (x ∷ xs) zero s e h g = let first : x.1 ≡ s = cc h in let second : x ≡ e = cc g in sym first ∙ ap (λ (y : ObjectKey × Slot). y.1) second
 value_is (x ∷ xs) (suc i) s e h g = value_is xs i s e h g
@@ -472,7 +472,7 @@ module _ (turn : Turn) (es : Entries) (marks : List ℕ) (marked : AreMarked mar
   due_of_some o q h true is = refl
   due_of_some o q h false is = let none : None ≡ Some q = sym (ap (λ b. if b then Some (placed o) else None) is) ∙ h in cc none
 
-  no_due : (k : ℕ) (q : Placed) → bit marks k ≡ 0 → due_in turn es k ≡ Some q → ⊥
+  pub no_due : (k : ℕ) (q : Placed) → bit marks k ≡ 0 → due_in turn es k ≡ Some q → ⊥
   no_due k q none h = by (slice_get es k) refl h
     where
       on_slot : (e : ObjectKey × Slot) → slice_get es k ≡ Some e → (r : Option Object) → on (side_of turn) e.1 ≡ r → due_slot turn es r ≡ Some q → ⊥

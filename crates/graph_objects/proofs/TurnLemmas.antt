@@ -38,7 +38,7 @@ use Rattle.graph_objects.specs.Places.{plain_call, height_number_of, place_of, p
 use Rattle.graph_objects.proofs.LineLemmas.{key_of_put, key_of_take, takes_alike}
 use Rattle.graph_objects.proofs.SlotLemmas.{in_slot, of_slot, is_at, size_on, value_on}
 
-places_total : IsTotalOrder place_cmp
+pub places_total : IsTotalOrder place_cmp
 places_total = then_total (on_total (λ p. p.rank) nat_cmp_total) (then_total (on_total (λ p. p.height) nat_cmp_total) (on_total (λ p. p.line) nat_list_cmp_total))
 
 -- the best so far is not after another
@@ -118,6 +118,9 @@ module _ (turn : Turn) (es : Entries) where
       by : (r : Option (ObjectKey × Slot)) → slice_get es index ≡ r → option_and_then (λ (e : ObjectKey × Slot). on (side_of turn) e.1) r ≡ Some o → Has (set_on (side_of turn) es) o
       by None is h = cc h
       by (Some e) is h = of_slot (side_of turn) es e o (index, slice_get_within es index e is, get_or_from_slice_get es index e e is) h
+
+  pub due_at_index : (index : ℕ) (p : Placed) → due_in turn es index ≡ Some p → IsDueAt turn es p
+  due_at_index index p h = due_of_slot (option_and_then (λ e. on (side_of turn) e.1) (slice_get es index)) (in_set index) p h
 
   pub best_of_more : (index : ℕ) (best : Option Placed) → IsBest turn es index best → IsBest turn es (index + 1) (sooner best (due_in turn es index))
   best_of_more index best so_far = record {

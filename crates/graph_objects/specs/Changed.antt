@@ -7,6 +7,7 @@ use Rattle.kern_model.specs.Standing.{stands_on}
 use Rattle.graph_objects.specs.declared.slot.Slot.{Slot}
 use Rattle.graph_objects.specs.Slots.{Entries}
 use Rattle.graph_objects.specs.Marks.{judged}
+use Rattle.graph_objects.specs.Decided.{judged_by}
 
 -- each slot as a function makes it, and the first slots alone
 abbrev pub each_slot : (Slot → Slot) → Entries → Entries
@@ -33,3 +34,7 @@ let_go s = if s.leaves then record s { held = None } else s
 -- what a slot may want is wanted where both names are used
 abbrev pub judged_slot : List Bool → Slot → Slot
 judged_slot used s = record s { wish = option_map (judged used) s.wish }
+
+-- the same, where one of some ids decides it
+abbrev pub judged_slot_by : List Bool → List ℕ → Slot → Slot
+judged_slot_by used ids s = record s { wish = option_map (judged_by used ids) s.wish }

@@ -21,6 +21,10 @@ pub record HasSlot (old new : Entries) (key : ObjectKey) (index : ℕ) : Type 0 
   pub there : slice_get new index ≡ Some (key, slot)
   pub more : (new ≡ old) ⊎ (new ≡ old ++ (key, empty_slot) ∷ [])
 
+-- nothing is new, or the entries have such a slot
+abbrev pub MayHaveSlot : Entries → Entries → ObjectKey → Type 0
+MayHaveSlot old new key = (new ≡ old) ⊎ ((index : ℕ) × HasSlot old new key index)
+
 -- there is this wish among others
 abbrev pub HasMore : List Wish → List Wish → Wish → Type 0
 HasMore old new wish = (w : Wish) → Contains new w ↔ (Contains old w ⊎ (w ≡ wish))

@@ -10,12 +10,16 @@ pub mod Slots
 pub mod Lookup
 -- links of names
 pub mod Links
+-- wishes that are judged where one of some ids decides them
+pub mod Decided
 -- slots that are written
 pub mod Changed
 -- slots and wishes with one more
 pub mod Grown
 -- what is held, and what may be wanted
 pub mod Marks
+-- which slots an id decides
+pub mod Deciders
 -- objects on one side alone
 pub mod Alone
 -- sets of numbers as the bits of words
@@ -26,5 +30,7 @@ pub mod Turns
 pub mod Places
 -- slots that are marked
 pub mod Marked
+-- what is due in the order of its calls
+pub mod Ordered
 -- how slots are kept
 pub mod Inside

@@ -1,5 +1,5 @@
 -- Slots that are marked: all of which a settling may take or put an object.
-use Rattle.std.specs.Prelude.{ℕ, ◌≡◌, ◌≤◌, ◌*◌, List, length, slice_get, Bool, true, false, nat_lt, Option, Some, None}
+use Rattle.std.specs.Prelude.{ℕ, ◌≡◌, ◌≤◌, ◌*◌, ◌⊎◌, List, length, slice_get, Bool, true, false, nat_lt, Option, Some, None}
 use Rattle.kern_model.specs.declared.object.LinkKind.{LinkKind}
 use Rattle.kern_model.specs.declared.object.Object.{Object}
 use Rattle.kern_model.specs.declared.object.Object.TheVariants as object
@@ -48,3 +48,14 @@ abbrev pub AreLinksWanted : Entries → Type 0
 AreLinksWanted es =
     (name : List ℕ) (kind : LinkKind) → Has (set_on Held es) (object.Link name kind)
     → Has (set_on Wanted es) (object.Link name kind)
+
+-- the slot at an index is marked where it has a difference, and where it holds an object on a link which is taken
+pub record IsMarkedAt (marks : List ℕ) (es : Entries) (i : ℕ) : Type 0 where
+  pub differing : (e : ObjectKey × Slot) → slice_get es i ≡ Some e → differs e.1 ≡ true → bit marks i ≡ 1
+  pub falling : (e : ObjectKey × Slot) (o : Object) → slice_get es i ≡ Some e → e.1.held ≡ Some o
+      → is_on_taken (set_on Held es) (set_on Wanted es) o ≡ true → bit marks i ≡ 1
+
+-- some slots are marked so, and the marks of others stay
+pub record MarkSome (es : Entries) (old new : List ℕ) (IsOne : ℕ → Type 0) : Type 0 where
+  pub size : length new ≡ length old
+  pub each : (i : ℕ) → IsMarkedAt new es i ⊎ ((IsOne i → ⊥) × (bit new i ≡ bit old i))

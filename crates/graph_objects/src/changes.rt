@@ -1,22 +1,23 @@
-//! What changes in slots: objects are taken, put, or leave with a name, and others are wanted.
-ghost use Rattle.std.specs.Prelude.{◌≡◌, ◌<◌, ◌≤◌, ◌*◌, length, true};
+//! What changes in slots: objects are taken, put, or leave with a name.
+ghost use Rattle.std.specs.Prelude.{◌≡◌, ◌<◌, ◌*◌, length, true};
 ghost use Rattle.std.specs.FinSet as set;
 ghost use Rattle.indexmap.specs.IndexMap.{set_value_at};
 ghost use Rattle.kern_model.specs.ObjectOrder.{Has};
 ghost use Rattle.kern_model.specs.Standing.{gone};
 ghost use Rattle.kern_model.specs.Kernel.{after_call};
 ghost use Rattle.kern_model.specs.Touched as touched;
-ghost use Rattle.graph_objects.specs.Marks as uses;
+ghost use Rattle.graph_objects.specs.Steady.{IsSteady};
 ghost use Rattle.graph_objects.specs.Slots.{AreSlots, set_on, wishes};
 ghost use Rattle.graph_objects.specs.Bits.{IsPut};
 ghost use Rattle.graph_objects.specs.Marked.{AreMarked, differs};
+ghost use Rattle.graph_objects.specs.Deciders.{deciders};
 ghost use Rattle.graph_objects.specs.Changed as spec;
 
 use crate::bits::Bits;
 use crate::due::stands_on;
 use crate::key::{ObjectKey, key_of};
-use crate::marking::{differs, mark};
-use crate::slot::{Side, Slot, Wish};
+use crate::marking::differs;
+use crate::slot::{Side, Slot};
 use indexmap::IndexMap;
 use kern_model::{Call, DevName, Object};
 
@@ -41,6 +42,8 @@ pub(crate) fn take(slots: &mut IndexMap<ObjectKey, Slot>, marks: &mut Bits, obje
     ensures held { set_on Side.Held slots.new.entries
         ≡ set.remove (set_on Side.Held slots.old.entries) object.now }
     ensures wishes { wishes slots.new.entries ≡ wishes slots.old.entries }
+    ensures deciders { deciders slots.new.entries ≡ deciders slots.old.entries }
+    ensures steady { IsSteady (set_on Side.Held slots.old.entries) }
 {
     let Some(index) = slots.get_index_of(&key_of(object)) else {
         return;
@@ -64,6 +67,8 @@ pub(crate) fn put(slots: &mut IndexMap<ObjectKey, Slot>, marks: &mut Bits, objec
     ensures held { set_on Side.Held slots.new.entries
         ≡ after_call (set_on Side.Held slots.old.entries) (Call.Put object.now) }
     ensures wishes { wishes slots.new.entries ≡ wishes slots.old.entries }
+    ensures deciders { deciders slots.new.entries ≡ deciders slots.old.entries }
+    ensures steady { IsSteady (set_on Side.Wanted slots.old.entries) }
 {
     let Some(index) = slots.get_index_of(&key_of(object)) else {
         return;
@@ -137,57 +142,8 @@ pub(crate) fn leave(slots: &mut IndexMap<ObjectKey, Slot>, marks: &mut Bits, nam
     ensures held { set_on Side.Held slots.new.entries
         ≡ gone (set_on Side.Held slots.old.entries) name.now }
     ensures wishes { wishes slots.new.entries ≡ wishes slots.old.entries }
+    ensures deciders { deciders slots.new.entries ≡ deciders slots.old.entries }
 {
     mark_leaving(slots, name);
     let_go(slots, marks);
-}
-
-fn is_used(used: &[bool], id: usize) -> bool
-    ensures { result ≡ uses.is_used used.now id }
-{
-    match used.get(id) {
-        Some(used) => *used,
-        None => false,
-    }
-}
-
-/// A wish is wanted where both of its names are used.
-fn judged(used: &[bool], wish: &Wish) -> Wish
-    ensures { result ≡ uses.judged used.now wish.now }
-{
-    Wish {
-        wanted: is_used(used, wish.first) && is_used(used, wish.second),
-        ..*wish
-    }
-}
-
-fn judged_wish(used: &[bool], slot: &Slot) -> Option<Wish>
-    ensures { result ≡ (spec.judged_slot used.now slot.now).wish }
-{
-    match &slot.wish {
-        Some(wish) => Some(judged(used, wish)),
-        None => None,
-    }
-}
-
-/// Objects are wanted where the names of their two ids are used.
-fn judge_slots(slots: &mut IndexMap<ObjectKey, Slot>, used: &[bool])
-    ensures { slots.new.entries ≡ spec.each_slot (spec.judged_slot used.now) slots.old.entries }
-{
-    for index in 0..slots.len() {
-        let wish = judged_wish(used, &slots[index]);
-        slots[index].wish = wish;
-    }
-}
-
-/// Objects are wanted where the names of their two ids are used, and slots are marked anew.
-pub(crate) fn judge(slots: &mut IndexMap<ObjectKey, Slot>, marks: &mut Bits, used: &[bool])
-    requires slots { AreSlots slots.old.entries }
-    requires room { length slots.old.entries ≤ 64 * length marks.old }
-    ensures slots { slots.new.entries ≡ spec.each_slot (spec.judged_slot used.now)
-        slots.old.entries }
-    ensures marked { AreMarked marks.new slots.new.entries }
-{
-    judge_slots(slots, used);
-    mark(slots, marks);
 }

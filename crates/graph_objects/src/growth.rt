@@ -1,13 +1,15 @@
 //! Slots are made for objects that may be wanted, and for those that are held from before.
-ghost use Rattle.std.specs.Prelude.{◌≡◌, ◌≤◌, ◌*◌, ℕ, length, Some, IfOk, OnOk, OnErr};
+ghost use Rattle.std.specs.Prelude.{◌≡◌, ◌≤◌, ◌+◌, ◌*◌, ℕ, length, Contains, Some, IfOk, OnOk, OnErr};
 ghost use Rattle.std.specs.FinSet as set;
 ghost use Rattle.graph_objects.specs.Keys as key;
 ghost use Rattle.graph_objects.specs.Slots.{AreSlots, listed, set_on, wishes};
 ghost use Rattle.graph_objects.specs.Bits.{bit};
 ghost use Rattle.graph_objects.specs.Marked.{AreMarked};
+ghost use Rattle.graph_objects.specs.Deciders.{AreListed, HasNoNewWish, deciders, slots_of};
 ghost use Rattle.graph_objects.specs.Grown as spec;
 
 use crate::bits::Bits;
+use crate::deciders::list_wish;
 use crate::form::has_form;
 use crate::key::{ObjectKey, key_of};
 use crate::marking::mark_all;
@@ -46,24 +48,52 @@ fn slot_for(
     Ok(index)
 }
 
+/// The place of the slot of a wish, which is listed at both of its ids.
+fn slot_of_wish(
+    slots: &mut IndexMap<ObjectKey, Slot>,
+    marks: &mut Bits,
+    by_id: &mut Vec<Vec<usize>>,
+    wish: &Wish,
+) -> Result<usize, Memory>
+    requires room { length slots.old.entries ≤ 64 * length marks.old }
+    requires listed { AreListed by_id.old.items (deciders slots.old.entries) }
+    ensures room { length slots.new.entries ≤ 64 * length marks.new }
+    ensures same { (n : ℕ) → bit marks.new n ≡ bit marks.old n }
+    ensures listed { AreListed by_id.new.items (deciders slots.new.entries) }
+    ensures ok { IfOk result (spec.HasSlot slots.old.entries slots.new.entries
+        (key.key_of wish.now.object)) }
+    ensures first { IfOk result (Contains (slots_of by_id.new.items wish.now.first)) }
+    ensures second { IfOk result (Contains (slots_of by_id.new.items wish.now.second)) }
+    ensures err { OnErr result (spec.MayHaveSlot slots.old.entries slots.new.entries
+        (key.key_of wish.now.object)) }
+{
+    let index = slot_for(slots, marks, &wish.object)?;
+    list_wish(by_id, wish, index)?;
+    Ok(index)
+}
+
 /// An object may be wanted, where the names of two ids are used. Another of its key may not.
 pub(crate) fn expect(
     slots: &mut IndexMap<ObjectKey, Slot>,
     marks: &mut Bits,
+    by_id: &mut Vec<Vec<usize>>,
     wish: Wish,
 ) -> Result<(), Memory>
     requires slots { AreSlots slots.old.entries }
     requires marked { AreMarked marks.old slots.old.entries }
+    requires listed { AreListed by_id.old.items (deciders slots.old.entries) }
     requires fits { spec.CanExpect (wishes slots.old.entries) wish }
     ensures slots { AreSlots slots.new.entries }
     ensures marked { AreMarked marks.new slots.new.entries }
+    ensures listed { AreListed by_id.new.items (deciders slots.new.entries) }
+    ensures few { length slots.new.entries ≤ length slots.old.entries + 1 }
     ensures held { listed Side.Held slots.new.entries ≡ listed Side.Held slots.old.entries }
     ensures ok { OnOk result (spec.HasMore (wishes slots.old.entries) (wishes slots.new.entries)
         wish) }
     ensures err { OnErr result (wishes slots.new.entries ≡ wishes slots.old.entries) }
 {
     has_form(&wish.object);
-    match slot_for(slots, marks, &wish.object) {
+    match slot_of_wish(slots, marks, by_id, &wish) {
         Ok(index) => {
             slots[index].wish = Some(wish);
             marks.put(index, true);
@@ -87,6 +117,8 @@ pub(crate) fn keep(
     ensures ok { OnOk result (set_on Side.Held slots.new.entries
         ≡ set.insert (set_on Side.Held slots.old.entries) object.now) }
     ensures wishes { wishes slots.new.entries ≡ wishes slots.old.entries }
+    ensures stay { HasNoNewWish (deciders slots.old.entries) (deciders slots.new.entries) }
+    ensures few { length slots.new.entries ≤ length slots.old.entries + 1 }
 {
     has_form(object);
     let index = slot_for(slots, marks, object)?;
@@ -109,6 +141,8 @@ fn keep_held(
     ensures ok { OnOk result (set_on Side.Held slots.new.entries
         ≡ spec.with_held (set_on Side.Held slots.old.entries) object) }
     ensures wishes { wishes slots.new.entries ≡ wishes slots.old.entries }
+    ensures stay { HasNoNewWish (deciders slots.old.entries) (deciders slots.new.entries) }
+    ensures few { length slots.new.entries ≤ length slots.old.entries + 1 }
 {
     match object {
         Some(object) => keep(slots, marks, &object),
@@ -131,6 +165,8 @@ fn keep_each(
     ensures ok { OnOk result (set_on Side.Held slots.new.entries
         ≡ set_on Side.Held old.now.entries) }
     ensures wishes { wishes slots.new.entries ≡ wishes slots.old.entries }
+    ensures stay { HasNoNewWish (deciders slots.old.entries) (deciders slots.new.entries) }
+    ensures few { length slots.new.entries ≤ length slots.old.entries + length old.now.entries }
 {
     for index in 0..old.len() {
         let held = old[index].held;
@@ -154,6 +190,8 @@ pub(crate) fn keep_all(
     ensures ok { OnOk result (set_on Side.Held slots.new.entries
         ≡ set_on Side.Held old.now.entries) }
     ensures wishes { wishes slots.new.entries ≡ wishes slots.old.entries }
+    ensures stay { HasNoNewWish (deciders slots.old.entries) (deciders slots.new.entries) }
+    ensures few { length slots.new.entries ≤ length slots.old.entries + length old.now.entries }
 {
     let kept = keep_each(slots, marks, old);
     mark_all(slots, marks);

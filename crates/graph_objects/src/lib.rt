@@ -3,14 +3,17 @@
 
 mod bits;
 mod changes;
+mod deciders;
 mod due;
 mod form;
 mod growth;
+mod judging;
 mod key;
 mod laws;
 mod line;
 mod marking;
 mod objects;
+mod order;
 mod slot;
 mod slots;
 mod turn;

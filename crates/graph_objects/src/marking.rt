@@ -1,11 +1,13 @@
 //! Slots are marked where an object may be taken or put, so that only these are gone over.
-ghost use Rattle.std.specs.Prelude.{◌≡◌, ◌≤◌, ◌*◌, length, Some, false};
+ghost use Rattle.std.specs.Prelude.{◌≡◌, ◌≤◌, ◌<◌, ◌*◌, ℕ, length, Contains, Some, true, false};
 ghost use Rattle.kern_model.specs.declared.object.Object.{Object};
 ghost use Rattle.kern_model.specs.Touched.{is_on_taken};
 ghost use Rattle.graph_objects.specs.Slots.{AreSlots, set_on};
+ghost use Rattle.graph_objects.specs.Deciders as lists;
 ghost use Rattle.graph_objects.specs.Marked as spec;
 
 use crate::bits::Bits;
+use crate::deciders::slots_of;
 use crate::due::{alone, is_on_taken};
 use crate::key::ObjectKey;
 use crate::slot::{Side, Slot};
@@ -101,5 +103,51 @@ pub(crate) fn mark_all(slots: &IndexMap<ObjectKey, Slot>, marks: &mut Bits)
 {
     for index in 0..slots.len() {
         marks.put(index, true);
+    }
+}
+
+/// Whether an object of a slot may be taken or put.
+fn may_be_due(slots: &IndexMap<ObjectKey, Slot>, slot: &Slot) -> bool
+    requires { AreSlots slots.now.entries }
+    ensures differing { spec.differs slot.now ≡ true → result ≡ true }
+    ensures falling { (o : Object) → slot.now.held ≡ Some o
+        → is_on_taken (set_on Side.Held slots.now.entries)
+        (set_on Side.Wanted slots.now.entries) o ≡ true → result ≡ true }
+{
+    differs(slot) || holds_falling(slots, slot)
+}
+
+/// Marks the slots that are listed at an id where an object may be taken or put, and no others of them.
+fn mark_id(slots: &IndexMap<ObjectKey, Slot>, marks: &mut Bits, by_id: &[Vec<usize>], id: usize)
+    requires slots { AreSlots slots.now.entries }
+    requires room { length slots.now.entries ≤ 64 * length marks.old }
+    requires within { (i : ℕ) → Contains (lists.slots_of by_id.now id) i
+        → i < length slots.now.entries }
+    ensures { spec.MarkSome slots.now.entries marks.old marks.new
+        (Contains (lists.slots_of by_id.now id)) }
+{
+    let listed = slots_of(by_id, id);
+    for place in listed {
+        let is_due = may_be_due(slots, &slots[*place]);
+        marks.put(*place, is_due);
+    }
+}
+
+/// Marks the slots that are listed at ids where an object may be taken or put, and no others of them.
+pub(crate) fn mark_ids(
+    slots: &IndexMap<ObjectKey, Slot>,
+    marks: &mut Bits,
+    by_id: &[Vec<usize>],
+    ids: &[usize],
+)
+    requires slots { AreSlots slots.now.entries }
+    requires room { length slots.now.entries ≤ 64 * length marks.old }
+    requires within { (id i : ℕ) → Contains (lists.slots_of by_id.now id) i
+        → i < length slots.now.entries }
+    ensures { spec.MarkSome slots.now.entries marks.old marks.new
+        (lists.IsListed by_id.now ids.now) }
+{
+    for id in ids {
+        mark_id(slots, marks, by_id, *id);
     }
 }

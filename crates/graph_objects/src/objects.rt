@@ -6,15 +6,17 @@ ghost use Rattle.kern_model.specs.Kernel.{after_call};
 ghost use Rattle.kern_model.specs.Touched as touched;
 ghost use Rattle.kern_calls.specs.Due.{due_count};
 ghost use Rattle.graph_objects.specs.Marks.{no_marks, held_of, wanted_of, judged};
+ghost use Rattle.graph_objects.specs.Decided.{StandOnWanted, judged_by};
 ghost use Rattle.graph_objects.specs.Turns.{IsFirst};
 ghost use Rattle.graph_objects.specs.Grown.{CanExpect, HasMore};
 
 use crate::bits::Bits;
 use crate::key::ObjectKey;
+use crate::order::{Order, drop_done, first_of, is_next, make_room, no_order, put_in_order};
 use crate::slot::{Side, Slot, Wish};
 use crate::slots::has;
-use crate::turn::{Turn, first};
-use crate::{changes, due, growth};
+use crate::turn::Turn;
+use crate::{changes, due, growth, judging};
 use indexmap::IndexMap;
 use kern_model::{Call, DevName, Object};
 use plane_io::Memory;
@@ -27,6 +29,10 @@ pub struct DeviceObjects {
     slots: IndexMap<ObjectKey, Slot>,
     /// The slots of which an object may be taken or put, by their indexes.
     marks: Bits,
+    /// For each id the slots of which it decides the wish, by their indexes.
+    by_id: Vec<Vec<usize>>,
+    /// What is due, in the order of its calls, while that is kept.
+    order: Order,
 }
 
 impl Model for DeviceObjects {
@@ -49,6 +55,8 @@ impl DeviceObjects {
         DeviceObjects {
             slots: IndexMap::new(alloc),
             marks: Bits::new(alloc),
+            by_id: Vec::new(alloc),
+            order: no_order(alloc),
         }
     }
 
@@ -63,7 +71,9 @@ impl DeviceObjects {
         ensures ok { OnOk result (HasMore self.old.wishes self.new.wishes wish) }
         ensures err { OnErr result (self.new.wishes ≡ self.old.wishes) }
     {
-        growth::expect(&mut self.slots, &mut self.marks, wish)
+        self.order.is_kept = false;
+        make_room(&mut self.order, self.slots.len() + 1)?;
+        growth::expect(&mut self.slots, &mut self.marks, &mut self.by_id, wish)
     }
 
     /// What others hold is held, where nothing is held yet.
@@ -76,6 +86,8 @@ impl DeviceObjects {
         ensures ok { OnOk result (held_of self.new ≡ held_of old.now) }
         ensures wishes { self.new.wishes ≡ self.old.wishes }
     {
+        self.order.is_kept = false;
+        make_room(&mut self.order, self.slots.len() + old.slots.len())?;
         growth::keep_all(&mut self.slots, &mut self.marks, &old.slots)
     }
 
@@ -100,13 +112,27 @@ impl DeviceObjects {
         due::falls(&self.slots, name)
     }
 
+    /// The calls that come next are put in order, so that each is found at once. Nothing else is seen of it.
+    pub fn prepare(&mut self)
+        ensures { self.new ≡ self.old }
+    {
+        put_in_order(&self.slots, &self.marks, &mut self.order);
+    }
+
     /// The object that is taken first.
     pub fn first_take(&self) -> Option<Object>
         ensures some { IfSome result (IsFirst Turn.Takes (held_of self.now) (wanted_of self.now)) }
         ensures none { IfNone result ((o : Object)
             → touched.is_taken (held_of self.now) (wanted_of self.now) o ≡ true → ⊥) }
     {
-        first(&self.slots, &self.marks, Turn::Takes)
+        let order = &self.order;
+        first_of(
+            &self.slots,
+            &self.marks,
+            Turn::Takes,
+            order.is_kept,
+            &order.takes,
+        )
     }
 
     /// The object that is put first.
@@ -115,7 +141,14 @@ impl DeviceObjects {
         ensures none { IfNone result ((o : Object)
             → touched.is_put (held_of self.now) (wanted_of self.now) o ≡ true → ⊥) }
     {
-        first(&self.slots, &self.marks, Turn::Puts)
+        let order = &self.order;
+        first_of(
+            &self.slots,
+            &self.marks,
+            Turn::Puts,
+            order.is_kept,
+            &order.puts,
+        )
     }
 
     /// How many objects are held and not wanted, or wanted and not held.
@@ -131,7 +164,10 @@ impl DeviceObjects {
         ensures held { held_of self.new ≡ set.remove (held_of self.old) object.now }
         ensures wishes { self.new.wishes ≡ self.old.wishes }
     {
+        let stays = is_next(&self.slots, &self.order, object);
         changes::take(&mut self.slots, &mut self.marks, object);
+        self.order.is_kept = stays;
+        drop_done(&self.slots, Turn::Takes, &mut self.order.takes);
     }
 
     /// A wanted object was put, where none was to be taken.
@@ -143,6 +179,7 @@ impl DeviceObjects {
         ensures wishes { self.new.wishes ≡ self.old.wishes }
     {
         changes::put(&mut self.slots, &mut self.marks, object);
+        drop_done(&self.slots, Turn::Puts, &mut self.order.puts);
     }
 
     /// A device of that name is gone, and what stands on it with it.
@@ -150,6 +187,7 @@ impl DeviceObjects {
         ensures held { held_of self.new ≡ gone (held_of self.old) name.now }
         ensures wishes { self.new.wishes ≡ self.old.wishes }
     {
+        self.order.is_kept = false;
         changes::leave(&mut self.slots, &mut self.marks, name);
     }
 
@@ -158,6 +196,18 @@ impl DeviceObjects {
         ensures held { self.new.held ≡ self.old.held }
         ensures wishes { self.new.wishes ≡ map (judged used.now) self.old.wishes }
     {
-        changes::judge(&mut self.slots, &mut self.marks, used);
+        self.order.is_kept = false;
+        judging::judge(&mut self.slots, &mut self.marks, used);
+    }
+
+    /// An object that one of these ids decides is wanted where the names of its two ids are used; others stay as they are. The ids
+    /// come together, since what is then wanted has to stand on links that are wanted.
+    pub fn judge_ids(&mut self, used: &[bool], ids: &[usize])
+        requires { StandOnWanted (map (judged_by used.now ids.now) self.old.wishes) }
+        ensures held { self.new.held ≡ self.old.held }
+        ensures wishes { self.new.wishes ≡ map (judged_by used.now ids.now) self.old.wishes }
+    {
+        self.order.is_kept = false;
+        judging::judge_ids(&mut self.slots, &mut self.marks, &self.by_id, used, ids);
     }
 }

@@ -39,7 +39,7 @@ pub(crate) struct Placed {
 }
 
 /// The side of which a turn's objects are.
-fn side_of(turn: Turn) -> Side
+pub(crate) fn side_of(turn: Turn) -> Side
     ensures { result ≡ spec.side_of turn }
 {
     match turn {
@@ -62,7 +62,7 @@ fn plain_call(turn: Turn, object: &Object) -> Call
     }
 }
 
-fn is_due(slots: &IndexMap<ObjectKey, Slot>, turn: Turn, object: &Object) -> bool
+pub(crate) fn is_due(slots: &IndexMap<ObjectKey, Slot>, turn: Turn, object: &Object) -> bool
     requires { AreSlots slots.now.entries }
     ensures { Has (set_on (spec.side_of turn) slots.now.entries) object.now → result
         ≡ spec.is_due turn (set_on Side.Held slots.now.entries)
@@ -119,7 +119,7 @@ fn place(slots: &IndexMap<ObjectKey, Slot>, turn: Turn, object: Object) -> Place
 }
 
 /// The object of a turn in the slot of an index, where it is due.
-fn due_at(slots: &IndexMap<ObjectKey, Slot>, turn: Turn, index: usize) -> Option<Placed>
+pub(crate) fn due_at(slots: &IndexMap<ObjectKey, Slot>, turn: Turn, index: usize) -> Option<Placed>
     requires slots { AreSlots slots.now.entries }
     requires within { index < length slots.now.entries }
     ensures { result ≡ places.due_in turn slots.now.entries index }

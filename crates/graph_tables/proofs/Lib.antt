@@ -3,3 +3,5 @@ pub mod RowLemmas
 pub mod DecideLemmas
 pub mod ListLemmas
 pub mod StandLemmas
+pub mod StandOnLemmas
+pub mod DifferLemmas

@@ -86,7 +86,7 @@ pub mapped_same : (f : Wish → Wish) (ws vs : List Wish) → HaveSame ws vs →
 mapped_same f ws vs same w =
     ((λ m. let from = member_of_map f ws w m in subst (Contains (map f vs)) from.same (map_member f vs from.source ((same from.source).0 from.member))), (λ m. let from = member_of_map f vs w m in subst (Contains (map f ws)) from.same (map_member f ws from.source ((same from.source).1 from.member))))
 
-twice : (f : May → Wish) (g : Wish → Wish) (h : May → Wish) (ms : List May) → ((m : May) → Contains ms m → g (f m) ≡ h m) → map g (map f ms) ≡ map h ms
+pub twice : (f : May → Wish) (g : Wish → Wish) (h : May → Wish) (ms : List May) → ((m : May) → Contains ms m → g (f m) ≡ h m) → map g (map f ms) ≡ map h ms
 twice f g h [] e = refl
 twice f g h (m ∷ ms) e = λ i. e m (here m ms) i ∷ twice f g h ms (λ n c. e n (there m ms n c)) i
 
@@ -110,7 +110,7 @@ module _ (s : Known) (sound : IsSound s) (used : List Bool) (are : AreUsed s use
   used_by_id : (x : List ℕ) → Contains (names_in s) x → is_used used (id_of (names_in s) x) ≡ used_in s x
   used_by_id x m = are (id_of (names_in s) x) (id_inside s x m) ∙ ap (used_in s) (name_there (names_in s) x m)
 
-  may_judged : (m : May) → Contains (mays s) m → judged used (wish_at (names_in s) m) ≡ wish_in s m
+  pub may_judged : (m : May) → Contains (mays s) m → judged used (wish_at (names_in s) m) ≡ wish_in s m
   may_judged m member =
       let a = used_by_id m.first (first_known s sound m member) in
       let b = used_by_id m.second (second_known s sound m member) in

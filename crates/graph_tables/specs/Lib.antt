@@ -4,5 +4,7 @@
 pub mod Wished
 -- lists of what may be wanted
 pub mod Lists
+-- names of which the use of some ids alone has changed
+pub mod Differing
 -- rows, names and VLANs that are sound together
 pub mod Whole

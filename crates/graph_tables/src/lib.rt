@@ -8,4 +8,4 @@ mod single;
 mod wishes;
 
 pub use filling::table;
-pub use judging::judge;
+pub use judging::{judge, judge_marked};

@@ -1,2 +1,3 @@
 pub mod WishLemmas
 pub mod MayLemmas
+pub mod StoodLemmas

@@ -305,7 +305,7 @@ module _ (s : Known) (name : List ℕ) where
     | inr rest ↦ by_may (standing_in s name) refl m rest
   ]
 
-names_may : (s : Known) (names : List (List ℕ)) (m : May) → Contains (flat_map (mays_of s) names) m → (name : List ℕ) × IsMay s name m
+pub names_may : (s : Known) (names : List (List ℕ)) (m : May) → Contains (flat_map (mays_of s) names) m → (name : List ℕ) × IsMay s name m
 names_may s [] m member = absurd (none_in_nil m member)
 names_may s (n ∷ ns) m member = elim (Contains-append_cases (mays_of s n) (flat_map (mays_of s) ns) m member) as (λ _. (name : List ℕ) × IsMay s name m) [
   | inl mine ↦ (n, name_may s n m mine)

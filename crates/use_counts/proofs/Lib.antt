@@ -1,4 +1,6 @@
 pub mod MarkLemmas
+pub mod UseLemmas
+pub mod FlagLemmas
 pub mod EdgeLemmas
 pub mod VisitLemmas
 pub mod HeldUp
@@ -13,6 +15,7 @@ pub mod NetworkLemmas
 pub mod EndsLemmas
 pub mod NewLemmas
 pub mod NodesLemmas
+pub mod AddLemmas
 pub mod RowLemmas
 pub mod JoinLemmas
 pub mod AloneLemmas

@@ -32,7 +32,7 @@ unfolding counted
 counted_none far near k [] = refl
 counted_none far near k (e ∷ es) = omega (arith, sum_by-cons (λ (x : Edge). cond ((far x == k) && false) 1 0) e es, never (far e == k), counted_none far near k es)
 
-at_first : (kind : Kind) → is_made kind ≡ false → (opens kind false 0 ≡ false) × (links kind false false 0 ≡ false)
+pub at_first : (kind : Kind) → is_made kind ≡ false → (opens kind false 0 ≡ false) × (links kind false false 0 ≡ false)
 unfolding opens links
 at_first Broken h = (refl, refl)
 at_first (Plain sound) h = (refl, refl)
@@ -42,7 +42,7 @@ at_first (Bridge empty) h = absurd (true≢false h)
 right_fresh : (rank : ℕ → ℕ) (rows : List Row) (k : ℕ) → ((k : ℕ) → rank k ≡ 0 → is_made (row_at rows k).kind ≡ false) → (new_node (rank k) (row_at rows k)).stale ≡ false → FollowsCounts (new_node (rank k) (row_at rows k))
 right_fresh rank rows k plain h = let first = at_first (row_at rows k).kind (plain k (omega (arith, ltb-false 0 (rank k) h))) in record { available = sym first.0; link = sym first.1 }
 
-right_blank : FollowsCounts no_node
+pub right_blank : FollowsCounts no_node
 unfolding opens links no_node
 right_blank = record { available = refl; link = refl }
 

@@ -5,6 +5,8 @@ pub mod NodesInside
 pub mod Edges
 pub mod Held
 pub mod Network
+pub mod Uses
+pub mod UsesInside
 pub mod Order
 pub mod Rows
 pub mod Inside

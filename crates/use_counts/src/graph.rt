@@ -1,8 +1,9 @@
-ghost use Rattle.std.specs.Prelude.{◌≡◌, ◌↔◌, ◌≤◌, ◌<◌, ◌+◌, ◌*◌, ◌++◌, ℕ, IfOk, IsTrue, OnErr, OnOk, length, map, true, false, vec_len};
+ghost use Rattle.std.specs.Prelude.{◌≡◌, ◌↔◌, ◌≤◌, ◌<◌, ◌+◌, ◌*◌, ◌++◌, ◌∷◌, [], ℕ, IfOk, IsTrue, OnErr, OnOk, length, map, true, false, vec_len};
 ghost use Rattle.use_counts.specs.Held.{IsCalm, HoldsCounts, member_of};
-ghost use Rattle.use_counts.specs.NodeRule.{node_at, rank_at, rank_of};
-ghost use Rattle.use_counts.specs.Order.{CanLoad};
-ghost use Rattle.use_counts.specs.Network.{CanJoin, IsLoadable, available, changed_edges, link, member_at, network_from, row_of, used, users, with_carrier, with_claim, with_device, with_ports};
+ghost use Rattle.use_counts.specs.NodeRule.{is_made, node_at, rank_at, rank_of};
+ghost use Rattle.use_counts.specs.Order.{CanLoad, HasLevel};
+ghost use Rattle.use_counts.specs.Network.{CanJoin, IsLoadable, available, changed_edges, link, loaded, member_at, network_from, row_of, used, users, with_carrier, with_claim, with_device, with_ports};
+ghost use Rattle.use_counts.specs.Uses.{TellsUses};
 
 use crate::node::{Edge, Row};
 use crate::nodes::Nodes;
@@ -10,6 +11,7 @@ use crate::order::Order;
 use crate::settle::{put_claims, put_device, settle};
 use crate::steps::Steps;
 use crate::topology::Topology;
+use crate::uses::MarkedIds;
 use plane_io::Memory;
 use std::alloc::{AllocError, Global};
 use std::marker::{Brand, Model};
@@ -46,11 +48,12 @@ fn chained(alloc: Global, fixed: &[Edge], ports: &[Edge]) -> Result<Vec<Edge>, A
 }
 
 /// Computes all nodes, with a counter of its own.
-fn settle_all<L: Ledger>(topology: &Topology, nodes: &mut Nodes, blank: Blank)
+fn settle_all<L: Ledger>(topology: &Topology, nodes: &mut Nodes, uses: &mut MarkedIds, blank: Blank)
     requires name { blank.name ≡ L.name }
     requires parts { blank.parts ≡ L.parts }
     requires some { 0 < L.parts }
     requires size { length nodes.old ≡ vec_len topology.now.uppers }
+    requires room { length nodes.old ≤ uses.old.room }
     requires ranks { (k : ℕ) → rank_at nodes.old k ≡ rank_of topology.now.ranks.items k }
     requires kept { HoldsCounts topology.now.edges.items nodes.old }
     requires claims { (k : ℕ) → (node_at nodes.old k).claims ≤ 1024 }
@@ -65,7 +68,7 @@ fn settle_all<L: Ledger>(topology: &Topology, nodes: &mut Nodes, blank: Blank)
 {
     let mut steps = Steps::<L>::new(blank);
     if topology.made_count() > 0 {
-        settle(topology, topology.made_at(0), nodes, &mut steps);
+        settle(topology, topology.made_at(0), nodes, uses, &mut steps);
     }
 }
 
@@ -99,7 +102,8 @@ impl Graph {
         let mut nodes = Nodes::new(alloc, rows, &ranks, places.len())?;
         let edges = chained(alloc, fixed, ports)?;
         let topology = Topology::new(alloc, places, ranks, edges)?;
-        settle_all::<Brand>(&topology, &mut nodes, Blank::new(1));
+        let mut uses = MarkedIds::with_room(alloc, rows.len())?;
+        settle_all::<Brand>(&topology, &mut nodes, &mut uses, Blank::new(1));
         Ok(Graph {
             topology,
             fixed: fixed.len(),
@@ -115,18 +119,19 @@ impl Graph {
     }
 
     /// Writes for each node the device and the claims that it has in another graph of the same rows.
-    fn repeat<L: Ledger>(&mut self, told: &Graph, blank: Blank)
+    fn repeat<L: Ledger>(&mut self, told: &Graph, uses: &mut MarkedIds, blank: Blank)
         requires name { blank.name ≡ L.name }
         requires parts { blank.parts ≡ L.parts }
         requires some { 0 < L.parts }
         requires rows { map row_of self.old.members ≡ map row_of told.now.members }
+        requires room { length self.old.members ≤ uses.old.room }
         ensures { self.new ≡ record self.old { members = told.now.members } }
     {
         let mut steps = Steps::<L>::new(blank);
         for id in 0..told.len() {
             let node = told.nodes.node(id);
-            self.set_device(id, node.present, node.carrier, &mut steps);
-            self.set_claim(id, node.claims, &mut steps);
+            self.set_device(id, node.present, node.carrier, uses, &mut steps);
+            self.set_claim(id, node.claims, uses, &mut steps);
         }
     }
 
@@ -139,8 +144,24 @@ impl Graph {
         let rows = self.nodes.rows(alloc)?;
         let (fixed, _) = self.topology.edges.split_at(self.fixed);
         let mut graph = Graph::load(alloc, &rows, fixed, ports)?;
-        graph.repeat::<Brand>(self, Blank::new(1));
+        let mut uses = MarkedIds::with_room(alloc, rows.len())?;
+        graph.repeat::<Brand>(self, &mut uses, Blank::new(1));
         *self = graph;
+        Ok(())
+    }
+
+    /// One more node at no edge, without a device and without claims. Its number is the next one. Where memory lacks, all stays.
+    pub fn add(&mut self, alloc: Global, row: Row) -> Result<(), Memory>
+        requires plain { is_made row.kind ≡ false }
+        requires level { HasLevel row }
+        ensures ok { OnOk result (self.new ≡ record self.old {
+          members = self.old.members ++ loaded row ∷ [];
+        }) }
+        ensures err { OnErr result (self.new ≡ self.old) }
+    {
+        self.topology.make_room()?;
+        self.nodes.add(row)?;
+        self.topology.add(alloc);
         Ok(())
     }
 
@@ -196,50 +217,87 @@ impl Graph {
         id: usize,
         present: bool,
         carrier: bool,
+        uses: &mut MarkedIds,
         steps: &mut Steps<L>,
     )
-        requires { id < length self.old.members }
+        requires within { id < length self.old.members }
+        requires room { length self.old.members ≤ uses.old.room }
         ensures net { self.new ≡ with_device self.old id present carrier }
         ensures cost { steps.new ≤ steps.old + (1 + 2 * changed_edges self.old self.new) }
+        ensures uses { TellsUses self.old self.new uses.old uses.new }
     {
-        put_device(&self.topology, id, present, carrier, &mut self.nodes, steps);
+        put_device(
+            &self.topology,
+            id,
+            present,
+            carrier,
+            &mut self.nodes,
+            uses,
+            steps,
+        );
     }
 
     /// A device is there, with or without a carrier.
-    pub fn set_present<L: Ledger>(&mut self, id: usize, carrier: bool, steps: &mut Steps<L>)
-        requires { id < length self.old.members }
+    pub fn set_present<L: Ledger>(
+        &mut self,
+        id: usize,
+        carrier: bool,
+        uses: &mut MarkedIds,
+        steps: &mut Steps<L>,
+    )
+        requires within { id < length self.old.members }
+        requires room { length self.old.members ≤ uses.old.room }
         ensures net { self.new ≡ with_device self.old id true carrier }
         ensures cost { steps.new ≤ steps.old + (1 + 2 * changed_edges self.old self.new) }
+        ensures uses { TellsUses self.old self.new uses.old uses.new }
     {
-        self.set_device(id, true, carrier, steps);
+        self.set_device(id, true, carrier, uses, steps);
     }
 
     /// A device is gone.
-    pub fn set_absent<L: Ledger>(&mut self, id: usize, steps: &mut Steps<L>)
-        requires { id < length self.old.members }
+    pub fn set_absent<L: Ledger>(&mut self, id: usize, uses: &mut MarkedIds, steps: &mut Steps<L>)
+        requires within { id < length self.old.members }
+        requires room { length self.old.members ≤ uses.old.room }
         ensures net { self.new ≡ with_device self.old id false false }
         ensures cost { steps.new ≤ steps.old + (1 + 2 * changed_edges self.old self.new) }
+        ensures uses { TellsUses self.old self.new uses.old uses.new }
     {
-        self.set_device(id, false, false, steps);
+        self.set_device(id, false, false, uses, steps);
     }
 
     /// The carrier of a device is on or off.
-    pub fn set_carrier<L: Ledger>(&mut self, id: usize, on: bool, steps: &mut Steps<L>)
-        requires { id < length self.old.members }
+    pub fn set_carrier<L: Ledger>(
+        &mut self,
+        id: usize,
+        on: bool,
+        uses: &mut MarkedIds,
+        steps: &mut Steps<L>,
+    )
+        requires within { id < length self.old.members }
+        requires room { length self.old.members ≤ uses.old.room }
         ensures net { self.new ≡ with_carrier self.old id on }
         ensures cost { steps.new ≤ steps.old + (1 + 2 * changed_edges self.old self.new) }
+        ensures uses { TellsUses self.old self.new uses.old uses.new }
     {
         let present = self.present(id);
-        self.set_device(id, present, on, steps);
+        self.set_device(id, present, on, uses, steps);
     }
 
     /// A node has this many claims.
-    pub fn set_claim<L: Ledger>(&mut self, id: usize, claims: u32, steps: &mut Steps<L>)
+    pub fn set_claim<L: Ledger>(
+        &mut self,
+        id: usize,
+        claims: u32,
+        uses: &mut MarkedIds,
+        steps: &mut Steps<L>,
+    )
         requires within { id < length self.old.members }
+        requires room { length self.old.members ≤ uses.old.room }
         requires few { claims ≤ 1024 }
         ensures net { self.new ≡ with_claim self.old id claims }
         ensures cost { steps.new ≤ steps.old + (1 + 2 * changed_edges self.old self.new) }
+        ensures uses { TellsUses self.old self.new uses.old uses.new }
     {
-        put_claims(&self.topology, id, claims, &mut self.nodes, steps);
+        put_claims(&self.topology, id, claims, &mut self.nodes, uses, steps);
     }
 }

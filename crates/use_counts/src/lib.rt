@@ -18,9 +18,11 @@ mod settle;
 mod steps;
 mod topology;
 mod upward;
+mod uses;
 
 pub use graph::Graph;
 pub use laws::{edges_are_of_the_rows, lone_nodes_change_no_edge};
 pub use loads::can_load;
 pub use node::{Edge, Kind, Row};
 pub use steps::Steps;
+pub use uses::MarkedIds;

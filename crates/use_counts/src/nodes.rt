@@ -1,4 +1,4 @@
-ghost use Rattle.std.specs.Prelude.{◌≡◌, ◌↔◌, All, IsTrue, ◌<◌, ◌≤◌, ◌+◌, ◌-◌, ◌*◌, ◌^◌, ℕ, [], map, length, vec_len, slice_set, nat_lt, IfOk, IfSome, IfNone, true, false};
+ghost use Rattle.std.specs.Prelude.{◌≡◌, ◌↔◌, All, IsTrue, ◌<◌, ◌≤◌, ◌+◌, ◌-◌, ◌*◌, ◌++◌, ◌∷◌, ◌^◌, ℕ, [], map, length, vec_len, slice_set, nat_lt, IfOk, IfSome, IfNone, OnErr, OnOk, true, false};
 ghost use Rattle.use_counts.specs.Marked.{mark, IsFirstStale, IsLastUseStale};
 ghost use Rattle.use_counts.specs.NodeRule.{HasRank, node_at, rank_at, rank_of, row_at, new_node};
 ghost use Rattle.use_counts.specs.NodesInside.{AreKeys, list_of};
@@ -97,6 +97,17 @@ impl Nodes {
             stale,
             use_stale,
         })
+    }
+
+    /// One more node, without a rank. Where memory lacks, all stays.
+    pub fn add(&mut self, row: Row) -> Result<(), AllocError>
+        ensures ok { OnOk result (self.new ≡ self.old ++ new_node 0 row ∷ []) }
+        ensures err { OnErr result (self.new ≡ self.old) }
+    {
+        self.keys.reserve(1)?;
+        let key = self.slab.insert(Node::new(row, 0))?;
+        self.keys.push_reserved(key);
+        Ok(())
     }
 
     /// How many nodes there are.

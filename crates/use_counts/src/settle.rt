@@ -1,6 +1,7 @@
 ghost use Rattle.std.specs.Prelude.{◌≡◌, ◌≢◌, ◌≤◌, ◌<◌, ◌+◌, ℕ, length, map, slice_set, vec_len, false, true};
 ghost use Rattle.use_counts.specs.Held.{IsCalm, HoldsCounts, Settles, visits_due, member_of};
 ghost use Rattle.use_counts.specs.NodeRule.{node_at, rank_at, rank_of};
+ghost use Rattle.use_counts.specs.Uses.{AreMarked};
 
 use crate::downward::pass_down;
 use crate::node::Node;
@@ -8,12 +9,20 @@ use crate::nodes::Nodes;
 use crate::steps::Steps;
 use crate::topology::Topology;
 use crate::upward::pass_up;
+use crate::uses::MarkedIds;
 use std::sync::ledger::Ledger;
 
 /// Computes a node and all that follows from it: availability and link upward, then use downward.
-pub fn settle<L: Ledger>(topology: &Topology, start: usize, nodes: &mut Nodes, steps: &mut Steps<L>)
+pub fn settle<L: Ledger>(
+    topology: &Topology,
+    start: usize,
+    nodes: &mut Nodes,
+    uses: &mut MarkedIds,
+    steps: &mut Steps<L>,
+)
     requires within { start < length nodes.old }
     requires size { length nodes.old ≡ vec_len topology.now.uppers }
+    requires room { length nodes.old ≤ uses.old.room }
     requires ranks { (k : ℕ) → rank_at nodes.old k ≡ rank_of topology.now.ranks.items k }
     requires kept { HoldsCounts topology.now.edges.items nodes.old }
     requires claims { (k : ℕ) → (node_at nodes.old k).claims ≤ 1024 }
@@ -21,10 +30,11 @@ pub fn settle<L: Ledger>(topology: &Topology, start: usize, nodes: &mut Nodes, s
         → rank_of topology.now.ranks.items start < rank_of topology.now.ranks.items k }
     requires use_marks { (k : ℕ) → (node_at nodes.old k).use_stale ≡ true
         → 0 < rank_of topology.now.ranks.items k }
-    ensures { Settles topology.now.edges.items nodes.old nodes.new steps.old steps.new }
+    ensures settles { Settles topology.now.edges.items nodes.old nodes.new steps.old steps.new }
+    ensures uses { AreMarked nodes.old nodes.new uses.old uses.new }
 {
-    pass_up(topology, start, nodes, steps);
-    pass_down(topology, nodes, steps);
+    pass_up(topology, start, nodes, uses, steps);
+    pass_down(topology, nodes, uses, steps);
 }
 
 /// Writes whether a device is there and has a carrier, and computes what follows.
@@ -34,10 +44,12 @@ pub fn put_device<L: Ledger>(
     present: bool,
     carrier: bool,
     nodes: &mut Nodes,
+    uses: &mut MarkedIds,
     steps: &mut Steps<L>,
 )
     requires within { place < length nodes.old }
     requires size { length nodes.old ≡ vec_len topology.now.uppers }
+    requires room { length nodes.old ≤ uses.old.room }
     requires ranks { (k : ℕ) → rank_at nodes.old k ≡ rank_of topology.now.ranks.items k }
     requires rest { IsCalm topology.now.edges.items nodes.old }
     requires claims { (k : ℕ) → (node_at nodes.old k).claims ≤ 1024 }
@@ -47,6 +59,7 @@ pub fn put_device<L: Ledger>(
     ensures members { map member_of nodes.new ≡ slice_set (map member_of nodes.old) place
         (record (member_of (node_at nodes.old place)) { present = present; carrier = carrier }) }
     ensures cost { steps.new ≤ steps.old + visits_due topology.now.edges.items nodes.old nodes.new }
+    ensures uses { AreMarked nodes.old nodes.new uses.old uses.new }
 {
     let node = Node {
         present,
@@ -55,7 +68,7 @@ pub fn put_device<L: Ledger>(
         ..nodes.node(place)
     };
     nodes.put(place, node);
-    settle(topology, place, nodes, steps);
+    settle(topology, place, nodes, uses, steps);
 }
 
 /// Writes the claims of a node, and computes what follows.
@@ -64,10 +77,12 @@ pub fn put_claims<L: Ledger>(
     place: usize,
     claims: u32,
     nodes: &mut Nodes,
+    uses: &mut MarkedIds,
     steps: &mut Steps<L>,
 )
     requires within { place < length nodes.old }
     requires size { length nodes.old ≡ vec_len topology.now.uppers }
+    requires room { length nodes.old ≤ uses.old.room }
     requires ranks { (k : ℕ) → rank_at nodes.old k ≡ rank_of topology.now.ranks.items k }
     requires rest { IsCalm topology.now.edges.items nodes.old }
     requires claims { (k : ℕ) → (node_at nodes.old k).claims ≤ 1024 }
@@ -78,10 +93,11 @@ pub fn put_claims<L: Ledger>(
     ensures members { map member_of nodes.new ≡ slice_set (map member_of nodes.old) place
         (record (member_of (node_at nodes.old place)) { claims = claims }) }
     ensures cost { steps.new ≤ steps.old + visits_due topology.now.edges.items nodes.old nodes.new }
+    ensures uses { AreMarked nodes.old nodes.new uses.old uses.new }
 {
-    let node = nodes
-        .node(place)
-        .with_claims(claims, topology.rank(place) > 0);
+    let was = nodes.node(place);
+    let node = was.with_claims(claims, topology.rank(place) > 0);
     nodes.put(place, node);
-    pass_down(topology, nodes, steps);
+    uses.note(place, was.used != node.used);
+    pass_down(topology, nodes, uses, steps);
 }

@@ -1,4 +1,4 @@
-ghost use Rattle.std.specs.Prelude.{◌≡◌, ◌≤◌, ◌<◌, ◌^◌, ℕ, All, length, slice_index, vec_len, IfOk, []};
+ghost use Rattle.std.specs.Prelude.{◌≡◌, ◌≤◌, ◌<◌, ◌+◌, ◌++◌, ◌∷◌, ◌^◌, ℕ, All, length, slice_index, vec_capacity, vec_len, IfOk, OnOk, []};
 ghost use Rattle.use_counts.specs.NodeRule.{rank_of};
 ghost use Rattle.use_counts.specs.Edges.{lower_end, upper_end, far_ends};
 ghost use Rattle.use_counts.specs.Held.{IsOrder, RunsUp, items_at};
@@ -82,6 +82,35 @@ impl Topology {
             uppers,
             lowers,
         })
+    }
+
+    /// Makes room for one more place.
+    pub fn make_room(&mut self) -> Result<(), AllocError>
+        ensures ranks { self.new.ranks.items ≡ self.old.ranks.items }
+        ensures edges { self.new.edges.items ≡ self.old.edges.items }
+        ensures size { vec_len self.new.uppers ≡ vec_len self.old.uppers }
+        ensures rank_room { OnOk result (vec_len self.new.ranks < vec_capacity self.new.ranks) }
+        ensures upper_room { OnOk result (vec_len self.new.uppers < vec_capacity self.new.uppers) }
+        ensures lower_room { OnOk result (vec_len self.new.lowers < vec_capacity self.new.lowers) }
+    {
+        self.ranks.reserve(1)?;
+        self.uppers.reserve(1)?;
+        self.lowers.reserve(1)?;
+        Ok(())
+    }
+
+    /// One more place, without a rank and without edges.
+    pub fn add(&mut self, alloc: Global)
+        requires rank_room { vec_len self.old.ranks < vec_capacity self.old.ranks }
+        requires upper_room { vec_len self.old.uppers < vec_capacity self.old.uppers }
+        requires lower_room { vec_len self.old.lowers < vec_capacity self.old.lowers }
+        ensures ranks { self.new.ranks.items ≡ self.old.ranks.items ++ 0 ∷ [] }
+        ensures edges { self.new.edges.items ≡ self.old.edges.items }
+        ensures size { vec_len self.new.uppers ≡ vec_len self.old.uppers + 1 }
+    {
+        self.ranks.push_reserved(0);
+        self.uppers.push_reserved(Vec::new(alloc));
+        self.lowers.push_reserved(Vec::new(alloc));
     }
 
     pub fn rank(&self, place: usize) -> usize

@@ -3,11 +3,13 @@ ghost use Rattle.std.specs.Prelude.{vec_len, ◌==◌, true};
 ghost use Rattle.use_counts.specs.NodeRule.{node_at, occurs, times, after_lower, rank_at, rank_of};
 ghost use Rattle.use_counts.specs.Edges.{lower_end, upper_end, far_ends, edges_at};
 ghost use Rattle.use_counts.specs.Held.{HoldsCounts, UpTo, SettledAt, moved};
+ghost use Rattle.use_counts.specs.Uses.{AreMarked};
 
 use crate::node::Change;
 use crate::nodes::Nodes;
 use crate::steps::Steps;
 use crate::topology::Topology;
+use crate::uses::MarkedIds;
 use std::sync::ledger::Ledger;
 
 /// Counts a move at each node right above, one step an edge.
@@ -38,10 +40,12 @@ pub fn settle_node<L: Ledger>(
     topology: &Topology,
     place: usize,
     nodes: &mut Nodes,
+    uses: &mut MarkedIds,
     steps: &mut Steps<L>,
 )
     requires within { place < length nodes.old }
     requires size { length nodes.old ≡ vec_len topology.now.uppers }
+    requires room { length nodes.old ≤ uses.old.room }
     requires kept { HoldsCounts topology.now.edges.items nodes.old }
     ensures size { length nodes.new ≡ length nodes.old }
     ensures spreads { SettledAt (rank_of topology.now.ranks.items)
@@ -49,10 +53,12 @@ pub fn settle_node<L: Ledger>(
     ensures cost { steps.new ≡ steps.old + times
         (moved (node_at nodes.old place) (node_at nodes.new place))
         (edges_at lower_end (λ k. k == place) topology.now.edges.items) }
+    ensures uses { AreMarked nodes.old nodes.new uses.old uses.new }
 {
     let was = nodes.node(place);
     let now = was.settled(topology.rank(place) > 0);
     nodes.put(place, now);
+    uses.note(place, was.used != now.used);
     if was.has_moved(&now) {
         let change = Change {
             was_available: was.available,
@@ -69,26 +75,29 @@ pub fn pass_up<L: Ledger>(
     topology: &Topology,
     start: usize,
     nodes: &mut Nodes,
+    uses: &mut MarkedIds,
     steps: &mut Steps<L>,
 )
     requires within { start < length nodes.old }
     requires size { length nodes.old ≡ vec_len topology.now.uppers }
+    requires room { length nodes.old ≤ uses.old.room }
     requires ranks { (k : ℕ) → rank_at nodes.old k ≡ rank_of topology.now.ranks.items k }
     requires kept { HoldsCounts topology.now.edges.items nodes.old }
     requires marks { (k : ℕ) → k ≢ start → (node_at nodes.old k).stale ≡ true
         → rank_of topology.now.ranks.items start < rank_of topology.now.ranks.items k }
     requires use_marks { (k : ℕ) → (node_at nodes.old k).use_stale ≡ true
         → 0 < rank_of topology.now.ranks.items k }
-    ensures { UpTo topology.now.edges.items (rank_of topology.now.ranks.items)
+    ensures up { UpTo topology.now.edges.items (rank_of topology.now.ranks.items)
         (length topology.now.order.items) nodes.old nodes.new steps.old steps.new }
+    ensures uses { AreMarked nodes.old nodes.new uses.old uses.new }
 {
-    settle_node(topology, start, nodes, steps);
+    settle_node(topology, start, nodes, uses, steps);
     let mut turn = topology.rank(start);
     while turn < topology.made_count() {
         let Some(next) = nodes.first_stale() else {
             return;
         };
-        settle_node(topology, topology.made_at(next), nodes, steps);
+        settle_node(topology, topology.made_at(next), nodes, uses, steps);
         turn = next + 1;
     }
 }

@@ -16,7 +16,7 @@ table-requires c =
     let t : Known = record s { names = with_name s.names c.args.name } in
     let whole : IsWhole t = whole_added s c.args.name c.requires.whole c.requires.other in
     let named : c.in_ok-more.more ≡ t.names = c.in_ok-more.ensures ∙ ap (λ (ns : List Named). with_name ns c.args.name) c.names.ensures.names in
-    whole_parts t c.rows.result.now c.vlans.result.now c.in_ok-more.more c.radio.result.now c.rows.ensures c.vlans.ensures named c.radio.ensures whole
+    whole_parts t c.rows-rows.result.now c.vlans-vlans.result.now c.in_ok-more.more c.radio.result.now c.rows-rows.ensures c.vlans-vlans.ensures named c.radio.ensures whole
 
 pub judge-requires-clause-sound : goal.judge-requires-clause-sound
 judge-requires-clause-sound c =
@@ -30,5 +30,5 @@ judge-requires-clause-wishes c =
     let t : Known = record s { names = with_name s.names c.args.name } in
     let whole : IsWhole t = whole_added s c.args.name c.requires.whole c.requires.other in
     let named : c.in_ok-more.more ≡ t.names = c.in_ok-more.ensures ∙ ap (λ (ns : List Named). with_name ns c.args.name) c.names.ensures.names in
-    let ready : IsReady t c.in_ok-wishes.wishes.wishes (length t.names) = ready_parts t c.rows.result.now c.vlans.result.now c.in_ok-more.more c.radio.result.now c.rows.ensures c.vlans.ensures named c.radio.ensures c.in_ok-wishes.wishes (length t.names) whole refl c.in_ok-wishes.ensures.wishes in
+    let ready : IsReady t c.in_ok-wishes.wishes.wishes (length t.names) = ready_parts t c.rows-rows.result.now c.vlans-vlans.result.now c.in_ok-more.more c.radio.result.now c.rows-rows.ensures c.vlans-vlans.ensures named c.radio.ensures c.in_ok-wishes.wishes (length t.names) whole refl c.in_ok-wishes.ensures.wishes in
     subst (λ (k : Known). HaveSame (map unjudged c.in_ok-wishes.wishes.wishes) (wishes_at (names_in k) (mays k))) (sym c.in_ok-id.ensures.ok) ready.wishes

@@ -3,8 +3,10 @@ use Rattle.graph_objects.specs.declared.slot.Side.TheVariants.{Held}
 use Rattle.graph_objects.specs.Slots.{AreSlots, set_on, wishes}
 use Rattle.graph_objects.specs.Changed.{each_slot, let_go, marked}
 use Rattle.graph_objects.specs.Marked.{AreMarked}
+use Rattle.graph_objects.specs.Deciders.{deciders}
 use Rattle.graph_objects.proofs.EachLemmas.{marked_slots, go_slots, gone_held, gone_wishes}
 use Rattle.graph_objects.proofs.MarkedLemmas.{stays_marked}
+use Rattle.graph_objects.proofs.DeciderLemmas.{gone_deciders}
 use Rattle.graph_objects.proofs.changes.leave.Goals as goal
 
 pub let_go-requires : goal.let_go-requires
@@ -21,3 +23,8 @@ returns-clause-held c = ap (set_on Held) (c.let_go.ensures.slots ∙ ap (each_sl
 
 pub returns-clause-wishes : goal.returns-clause-wishes
 returns-clause-wishes c = ap wishes (c.let_go.ensures.slots ∙ ap (each_slot let_go) c.mark_leaving.ensures) ∙ gone_wishes c.args.slots.now.entries c.args.name.now
+
+pub returns-clause-deciders : goal.returns-clause-deciders
+returns-clause-deciders c =
+    let es = c.args.slots.now.entries in
+    ap deciders (c.let_go.ensures.slots ∙ ap (each_slot let_go) c.mark_leaving.ensures) ∙ gone_deciders es (marked (set_on Held es) c.args.name.now) (λ s. refl)

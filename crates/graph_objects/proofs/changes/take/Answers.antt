@@ -4,10 +4,12 @@ use Rattle.graph_objects.specs.declared.slot.Slot.{Slot}
 use Rattle.graph_objects.specs.declared.slot.Side.TheVariants.{Held}
 use Rattle.graph_objects.specs.Slots.{AreSlots, set_on, wishes}
 use Rattle.graph_objects.specs.Marked.{AreMarked}
+use Rattle.graph_objects.specs.Deciders.{deciders}
 use Rattle.graph_objects.proofs.KeyLemmas.{key_eq, key_same, key_itself}
-use Rattle.graph_objects.proofs.SlotLemmas.{none_of, not_absent, entry_at}
+use Rattle.graph_objects.proofs.SlotLemmas.{none_of, not_absent, entry_at, steady_on}
 use Rattle.graph_objects.proofs.ChangeLemmas.{take_slots, take_held, held_here, wishes_now}
 use Rattle.graph_objects.proofs.MarkedLemmas.{marks_after_write, fewer_after}
+use Rattle.graph_objects.proofs.DeciderLemmas.{deciders_written}
 use Rattle.graph_objects.proofs.changes.take.Goals as goal
 
 pub returns-in_default-clause-held : goal.returns-in_default-clause-held
@@ -47,3 +49,17 @@ returns-clause-wishes c =
 
 pub write-requires-clause-room : goal.write-requires-clause-room
 write-requires-clause-room c = omega (arith, c.in-Some.ensures.within, c.requires.marked.room)
+
+pub returns-clause-deciders : goal.returns-clause-deciders
+returns-clause-deciders c =
+    let es = c.args.slots.now.entries in
+    let s : Slot = c.index.result.now in
+    let w : Slot = record s { held = None } in
+    let at = entry_at key_eq key_same key_itself c.key_of.result es c.in-Some.index s (sym c.in-Some.ensures.index) c.index.ensures in
+    ap deciders c.write.ensures.slots ∙ deciders_written es c.in-Some.index c.key_of.result s w at refl
+
+pub returns-in_default-clause-steady : goal.returns-in_default-clause-steady
+returns-in_default-clause-steady c = steady_on key_eq key_same key_itself c.args.slots.now.entries c.requires.slots c.get_index_of.ensures.unique Held
+
+pub returns-clause-steady : goal.returns-clause-steady
+returns-clause-steady c = steady_on key_eq key_same key_itself c.args.slots.now.entries c.requires.slots c.get_index_of.ensures.unique Held

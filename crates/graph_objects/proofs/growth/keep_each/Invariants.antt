@@ -1,5 +1,6 @@
-use Rattle.std.proofs.Common.{◌≡◌, ◌≤◌, ◌*◌, length}
+use Rattle.std.proofs.Common.{◌≡◌, ◌≤◌, ◌+◌, ◌*◌, length}
 use Rattle.graph_objects.specs.Slots.{AreSlots, wishes}
+use Rattle.graph_objects.specs.Deciders.{deciders, HasNoNewWish}
 use Rattle.graph_objects.proofs.GrowLemmas.{HoldsFirst}
 use Rattle.graph_objects.proofs.growth.keep_each.Given as goal
 
@@ -10,4 +11,6 @@ invariant-loop-index l = record {
   held : HoldsFirst l.slots.entries l.old.entries l.index;
   room : length l.slots.entries ≤ 64 * length l.marks;
   stay : wishes l.slots.entries ≡ wishes l.fn.slots.entries;
+  few : length l.slots.entries ≤ length l.fn.slots.entries + l.index;
+  none : HasNoNewWish (deciders l.fn.slots.entries) (deciders l.slots.entries);
 }

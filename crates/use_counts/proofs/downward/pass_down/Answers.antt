@@ -4,8 +4,10 @@ use Rattle.use_counts.specs.declared.node.Node.{Node}
 use Rattle.use_counts.specs.NodeRule.{times, rank_of}
 use Rattle.use_counts.specs.Edges.{upper_end, edges_at}
 use Rattle.use_counts.specs.Held.{RunsUp, AllRunUp, UseSettledAt, DownTo, differs, used_at}
+use Rattle.use_counts.specs.Uses.{AreMarked}
 use Rattle.use_counts.proofs.DownLemmas.{falling_more, skip_down, next_below}
 use Rattle.use_counts.proofs.HeldDown.{lowers_of}
+use Rattle.use_counts.proofs.UseLemmas.{marked_more}
 use Rattle.use_counts.proofs.downward.pass_down.Goals as goal
 
 pub loop-turn-preserved : goal.loop-turn-preserved
@@ -32,4 +34,6 @@ loop-turn-preserved g c =
     record {
       within = omega (arith, within.0);
       down = falling_more order rank size edges next before seen new started steps c.settle_use.new.steps topology.ordered within.0 stand (c.settle_use.ensures.size ∙ here.size) here settled cost;
+      uses = marked_more before seen new c.args.uses.now c.loop-turn.uses c.settle_use.new.uses
+          (subst (λ (ns : List Node). AreMarked before ns c.args.uses.now c.loop-turn.uses) (sym c.last_use_stale.ensures.same) c.loop-turn.invariant.uses) c.settle_use.ensures.uses;
     }

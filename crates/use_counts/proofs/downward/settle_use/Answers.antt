@@ -8,6 +8,7 @@ use Rattle.use_counts.proofs.EdgeLemmas.{length_ends}
 use Rattle.use_counts.proofs.HeldDown.{none_below_itself, lowers_of}
 use Rattle.use_counts.proofs.SettledUp.{written}
 use Rattle.use_counts.proofs.SettledDown.{lowers_inside, demand_allows, demand_fits, calls_changed, differs_true}
+use Rattle.use_counts.proofs.UseLemmas.{marked_more, noted_put}
 use Rattle.use_counts.proofs.downward.settle_use.Goals as goal
 
 pub tell_lowers-requires-clause-inside : goal.tell_lowers-requires-clause-inside
@@ -66,3 +67,10 @@ returns-then-was-now-clause-cost g c =
     let here = (returns-then-was-now-clause-use_marks g c).here ∙ sym is in
     let moves = ap (λ (n : Node). times (differs (used_at c.args.nodes.now c.args.place) n.used) (edges_at upper_end (λ k. k == c.args.place) edges)) here ∙ ap (λ b. times b (edges_at upper_end (λ k. k == c.args.place) edges)) went in
     omega (arith, moves, c.tell_lowers.ensures.cost, ap length c.lowers.ensures, length_ends lower_end upper_end edges c.args.place)
+
+pub returns-then-was-now-clause-uses : goal.returns-then-was-now-clause-uses
+returns-then-was-now-clause-uses g c =
+    marked_more c.args.nodes.now c.put.new.self c.tell_lowers.new.nodes c.args.uses.now c.note.new.self c.tell_lowers.new.uses (noted_put c.args.nodes.now c.put.new.self c.args.place c.node-was.result c.use_settled-now.result c.args.uses.now c.note.new.self c.requires.within c.put.ensures c.node-was.ensures c.note.ensures.here c.note.ensures.only c.note.ensures.stay) c.tell_lowers.ensures.uses
+
+pub returns-else-was-now-clause-uses : goal.returns-else-was-now-clause-uses
+returns-else-was-now-clause-uses g c = noted_put c.args.nodes.now c.put.new.self c.args.place c.node-was.result c.use_settled-now.result c.args.uses.now c.note.new.self c.requires.within c.put.ensures c.node-was.ensures c.note.ensures.here c.note.ensures.only c.note.ensures.stay

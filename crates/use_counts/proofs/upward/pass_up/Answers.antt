@@ -3,7 +3,9 @@ use Rattle.std.proofs.lemmas.List.Elements.{recursion_from_All}
 use Rattle.use_counts.specs.declared.node.Node.{Node}
 use Rattle.use_counts.specs.NodeRule.{rank_of}
 use Rattle.use_counts.specs.Held.{UpTo, RunsUp, AllRunUp}
+use Rattle.use_counts.specs.Uses.{AreMarked}
 use Rattle.use_counts.proofs.UpLemmas.{UpToBut, rising_more, but_start, but_next, skip_up, next_within, rank_within}
+use Rattle.use_counts.proofs.UseLemmas.{marked_more}
 use Rattle.use_counts.proofs.upward.pass_up.Goals as goal
 
 pub loop-turn-init : goal.loop-turn-init
@@ -18,6 +20,7 @@ loop-turn-init g c =
       up = subst (λ (q : ℕ). UpTo edges rank q c.args.nodes.now c.settle_node.new.nodes c.args.steps.now c.settle_node.new.steps) (sym c.rank-turn.ensures)
           (rising_more rank size edges _ c.args.start c.args.nodes.now c.args.nodes.now c.settle_node.new.nodes c.args.steps.now c.args.steps.now c.settle_node.new.steps stand c.settle_node.ensures.size
           (but_start edges rank c.args.start c.args.nodes.now c.args.steps.now c.requires.kept c.requires.ranks c.requires.marks c.requires.use_marks) c.settle_node.ensures.spreads c.settle_node.ensures.cost);
+      uses = c.settle_node.ensures.uses;
     }
 
 pub made_at-requires : goal.made_at-requires
@@ -48,4 +51,6 @@ loop-turn-preserved g c =
     record {
       within = omega (arith, within);
       up = rising_more rank size edges (next + 1) c.made_at.result before seen step.new.nodes started steps step.new.steps stand (step.ensures.size ∙ here.size) but step.ensures.spreads step.ensures.cost;
+      uses = marked_more before seen step.new.nodes c.args.uses.now c.loop-turn.uses step.new.uses
+          (subst (λ (ns : List Node). AreMarked before ns c.args.uses.now c.loop-turn.uses) (sym c.first_stale.ensures.same) c.loop-turn.invariant.uses) step.ensures.uses;
     }

@@ -1,6 +1,7 @@
 use Rattle.std.proofs.Common.{◌≤◌, ◌-◌, length}
 use Rattle.use_counts.specs.NodeRule.{rank_of}
 use Rattle.use_counts.specs.Held.{UpTo}
+use Rattle.use_counts.specs.Uses.{AreMarked}
 use Rattle.use_counts.proofs.upward.pass_up.Given as goal
 
 abbrev pub invariant-loop-turn : goal.invariant-loop-turn
@@ -8,6 +9,7 @@ invariant-loop-turn g l =
     record {
       within : l.turn ≤ length l.topology.order.items;
       up : UpTo l.topology.edges.items (rank_of l.topology.ranks.items) l.turn l.fn.nodes l.nodes l.fn.steps l.steps;
+      uses : AreMarked l.fn.nodes l.nodes l.fn.uses l.uses;
     }
 
 abbrev pub decreases-loop-turn : goal.decreases-loop-turn

@@ -7,6 +7,7 @@ use Rattle.use_counts.specs.Held.{settled, RunsUp, AllRunUp, moved, change_of}
 use Rattle.use_counts.proofs.EdgeLemmas.{length_ends}
 use Rattle.use_counts.proofs.HeldUp.{none_itself, uppers_of}
 use Rattle.use_counts.proofs.SettledUp.{written, uppers_inside, ready_allows, linked_allows, ready_fits, linked_fits, spreads_moved}
+use Rattle.use_counts.proofs.UseLemmas.{same_uses, marked_more, noted_put}
 use Rattle.use_counts.proofs.upward.settle_node.Goals as goal
 
 pub tell_uppers-requires-clause-inside : goal.tell_uppers-requires-clause-inside
@@ -84,3 +85,11 @@ returns-then-has_moved-clause-cost g c =
     let here = (returns-then-has_moved-clause-spreads g c).here ∙ sym is in
     let moves = ap (λ n. times (moved (node_at c.args.nodes.now c.args.place) n) (edges_at lower_end (λ k. k == c.args.place) edges)) here ∙ ap (λ b. times b (edges_at lower_end (λ k. k == c.args.place) edges)) went in
     omega (arith, moves, c.tell_uppers.ensures.cost, ap length c.uppers.ensures, length_ends upper_end lower_end edges c.args.place)
+
+pub returns-then-has_moved-clause-uses : goal.returns-then-has_moved-clause-uses
+returns-then-has_moved-clause-uses g c =
+    marked_more c.args.nodes.now c.put.new.self c.tell_uppers.new.nodes c.args.uses.now c.note.new.self c.note.new.self (noted_put c.args.nodes.now c.put.new.self c.args.place c.node-was.result c.settled-now.result c.args.uses.now c.note.new.self c.requires.within c.put.ensures c.node-was.ensures c.note.ensures.here c.note.ensures.only c.note.ensures.stay)
+    (same_uses c.put.new.self c.tell_uppers.new.nodes c.note.new.self c.tell_uppers.ensures.size (λ k. ap (λ (n : Node). n.used) (c.tell_uppers.ensures.after_lower k)))
+
+pub returns-else-has_moved-clause-uses : goal.returns-else-has_moved-clause-uses
+returns-else-has_moved-clause-uses g c = noted_put c.args.nodes.now c.put.new.self c.args.place c.node-was.result c.settled-now.result c.args.uses.now c.note.new.self c.requires.within c.put.ensures c.node-was.ensures c.note.ensures.here c.note.ensures.only c.note.ensures.stay

@@ -1,4 +1,5 @@
 use Rattle.std.proofs.Common.{arith, ◌≡◌, length, ap}
+use Rattle.use_counts.specs.Uses.{Marking}
 use Rattle.graph_rules.specs.State.{Known}
 use Rattle.dev_graph.proofs.GraphLemmas.{whole_parts, ready_parts, whole_some}
 use Rattle.dev_graph.proofs.graph.Graph.over.Goals as goal
@@ -14,4 +15,4 @@ judge-requires c =
     record { sound = ready.whole.names; size = ready.size; wishes = ready.wishes }
 
 pub invariant_of-result : goal.invariant_of-result
-invariant_of-result c = record { whole = whole_some c.args.names c.requires; used = c.judge.ensures.size; wishes = c.judge.ensures.wishes }
+invariant_of-result c = record { whole = whole_some c.args.names c.requires; used = c.judge.ensures.size; looked = c.judge.ensures.used; room = omega (arith, c.in_ok-resize.ensures.len, c.len.ensures.length, ap length c.names-3.ensures.names, c.len-2.ensures, ap (λ (m : Marking). m.room) c.in_ok-uses.ensures); none = ap (λ (m : Marking). m.ids) c.in_ok-uses.ensures; wishes = c.judge.ensures.wishes }

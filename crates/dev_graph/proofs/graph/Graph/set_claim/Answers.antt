@@ -1,30 +1,35 @@
-use Rattle.std.proofs.Common.{arith, length, List}
+use Rattle.std.proofs.Common.{arith, length, List, ap}
 use Rattle.graph_objects.specs.Marks.{held_of}
 use Rattle.graph_rules.specs.State.{Named, Known}
 use Rattle.graph_rules.specs.After.{with_claims}
 use Rattle.graph_counts.proofs.AnswerLemmas.{claims_spelled}
-use Rattle.dev_graph.proofs.GraphLemmas.{ready_after, whole_some, same_held, after_event, id_before, cost_before, no_id}
+use Rattle.use_counts.specs.Uses.{Marking}
+use Rattle.dev_graph.specs.Inside.{known_in}
+use Rattle.dev_graph.proofs.GraphLemmas.{told_after, whole_some, same_held, after_event, id_before, cost_before, no_id}
 use Rattle.dev_graph.proofs.graph.Graph.set_claim.Goals as goal
 
 pub set_claim-requires-clause-within : goal.set_claim-requires-clause-within
 set_claim-requires-clause-within g c = id_before c.self.inside.names c.in-Some.names (held_of c.self.inside.objects) c.self.inside.loads c.args.self.now c.in-Some.is c.self.view_is c.args.id.0 c.requires.within
 
-pub judge-requires : goal.judge-requires
-judge-requires g c =
+pub set_claim-requires-clause-room : goal.set_claim-requires-clause-room
+set_claim-requires-clause-room g c = omega (arith, c.self.invariant.room, ap (λ n. length (known_in n).names) c.in-Some.is)
+
+pub judge_uses-requires : goal.judge_uses-requires
+judge_uses-requires g c =
     let s : Known = c.in-Some.names in
-    let ready = ready_after c.self.inside.names s c.set_claim.new.self (with_claims s.names c.args.id.0 c.args.claims) c.self.inside.objects.wishes (length c.self.inside.used.items) c.in-Some.is c.self.invariant.whole c.self.invariant.wishes c.self.invariant.used (claims_spelled s.names c.args.id.0 c.args.claims) c.set_claim.ensures.known in
-    record { sound = ready.whole.names; size = ready.size; wishes = ready.wishes }
+    let told = told_after c.self.inside s c.set_claim.new.self (with_claims s.names c.args.id.0 c.args.claims) c.set_claim.new.uses c.in-Some.is c.self.invariant (claims_spelled s.names c.args.id.0 c.args.claims) c.set_claim.ensures.known c.set_claim.ensures.uses in
+    record { sound = told.whole.names; ids = told.within; before = (s, told.differing) }
 
 pub invariant_of-self-2 : goal.invariant_of-self-2
 invariant_of-self-2 g c =
     let s : Known = c.in-Some.names in
-    let ready = ready_after c.self.inside.names s c.set_claim.new.self (with_claims s.names c.args.id.0 c.args.claims) c.self.inside.objects.wishes (length c.self.inside.used.items) c.in-Some.is c.self.invariant.whole c.self.invariant.wishes c.self.invariant.used (claims_spelled s.names c.args.id.0 c.args.claims) c.set_claim.ensures.known in
-    record { whole = whole_some c.set_claim.new.self ready.whole; used = c.judge.ensures.size; wishes = c.judge.ensures.wishes }
+    let told = told_after c.self.inside s c.set_claim.new.self (with_claims s.names c.args.id.0 c.args.claims) c.set_claim.new.uses c.in-Some.is c.self.invariant (claims_spelled s.names c.args.id.0 c.args.claims) c.set_claim.ensures.known c.set_claim.ensures.uses in
+    record { whole = whole_some c.set_claim.new.self told.whole; used = c.judge_uses.ensures.size; looked = c.judge_uses.ensures.used; room = omega (arith, told.differing.size, c.self.invariant.used, c.self.invariant.room, c.set_claim.ensures.uses.stay.room, ap (λ (m : Marking). m.room) c.judge_uses.ensures.uses); none = ap (λ (m : Marking). m.ids) c.judge_uses.ensures.uses; wishes = c.judge_uses.ensures.wishes }
 
 pub returns-clause-state : goal.returns-clause-state
 returns-clause-state g c =
-    after_event c.self.inside.names c.in-Some.names (held_of c.self.inside.objects) c.self.inside.loads c.args.self.now c.in-Some.is c.self.view_is c.set_claim.new.self (held_of c.judge.new.objects)
-    (λ (ns : List Named). with_claims ns c.args.id.0 c.args.claims) c.set_claim.ensures.known (same_held c.self.inside.objects c.judge.new.objects c.judge.ensures.held)
+    after_event c.self.inside.names c.in-Some.names (held_of c.self.inside.objects) c.self.inside.loads c.args.self.now c.in-Some.is c.self.view_is c.set_claim.new.self (held_of c.judge_uses.new.objects)
+    (λ (ns : List Named). with_claims ns c.args.id.0 c.args.claims) c.set_claim.ensures.known (same_held c.self.inside.objects c.judge_uses.new.objects c.judge_uses.ensures.held)
 
 pub returns-clause-cost : goal.returns-clause-cost
 returns-clause-cost g c =

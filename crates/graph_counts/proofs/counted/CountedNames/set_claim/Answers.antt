@@ -1,4 +1,4 @@
-use Rattle.std.proofs.Common.{ap, arith, subst, sym, length, ◌<◌}
+use Rattle.std.proofs.Common.{ap, arith, subst, sym, length, length-set, ◌<◌, ◌∙◌}
 use Rattle.graph_rules.specs.State.{Known}
 use Rattle.graph_counts.specs.Told.{HasFewClaims}
 use Rattle.graph_counts.proofs.FewLemmas.{few_with_claims}
@@ -6,6 +6,9 @@ use Rattle.graph_rules.specs.Edges.{changed_edges}
 use Rattle.graph_counts.specs.Inside.{known_of}
 use Rattle.graph_counts.proofs.AnswerLemmas.{tied_after_claims}
 use Rattle.graph_counts.proofs.CostLemmas.{cost_after_claims}
+use Rattle.graph_rules.specs.After.{name_at}
+use Rattle.graph_counts.specs.Uses.{TellsUses}
+use Rattle.graph_counts.proofs.UseLemmas.{told_uses}
 use Rattle.graph_counts.proofs.counted.CountedNames.set_claim.Goals as goal
 
 pub invariant_of-self : goal.invariant_of-self
@@ -24,3 +27,14 @@ returns-clause-cost g c =
     let bound = cost_after_claims s c.set_claims.new.self c.self.inside.counts c.set_claim.new.self id c.args.claims c.self.invariant.sound c.self.invariant.counts within c.set_claims.ensures c.set_claim.ensures.net in
     let same = ap (λ (k : Known). changed_edges k (record s { names = c.set_claims.new.self })) c.self.view_is in
     omega (arith, bound, same, c.set_claim.ensures.cost)
+
+pub returns-clause-uses : goal.returns-clause-uses
+returns-clause-uses g c =
+    let id = c.args.id.0 in
+    let s : Known = known_of c.self.inside in
+    let new : Known = record s { names = c.set_claims.new.self } in
+    let within : id < length s.names = omega (arith, c.requires.within, ap (λ (k : Known). length k.names) c.self.view_is) in
+    let t = tied_after_claims s c.set_claims.new.self c.self.inside.counts c.set_claim.new.self id c.args.claims c.self.invariant.sound c.self.invariant.counts within c.set_claims.ensures c.set_claim.ensures.net in
+    let size = ap length c.set_claims.ensures ∙ length-set s.names id (record (name_at s.names id) { claims = c.args.claims }) in
+    subst (λ (k : Known). TellsUses k new c.args.uses.now c.set_claim.new.uses) c.self.view_is
+    (told_uses s new c.self.inside.counts c.set_claim.new.self c.args.uses.now c.set_claim.new.uses c.self.invariant.sound t.0 size c.self.invariant.counts t.1 c.set_claim.ensures.uses)

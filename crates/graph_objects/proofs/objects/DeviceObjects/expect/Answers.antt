@@ -1,4 +1,4 @@
-use Rattle.std.proofs.Common.{◌≡◌, OnOk, OnErr, ap, sym, subst, ◌∙◌}
+use Rattle.std.proofs.Common.{arith, ◌≡◌, OnOk, OnErr, ap, sym, subst, ◌∙◌}
 use Rattle.graph_objects.specs.Slots.{wishes}
 use Rattle.graph_objects.specs.Marks.{Marks}
 use Rattle.graph_objects.specs.Grown.{CanExpect, HasMore}
@@ -16,5 +16,17 @@ returns-clause-ok c = subst (λ (m : Marks). OnOk c.expect.result (HasMore m.wis
 pub returns-clause-err : goal.returns-clause-err
 returns-clause-err c = subst (λ (m : Marks). OnErr c.expect.result (wishes c.expect.new.slots.entries ≡ m.wishes)) c.self.view_is c.expect.ensures.err
 
+pub invariant_of-self-2 : goal.invariant_of-self-2
+invariant_of-self-2 c = record { slots = c.expect.ensures.slots; marked = c.expect.ensures.marked; listed = c.expect.ensures.listed; order = record { takes = λ kept. absurd (cc (kept, c.in_ok-make_room.ensures.kept)); puts = λ kept. absurd (cc (kept, c.in_ok-make_room.ensures.kept)) }; room = record { takes = omega (arith, c.in_ok-make_room.ensures.ok.takes, c.expect.ensures.few, c.len.ensures.len); puts = omega (arith, c.in_ok-make_room.ensures.ok.puts, c.expect.ensures.few, c.len.ensures.len) } }
+
 pub invariant_of-self : goal.invariant_of-self
-invariant_of-self c = record { slots = c.expect.ensures.slots; marked = c.expect.ensures.marked }
+invariant_of-self c = record {
+  slots = c.self.invariant.slots;
+  marked = c.self.invariant.marked;
+  listed = c.self.invariant.listed;
+  order = record { takes = λ kept. absurd (cc (kept, c.in_err-make_room.ensures.kept)); puts = λ kept. absurd (cc (kept, c.in_err-make_room.ensures.kept)) };
+  room = record {
+    takes = omega (arith, c.self.invariant.room.takes, c.in_err-make_room.ensures.takes);
+    puts = omega (arith, c.self.invariant.room.puts, c.in_err-make_room.ensures.puts);
+  };
+}

@@ -6,7 +6,7 @@ use Rattle.graph_objects.proofs.SlotLemmas.{viewed}
 use Rattle.graph_objects.proofs.objects.DeviceObjects.first_put.Goals as goal
 
 pub returns-clause-some : goal.returns-clause-some
-returns-clause-some c = viewed c.self.inside.slots.entries _ c.self.view_is (λ h w. IfSome c.first.result (IsFirst Puts h w)) c.first.ensures.some
+returns-clause-some c = viewed c.self.inside.slots.entries _ c.self.view_is (λ h w. IfSome c.first_of.result (IsFirst Puts h w)) c.first_of.ensures.some
 
 pub returns-clause-none : goal.returns-clause-none
-returns-clause-none c = viewed c.self.inside.slots.entries _ c.self.view_is (λ h w. IfNone c.first.result ((o : Object) → is_due Puts h w o ≡ true → ⊥)) c.first.ensures.none
+returns-clause-none c = viewed c.self.inside.slots.entries _ c.self.view_is (λ h w. IfNone c.first_of.result ((o : Object) → is_due Puts h w o ≡ true → ⊥)) c.first_of.ensures.none

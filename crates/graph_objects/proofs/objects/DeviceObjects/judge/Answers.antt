@@ -1,14 +1,22 @@
-use Rattle.std.proofs.Common.{map, ap, sym, subst, ◌∙◌}
+use Rattle.std.proofs.Common.{arith, map, ap, sym, subst, ◌∙◌}
 use Rattle.graph_objects.specs.declared.slot.Side.TheVariants.{Held}
 use Rattle.graph_objects.specs.Slots.{AreSlots, listed, wishes}
 use Rattle.graph_objects.specs.Marks.{Marks, judged}
 use Rattle.graph_objects.proofs.EachLemmas.{judged_slots, judged_held, judged_wishes}
+use Rattle.graph_objects.specs.Deciders.{AreListed, deciders}
+use Rattle.graph_objects.proofs.DeciderLemmas.{as_many_slots, judged_deciders}
 use Rattle.graph_objects.proofs.objects.DeviceObjects.judge.Goals as goal
 
 pub invariant_of-self : goal.invariant_of-self
 invariant_of-self c = record {
   slots = subst AreSlots (sym c.judge.ensures.slots) (judged_slots c.args.used.now c.self.inside.slots.entries c.self.invariant.slots);
   marked = c.judge.ensures.marked;
+  listed = subst (AreListed c.self.inside.by_id.items) (sym (ap deciders c.judge.ensures.slots ∙ judged_deciders c.args.used.now c.self.inside.slots.entries)) c.self.invariant.listed;
+  order = record { takes = λ kept. absurd (cc kept); puts = λ kept. absurd (cc kept) };
+  room = record {
+    takes = omega (arith, c.self.invariant.room.takes, as_many_slots c.self.inside.slots.entries c.judge.new.slots.entries (ap deciders c.judge.ensures.slots ∙ judged_deciders c.args.used.now c.self.inside.slots.entries));
+    puts = omega (arith, c.self.invariant.room.puts, as_many_slots c.self.inside.slots.entries c.judge.new.slots.entries (ap deciders c.judge.ensures.slots ∙ judged_deciders c.args.used.now c.self.inside.slots.entries));
+  };
 }
 
 pub returns-clause-held : goal.returns-clause-held

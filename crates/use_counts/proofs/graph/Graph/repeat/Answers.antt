@@ -38,6 +38,7 @@ loop-id-preserved g c =
     let here : member_at now.members id ≡ member_at told id = ap (λ (net : Network). member_at net.members id) whole ∙ told_here was.members (member_at told id) id a b n within same (ap (λ (m : Member). m.present) t) (ap (λ (m : Member). m.carrier) t) (ap (λ (m : Member). m.claims) t) in
     let beside : (k : ℕ) → k ≢ id → member_at now.members k ≡ member_at was.members k = λ k ne. ap (λ (net : Network). member_at net.members k) whole ∙ told_beside was.members id a b n k ne in
     record {
+      room = c.set_claim.ensures.uses.stay.room ∙ c.set_device.ensures.uses.stay.room ∙ inv.room;
       size = ap (λ (net : Network). length net.members) whole ∙ told_length was.members id a b n ∙ inv.size;
       fixed = ap (λ (net : Network). net.fixed) whole ∙ inv.fixed;
       ports = ap (λ (net : Network). net.ports) whole ∙ inv.ports;

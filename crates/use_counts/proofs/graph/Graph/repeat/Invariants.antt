@@ -5,6 +5,7 @@ use Rattle.use_counts.proofs.graph.Graph.repeat.Given as goal
 abbrev pub invariant-loop-id : goal.invariant-loop-id
 invariant-loop-id g l =
     record {
+      room : l.uses.room ≡ l.fn.uses.room;
       size : length l.self.members ≡ length l.told.members;
       fixed : l.self.fixed ≡ l.fn.self.fixed;
       ports : l.self.ports ≡ l.fn.self.ports;
