@@ -1,5 +1,5 @@
 -- A settling at its beginning and where no call is left.
-use Rattle.std.proofs.Common.{◌≡◌, inl, inr, [], None, Bool, false, refl, sym, ap, subst, ◌∙◌}
+use Rattle.std.proofs.Common.{ℕ, ◌≡◌, inl, inr, List, [], Contains, None, Bool, true, false, refl, sym, ap, subst, ◌∙◌}
 use Rattle.std.specs.Prelude.{slice_get}
 use Rattle.std.specs.FinSet as set
 use Rattle.kern_model.specs.declared.object.Object.{Object}
@@ -7,7 +7,7 @@ use Rattle.kern_model.specs.declared.object.Object.TheVariants as object
 use Rattle.kern_model.specs.declared.kernel.Kernel.{Ghosts as KernelMembers}
 use Rattle.kern_model.specs.declared.object.Call.{Call}
 use Rattle.kern_model.specs.ObjectOrder.{Objects, Has}
-use Rattle.kern_model.specs.Kernel.{Devices, after_call}
+use Rattle.kern_model.specs.Kernel.{Devices, name_of, after_call}
 use Rattle.kern_model.specs.Allowed.{AreAllowed}
 use Rattle.kern_model.specs.Admission.{Admits}
 use Rattle.kern_model.specs.CallOrder.{AreCalls}
@@ -16,19 +16,24 @@ use Rattle.kern_model.proofs.MemberLemmas.{none_in_nil}
 use Rattle.kern_model.proofs.SetLemmas.{member_of_set, none_in_empty, same_members}
 use Rattle.kern_model.proofs.TestLemmas.{either}
 use Rattle.kern_model.proofs.AllowedLemmas.{nothing_allowed}
-use Rattle.kern_model.proofs.LeadLemmas.{reached}
+use Rattle.kern_model.proofs.LeadLemmas.{reached, call_of_taken}
+use Rattle.kern_calls.specs.Calls.{own_take}
 use Rattle.kern_calls.specs.Lower.{lower_part}
 use Rattle.kern_calls.proofs.CallsLemmas.{are_the_calls}
+use Rattle.calls_parts.specs.Upper.{upper_part}
 use Rattle.graph_rules.specs.State.{State, empty, nothing_known, devices_in}
 use Rattle.graph_rules.specs.Wanted.{want_in}
+use Rattle.graph_rules.specs.Calls.{falls_in}
 use Rattle.graph_wishes.specs.Wishes.{mays, used_mays}
 use Rattle.graph_wishes.proofs.WishLemmas.{wants_used_mays}
 use Rattle.graph_laws.proofs.FallLemmas.{settled_links}
 use Rattle.given_objects.specs.declared.gift.Gift.{Gift}
+use Rattle.given_objects.specs.Gifts as gift
 use Rattle.given_objects.specs.Gifts.{Gifts, is_given, objects_by, AreGifts}
+use Rattle.given_objects.proofs.ChangeLemmas.{of_gift, has_gift, one_gift}
 use Rattle.graph_settle.specs.Course.{Course, held_of, wanted_of, devices_of, calls_of, IsReady, IsAlike, HoldsAs}
-use Rattle.graph_settle.proofs.CourseLemmas.{held_parts, wanted_parts}
-use Rattle.graph_settle.proofs.MadeLemmas.{no_first}
+use Rattle.graph_settle.proofs.CourseLemmas.{held_parts, wanted_parts, falls_below}
+use Rattle.graph_settle.proofs.MadeLemmas.{no_first, none_falls}
 
 module _ (c : Course) (ready : IsReady c) (none : slice_get (calls_of c) 0 ≡ None) where
   pub none_left : calls_of c ≡ []
@@ -39,11 +44,32 @@ module _ (c : Course) (ready : IsReady c) (none : slice_get (calls_of c) 0 ≡ N
   is_reached = reached (devices_of c) (held_of c) (wanted_of c) [] ready.held ready.wanted
       (subst (AreCalls (devices_of c) (held_of c) (wanted_of c)) none_left (are_the_calls (devices_of c) (held_of c) (wanted_of c)))
 
+  -- so each gift that is held is given, and no name falls
+  held_given : AreGifts c.gifts → (g : Gift) → Contains c.gifts g → g.held ≡ true → is_given g ≡ true
+  held_given are g member held =
+      let same : gift.held_of c.gifts ≡ gift.given_of c.gifts = sym (held_parts c are ready.lower).1 ∙ ap upper_part is_reached ∙ (wanted_parts c are ready.lower).1 in
+      let from = has_gift is_given c.gifts g.object (subst (λ (s : Objects). Has s g.object) same (of_gift (λ (x : Gift). x.held) c.gifts g member held)) in
+      subst (λ (x : Gift). is_given x ≡ true) (one_gift c.gifts are.once from.gift g from.member member from.is) from.passes
+
+  none_falls_now : AreGifts c.gifts → (name : List ℕ) → falls_in c.graph name ≡ false
+  none_falls_now are name =
+      falls_below c are ready.lower name
+      ∙ none_falls (held_of c) (wanted_of c) (λ x taken.
+      let call = own_take (devices_of c) x in
+      none_in_nil call (subst (λ calls. Contains calls call) none_left ((are_the_calls (devices_of c) (held_of c) (wanted_of c)).complete call (call_of_taken (devices_of c) (held_of c) (wanted_of c) x taken)))) name
+
   -- and each link that is held is one of the rows
   pub ready_at_end : AreGifts c.gifts → IsReady (record { graph = c.graph; gifts = c.gifts; may_fall = false })
   ready_at_end are =
       let same : c.graph.held ≡ want_in c.graph.known = sym (held_parts c are ready.lower).0 ∙ ap lower_part is_reached ∙ (wanted_parts c are ready.lower).0 in
-      record { held = ready.held; wanted = ready.wanted; lower = ready.lower; falls = ready.falls; links = λ off. settled_links c.graph same }
+      record {
+        held = ready.held;
+        wanted = ready.wanted;
+        lower = ready.lower;
+        falls = ready.falls;
+        links = λ off. settled_links c.graph same;
+        quiet = λ off g member held. ready.falls g member held (held_given are g member held) ∙ none_falls_now are (name_of g.object);
+      }
 
 -- a kernel admits what a course has for it
 pub admits : {K : Type 0} (kernel : KernelMembers K) (state : K) (c : Course) (call : Call) → HoldsAs kernel state c → Admits (devices_of c) (held_of c) call → Admits (kernel.devices state) (kernel.objects state) call
@@ -91,6 +117,7 @@ bare_ready = record {
   lower = λ o h. absurd (none_in_empty o h);
   falls = λ g member. absurd (none_in_nil g member);
   links = λ off name made h. absurd (none_in_empty (object.Link name made) h);
+  quiet = λ off g member. absurd (none_in_nil g member);
 }
 
 pub new_ready : (s : State) (gs : Gifts) → s ≡ empty → gs ≡ [] → IsReady (record { graph = s; gifts = gs; may_fall = false })

@@ -40,6 +40,7 @@ use Rattle.dev_graph.proofs.TakeLemmas.{found_in, found_none, next_put_wanted, n
 use Rattle.given_objects.specs.declared.gift.Gift.{Gift}
 use Rattle.given_objects.specs.Gifts as gift
 use Rattle.given_objects.specs.Gifts.{Gifts, is_of, gift_of, has_place, givers_of, is_given, AreGifts}
+use Rattle.given_objects.specs.Changes.{noted}
 use Rattle.given_objects.proofs.ChangeLemmas.{of_itself, of_gift, has_gift, was_gift}
 use Rattle.given_objects.proofs.KeepLemmas.{note_given, note_put, note_take}
 use Rattle.given_objects.proofs.PlaceLemmas.{note_places, note_givers}
@@ -251,6 +252,7 @@ module _ (c : Course) (are : AreGifts c.gifts) (ready : IsReady c) (call : Call)
             ready.falls g member held given ∙ still
             ∙ sym (false_of_not (falls_in (did_after c.graph call) (name_of g.object)) (λ h. let fall = falls_before c.graph call next_below (name_of g.object) h in cc (fall, still)));
         links = λ none. links_kept c.graph (ready.links none) call next_below;
+        quiet = ready.quiet;
       };
     }
 
@@ -296,8 +298,8 @@ module _ (c : Course) (are : AreGifts c.gifts) (ready : IsReady c) (call : Call)
         by (Take o mtu mac) due = ready.lower o (taken_held c.graph.held (want_in c.graph.known) o (taken_call (devices_of c) c.graph.held (want_in c.graph.known) o mtu mac due))
 
     -- what is put last is on names that do not fall
-    quiet : (o : Object) → call ≡ Put o → (name : List ℕ) → falls_in c.graph name ≡ false
-    quiet o is name =
+    still : (o : Object) → call ≡ Put o → (name : List ℕ) → falls_in c.graph name ≡ false
+    still o is name =
         let none = above_by o (find is_upper_take (calls_of c)) (slice_get (calls_in c.graph) 0) (find is_upper_put (calls_of c)) takes lower_first (ap (λ x. is_upper (object_of x)) (sym is) ∙ upper) (in_parts ∙ ap Some is) in
         none_falls c.graph.held (want_in c.graph.known) (none_taken c.graph none) name
 
@@ -317,6 +319,18 @@ module _ (c : Course) (are : AreGifts c.gifts) (ready : IsReady c) (call : Call)
               (ready.falls past.was past.member (ap (λ (y : Gift). y.held) left.1 ∙ held) (ap is_given left.1 ∙ given))
         ]
 
+    noted_quiet : (o : Object) (b : Bool) → c.may_fall ≡ false → (g : Gift) → Contains (noted c.gifts o b) g → g.held ≡ true → g.falls ≡ false
+    noted_quiet o b off g member has =
+        let past = was_gift (λ (y : Gift). record y { held = b; falls = false }) c.gifts o g member in
+        elim past.by as (λ _. g.falls ≡ false) [
+          | inl made ↦ sym (ap (λ (y : Gift). y.falls) made.1)
+          | inr left ↦ subst (λ (y : Gift). y.falls ≡ false) left.1 (ready.quiet off past.was past.member (ap (λ (y : Gift). y.held) left.1 ∙ has))
+        ]
+
+    quiet_noted : (x : Call) → c.may_fall ≡ false → (g : Gift) → Contains (noted_call c.gifts x) g → g.held ≡ true → g.falls ≡ false
+    quiet_noted (Put o) off g member has = noted_quiet o true off g member has
+    quiet_noted (Take o mtu mac) off g member has = noted_quiet o false off g member has
+
     pub made_above : IsMade c above_then call
     made_above = record {
       held = held_above;
@@ -326,8 +340,9 @@ module _ (c : Course) (are : AreGifts c.gifts) (ready : IsReady c) (call : Call)
         held = subst (AreAllowed (devices_of c)) (sym held_above) (allowed_then c ready call next);
         wanted = subst (AreAllowed (devices_of c)) (sym wanted_above) ready.wanted;
         lower = ready.lower;
-        falls = falls_noted call quiet;
+        falls = falls_noted call still;
         links = ready.links;
+        quiet = quiet_noted call;
       };
     }
 
