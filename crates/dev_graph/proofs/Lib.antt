@@ -2,3 +2,4 @@ pub mod WantLemmas
 pub mod TakeLemmas
 pub mod GraphLemmas
 pub mod AddLemmas
+pub mod KeptLemmas

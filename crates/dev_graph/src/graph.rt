@@ -2,6 +2,7 @@ ghost use Rattle.std.specs.Prelude.{◌≡◌, ◌≤◌, ◌<◌, ◌+◌, ◌*
 ghost use Rattle.std.specs.Option.{option_map};
 ghost use Rattle.kern_model.specs.declared.object.Device.{Device};
 ghost use Rattle.kern_calls.specs.Calls as between;
+ghost use Rattle.net_rules.specs.Refusal.{is_held_link};
 ghost use Rattle.graph_rules.specs.State as state;
 ghost use Rattle.graph_rules.specs.Answers as answers;
 ghost use Rattle.graph_rules.specs.Calls as calls;
@@ -224,6 +225,13 @@ impl Graph {
         }
     }
 
+    /// What every graph keeps: its rows, its names, the ports of radios and the VLANs of bridges are sound together.
+    pub fn is_kept(&self)
+        ensures { IsWhole self.now.known }
+    {
+        let _loads = self.loads;
+    }
+
     /// How many loads made the graph.
     pub fn loaded(&self) -> u64
         ensures { result ≡ self.now.loads }
@@ -412,6 +420,13 @@ impl Graph {
         ensures { result ≡ calls.is_held self.now object.now }
     {
         self.objects.held(object)
+    }
+
+    /// Whether a link of that name is held, of whatever kind.
+    pub fn holds_link(&self, name: &DevName) -> bool
+        ensures { result ≡ is_held_link self.now.held name.now }
+    {
+        self.objects.holds_link(name)
     }
 
     /// A call was made: the next take, or where there is none the next put.

@@ -10,6 +10,7 @@ pub mod LookupLemmas
 pub mod KeyLemmas
 pub mod WalkLemmas
 pub mod GrowLemmas
+pub mod HoldLemmas
 pub mod BitLemmas
 pub mod MarkedLemmas
 pub mod DeciderLemmas

@@ -11,6 +11,7 @@ mod judging;
 mod key;
 mod laws;
 mod line;
+mod links;
 mod marking;
 mod objects;
 mod order;

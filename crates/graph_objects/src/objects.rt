@@ -1,5 +1,7 @@
 ghost use Rattle.std.specs.Prelude.{◌≡◌, map, IfSome, IfNone, OnOk, OnErr, true, []};
 ghost use Rattle.std.specs.FinSet as set;
+ghost use Rattle.std.specs.List.{list_any};
+ghost use Rattle.kern_model.specs.AdmissionTest.{is_link_of};
 ghost use Rattle.kern_model.specs.ObjectOrder.{Has};
 ghost use Rattle.kern_model.specs.Standing.{gone};
 ghost use Rattle.kern_model.specs.Kernel.{after_call};
@@ -16,7 +18,7 @@ use crate::order::{Order, drop_done, first_of, is_next, make_room, no_order, put
 use crate::slot::{Side, Slot, Wish};
 use crate::slots::has;
 use crate::turn::Turn;
-use crate::{changes, due, growth, judging};
+use crate::{changes, due, growth, judging, links};
 use indexmap::IndexMap;
 use kern_model::{Call, DevName, Object};
 use plane_io::Memory;
@@ -103,6 +105,13 @@ impl DeviceObjects {
         ensures { result ≡ set.contains (wanted_of self.now) object.now }
     {
         has(&self.slots, Side::Wanted, object)
+    }
+
+    /// Whether a link of that name is held, of whatever kind.
+    pub fn holds_link(&self, name: &DevName) -> bool
+        ensures { result ≡ list_any (is_link_of name.now) (set.items (held_of self.now)) }
+    {
+        links::holds_link(&self.slots, name)
     }
 
     /// Whether a name is that of a link that is taken, or over one.
