@@ -3,3 +3,4 @@ pub mod TakeLemmas
 pub mod GraphLemmas
 pub mod AddLemmas
 pub mod KeptLemmas
+pub mod PlainLemmas

@@ -2,3 +2,5 @@
 
 -- how a graph is kept
 pub mod Inside
+-- one more plain name
+pub mod Added

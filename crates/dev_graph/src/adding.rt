@@ -1,46 +1,55 @@
 //! One more plain name.
-ghost use Rattle.std.specs.Prelude.{◌≡◌, [], None, IfOk};
-ghost use Rattle.plane_words.specs.Distinct.{AreDistinct};
+ghost use Rattle.std.specs.Prelude.{◌≡◌, [], map, is_some, None, IfOk, OnOk, OnErr};
+ghost use Rattle.net_options.specs.Dotted.{vlan_parts};
 ghost use Rattle.net_rules.specs.Inputs as inputs;
-ghost use Rattle.graph_rules.specs.State.{name_list, nothing_known, place_among};
+ghost use Rattle.graph_rules.specs.State.{nothing_known, place_among};
 ghost use Rattle.graph_rules.specs.After.{with_name};
+ghost use Rattle.graph_wishes.specs.Wishes.{mays};
+ghost use Rattle.graph_tables.specs.Wished.{wish_in};
+ghost use Rattle.graph_tables.specs.Lists.{HaveSame};
+ghost use Rattle.graph_tables.specs.Whole.{IsWhole};
+ghost use Rattle.dev_graph.specs.Added.{added};
 
 use graph_counts::CountedNames;
-use graph_names::{Names, Told};
-use kern_model::DevName;
+use graph_names::Names;
+use graph_objects::{DeviceObjects, Wish};
+use kern_model::{DevName, Object};
+use net_options::vlan_parts;
 use net_rows::Conf;
 use plane_io::{Items, Memory};
 use std::alloc::Global;
 
-/// The names with their devices and claims once more.
-fn copy_of(alloc: Global, names: &Names) -> Result<Names, Memory>
-    requires { AreDistinct (name_list names.now) }
-    ensures { IfOk result (λ copy. copy ≡ names.now) }
+/// Whether a name is of the form X.N.
+fn is_dotted(name: &DevName) -> bool
+    ensures { result ≡ is_some (vlan_parts name.now) }
 {
-    let mut copy = Names::new(alloc);
-    for id in 0..names.len() {
-        let told = Told {
-            device: names.device(id),
-            claims: names.claims(id),
-        };
-        copy.add(names.name(id), told)?;
-    }
-    Ok(copy)
+    vlan_parts(name).is_some()
 }
 
-/// The names with one more at the end, without a device and without claims.
-pub(crate) fn with_plain(alloc: Global, names: &Names, name: DevName) -> Result<Names, Memory>
-    requires once { AreDistinct (name_list names.now) }
-    requires other { place_among names.now name ≡ None }
-    ensures { IfOk result (λ more. more ≡ with_name names.now name) }
+/// What one more plain name may want is expected beside what the others may: that it is up, unless it is of the form X.N.
+pub(crate) fn expect_plain(
+    names: &CountedNames,
+    name: DevName,
+    objects: &mut DeviceObjects,
+) -> Result<(), Memory>
+    requires whole { IsWhole names.now }
+    requires other { place_among names.now.names name ≡ None }
+    requires wishes { HaveSame objects.old.wishes (map (wish_in names.now) (mays names.now)) }
+    ensures held { objects.new.held ≡ objects.old.held }
+    ensures ok { OnOk result (HaveSame objects.new.wishes
+        (map (wish_in (added names.now name)) (mays (added names.now name)))) }
+    ensures err { OnErr result (objects.new.wishes ≡ objects.old.wishes) }
 {
-    let mut more = copy_of(alloc, names)?;
-    let told = Told {
-        device: None,
-        claims: 0,
-    };
-    more.add(name, told)?;
-    Ok(more)
+    if is_dotted(&name) {
+        return Ok(());
+    }
+    let id = names.names().len();
+    objects.expect(Wish {
+        object: Object::Up { name },
+        first: id,
+        second: id,
+        wanted: false,
+    })
 }
 
 fn no_conf(alloc: Global) -> Conf

@@ -1,4 +1,4 @@
-ghost use Rattle.std.specs.Prelude.{◌≡◌, ◌≤◌, ◌<◌, ◌+◌, ◌*◌, List, [], map, length, Some, None, IfOk, IfErr, OnOk, OnErr};
+ghost use Rattle.std.specs.Prelude.{◌≡◌, ◌≤◌, ◌<◌, ◌+◌, ◌*◌, map, length, Some, None, IfOk, IfErr, OnOk, OnErr};
 ghost use Rattle.std.specs.Option.{option_map};
 ghost use Rattle.kern_model.specs.declared.object.Device.{Device};
 ghost use Rattle.kern_calls.specs.Calls as between;
@@ -15,9 +15,10 @@ ghost use Rattle.graph_wishes.specs.Wishes.{mays};
 ghost use Rattle.graph_tables.specs.Lists.{AreUsed, HaveSame};
 ghost use Rattle.graph_tables.specs.Whole.{IsWhole};
 ghost use Rattle.graph_tables.specs.Wished.{wish_in};
+ghost use Rattle.dev_graph.specs.Added.{added};
 ghost use Rattle.dev_graph.specs.Inside.{known_in};
 
-use crate::adding::{one_plain, with_plain};
+use crate::adding::{expect_plain, one_plain};
 use crate::judging::judge_uses;
 use crate::own::own_take;
 use graph_counts::CountedNames;
@@ -89,7 +90,7 @@ fn names_after(
     }
 }
 
-/// One more plain name, with the marks of use and with what it may want. Where memory lacks, all stays.
+/// One more plain name, with its mark of use and with what it may want. Where memory lacks, all stays.
 fn add_to(
     alloc: Global,
     names: &mut CountedNames,
@@ -101,32 +102,32 @@ fn add_to(
     requires whole { IsWhole names.old }
     requires other { state.place_among names.old.names name ≡ None }
     requires room { length names.old.names ≤ uses.old.room }
+    requires size { length used.old.items ≡ length names.old.names }
+    requires used { AreUsed names.old used.old.items }
+    requires wishes { HaveSame objects.old.wishes (map (wish_in names.old) (mays names.old)) }
     ensures room { length names.new.names ≤ uses.new.room }
     ensures uses { uses.new.ids ≡ uses.old.ids }
-    ensures ok { OnOk result (names.new ≡ record names.old {
-      names = after.with_name names.old.names name;
-    }) }
+    ensures ok { OnOk result (names.new ≡ added names.old name) }
     ensures id { IfOk result (λ id. id.0 ≡ length names.old.names) }
-    ensures size { OnOk result (length used.new.items ≡ length names.new.names) }
-    ensures used { OnOk result (AreUsed names.new used.new.items) }
-    ensures held { OnOk result (held_of objects.new ≡ held_of objects.old) }
-    ensures wishes { OnOk result (HaveSame objects.new.wishes
-        (map (wish_in names.new) (mays names.new))) }
     ensures err { OnErr result (names.new ≡ names.old) }
-    ensures kept { OnErr result ((objects.new ≡ objects.old) × (used.new.items ≡ used.old.items)) }
+    ensures size { length used.new.items ≡ length names.new.names }
+    ensures used { AreUsed names.new used.new.items }
+    ensures held { held_of objects.new ≡ held_of objects.old }
+    ensures wishes { HaveSame objects.new.wishes (map (wish_in names.new) (mays names.new)) }
 {
-    let more = with_plain(alloc, names.names(), name)?;
-    let rows = names.rows();
-    let vlans = names.vlans();
-    let mut wishes = table(alloc, &more, rows, vlans, names.radio(), objects)?;
-    let mut marks = Vec::new(alloc);
-    marks.resize(more.len(), false)?;
+    used.reserve(1)?;
     uses.add_room()?;
-    let id = names.add_plain(alloc, name)?;
-    judge(names, &mut marks, &mut wishes);
-    *objects = wishes;
-    *used = marks;
-    Ok(id)
+    expect_plain(names, name, objects)?;
+    match names.add_plain(alloc, name) {
+        Ok(id) => {
+            used.push_reserved(false);
+            Ok(id)
+        }
+        Err(error) => {
+            objects.forget_from(names.names().len());
+            Err(error)
+        }
+    }
 }
 
 impl Graph {

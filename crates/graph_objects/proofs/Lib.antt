@@ -18,3 +18,4 @@ pub mod JudgeLemmas
 pub mod SomeMarkedLemmas
 pub mod OrderLemmas
 pub mod ListedLemmas
+pub mod ForgetLemmas

@@ -1,9 +1,10 @@
 -- Slots that are written: one with another object held, or one after another from the first on.
-use Rattle.std.specs.Prelude.{ℕ, zero, suc, List, [], ◌∷◌, map, Bool, false, if◌then◌else◌, Option, Some, None}
+use Rattle.std.specs.Prelude.{ℕ, zero, suc, List, [], ◌∷◌, map, Bool, false, if◌then◌else◌, Option, Some, None, nat_lt}
 use Rattle.std.specs.Option.{option_map}
 use Rattle.kern_model.specs.declared.object.Object.{Object}
 use Rattle.kern_model.specs.ObjectOrder.{Objects}
 use Rattle.kern_model.specs.Standing.{stands_on}
+use Rattle.graph_objects.specs.declared.slot.Wish.{Wish}
 use Rattle.graph_objects.specs.declared.slot.Slot.{Slot}
 use Rattle.graph_objects.specs.Slots.{Entries}
 use Rattle.graph_objects.specs.Marks.{judged}
@@ -38,3 +39,11 @@ judged_slot used s = record s { wish = option_map (judged used) s.wish }
 -- the same, where one of some ids decides it
 abbrev pub judged_slot_by : List Bool → List ℕ → Slot → Slot
 judged_slot_by used ids s = record s { wish = option_map (judged_by used ids) s.wish }
+
+-- what a slot may want is kept where the first id that decides it is below a number
+abbrev pub wish_below : ℕ → Option Wish → Option Wish
+wish_below count None = None
+wish_below count (Some w) = if nat_lt w.first count then Some w else None
+
+abbrev pub slot_below : ℕ → Slot → Slot
+slot_below count s = record s { wish = wish_below count s.wish }

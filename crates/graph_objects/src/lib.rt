@@ -5,6 +5,7 @@ mod bits;
 mod changes;
 mod deciders;
 mod due;
+mod forgetting;
 mod form;
 mod growth;
 mod judging;

@@ -1,4 +1,4 @@
-ghost use Rattle.std.specs.Prelude.{◌≡◌, map, IfSome, IfNone, OnOk, OnErr, true, []};
+ghost use Rattle.std.specs.Prelude.{◌≡◌, map, filter, nat_lt, IfSome, IfNone, OnOk, OnErr, true, []};
 ghost use Rattle.std.specs.FinSet as set;
 ghost use Rattle.std.specs.List.{list_any};
 ghost use Rattle.kern_model.specs.AdmissionTest.{is_link_of};
@@ -18,7 +18,7 @@ use crate::order::{Order, drop_done, first_of, is_next, make_room, no_order, put
 use crate::slot::{Side, Slot, Wish};
 use crate::slots::has;
 use crate::turn::Turn;
-use crate::{changes, due, growth, judging, links};
+use crate::{changes, due, forgetting, growth, judging, links};
 use indexmap::IndexMap;
 use kern_model::{Call, DevName, Object};
 use plane_io::Memory;
@@ -76,6 +76,15 @@ impl DeviceObjects {
         self.order.is_kept = false;
         make_room(&mut self.order, self.slots.len() + 1)?;
         growth::expect(&mut self.slots, &mut self.marks, &mut self.by_id, wish)
+    }
+
+    /// What ids from a number on decide may not be wanted any more.
+    pub fn forget_from(&mut self, count: usize)
+        ensures held { self.new.held ≡ self.old.held }
+        ensures wishes { self.new.wishes ≡ filter (λ w. nat_lt w.first count) self.old.wishes }
+    {
+        self.order.is_kept = false;
+        forgetting::forget_from(&mut self.slots, &mut self.marks, count);
     }
 
     /// What others hold is held, where nothing is held yet.
