@@ -441,6 +441,13 @@ impl Graph {
         }
     }
 
+    /// The calls that come next are put in order, so that each is found at once. Nothing else is seen of it.
+    pub fn prepare(&mut self)
+        ensures { self.new ≡ self.old }
+    {
+        self.objects.prepare();
+    }
+
     /// The first of the calls that take, or none where nothing is to be taken.
     pub fn next_take(&self) -> Option<Call>
         ensures { result ≡ calls.next_take_in self.now }
