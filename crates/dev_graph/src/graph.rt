@@ -1,4 +1,4 @@
-ghost use Rattle.std.specs.Prelude.{◌≡◌, ◌≤◌, ◌<◌, ◌+◌, ◌*◌, map, length, Some, None, IfOk, IfErr, OnOk, OnErr};
+ghost use Rattle.std.specs.Prelude.{◌≡◌, ◌≤◌, ◌<◌, ◌+◌, ◌*◌, ◌^◌, map, length, Some, None, IfOk, IfErr, OnOk, OnErr};
 ghost use Rattle.std.specs.Option.{option_map};
 ghost use Rattle.kern_model.specs.declared.object.Device.{Device};
 ghost use Rattle.kern_calls.specs.Calls as between;
@@ -484,7 +484,8 @@ impl Graph {
 
     /// How many objects are in one of what is held and what is wanted, and not in the other.
     pub fn due(&self) -> u64
-        ensures { result ≡ calls.due_in self.now }
+        ensures due { result ≡ calls.due_in self.now }
+        ensures few { result ≤ 2 ^ 62 }
     {
         self.objects.due()
     }

@@ -1,5 +1,5 @@
 -- What is due in the order of its calls, the first at the end.
-use Rattle.std.specs.Prelude.{ℕ, ◌≡◌, ◌<◌, ◌≤◌, List, length, Contains, slice_get, Some, vec_capacity, true}
+use Rattle.std.specs.Prelude.{ℕ, ◌≡◌, ◌<◌, ◌≤◌, ◌^◌, List, length, Contains, slice_get, Some, vec_capacity, true}
 use Rattle.std.specs.declared.cmp.Ordering.TheVariants.{Less}
 use Rattle.kern_model.specs.declared.object.Object.{Object}
 use Rattle.graph_objects.specs.declared.slot.Side.TheVariants.{Held, Wanted}
@@ -32,8 +32,9 @@ pub record ListsDue (turn : Turn) (es : Entries) (ps : List Placed) : Type 0 whe
       → (p : Placed) × Contains ps p × (p.object ≡ o)
   pub down : ComeDown ps
 
--- there is room for so many calls of each turn
+-- there is room for so many calls of each turn, and so many are few
 pub record HasRoom (order : Order) (count : ℕ) : Type 0 where
+  pub few : count ≤ 2 ^ 61
   pub takes : count ≤ vec_capacity order.takes
   pub puts : count ≤ vec_capacity order.puts
 

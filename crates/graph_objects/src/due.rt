@@ -1,5 +1,5 @@
 //! Which objects are taken and put, what stands on a name, and how much is due.
-ghost use Rattle.std.specs.Prelude.{◌≡◌};
+ghost use Rattle.std.specs.Prelude.{◌≡◌, ◌≤◌, ◌*◌, length};
 ghost use Rattle.kern_model.specs.ObjectOrder.{Has};
 ghost use Rattle.kern_model.specs.Standing as standing;
 ghost use Rattle.kern_model.specs.Touched as touched;
@@ -133,8 +133,9 @@ pub(crate) fn alone(slot: &Slot) -> u64
 pub(crate) fn count(slots: &IndexMap<ObjectKey, Slot>, marks: &Bits) -> u64
     requires slots { AreSlots slots.now.entries }
     requires marked { AreMarked marks.now slots.now.entries }
-    ensures { result ≡ due_count (set_on Side.Held slots.now.entries)
+    ensures due { result ≡ due_count (set_on Side.Held slots.now.entries)
         (set_on Side.Wanted slots.now.entries) }
+    ensures few { result ≤ 2 * length slots.now.entries }
 {
     let end = slots.len();
     let mut count = 0;

@@ -1,4 +1,4 @@
-ghost use Rattle.std.specs.Prelude.{◌≡◌, map, filter, nat_lt, IfSome, IfNone, OnOk, OnErr, true, []};
+ghost use Rattle.std.specs.Prelude.{◌≡◌, ◌≤◌, ◌^◌, map, filter, nat_lt, IfSome, IfNone, OnOk, OnErr, true, []};
 ghost use Rattle.std.specs.FinSet as set;
 ghost use Rattle.std.specs.List.{list_any};
 ghost use Rattle.kern_model.specs.AdmissionTest.{is_link_of};
@@ -171,7 +171,8 @@ impl DeviceObjects {
 
     /// How many objects are held and not wanted, or wanted and not held.
     pub fn due(&self) -> u64
-        ensures { result ≡ due_count (held_of self.now) (wanted_of self.now) }
+        ensures due { result ≡ due_count (held_of self.now) (wanted_of self.now) }
+        ensures few { result ≤ 2 ^ 62 }
     {
         due::count(&self.slots, &self.marks)
     }

@@ -37,13 +37,19 @@ pub(crate) fn no_order(alloc: Global) -> Order
     }
 }
 
-/// Makes room for so many calls of each turn.
+/// There are no more slots than this, so that what is due can be counted.
+const MOST_SLOTS: usize = 1 << 61;
+
+/// Makes room for so many calls of each turn. More than `MOST_SLOTS` want memory.
 pub(crate) fn make_room(order: &mut Order, count: usize) -> Result<(), Memory>
     ensures kept { order.new.is_kept ≡ order.old.is_kept }
     ensures ok { OnOk result (spec.HasRoom order.new count) }
     ensures takes { vec_capacity order.old.takes ≤ vec_capacity order.new.takes }
     ensures puts { vec_capacity order.old.puts ≤ vec_capacity order.new.puts }
 {
+    if count > MOST_SLOTS {
+        return Err(Memory);
+    }
     order.takes.reserve(count)?;
     order.puts.reserve(count)?;
     Ok(())

@@ -50,15 +50,23 @@ impl GraphSettling {
         }
     }
 
+    /// The calls that come next are put in order, so that each is found at once. Nothing else is seen of it.
+    pub(crate) fn prepare(&mut self)
+        ensures { self.new ≡ self.old }
+    {
+        self.graph.prepare();
+    }
+
     /// How many objects are in one of what is held and what is wanted, and not in the other.
-    pub fn due(&self) -> u128
+    pub fn due(&self) -> u64
         requires { IsReady self.now }
         ensures { result ≡ due_count (held_of self.now) (wanted_of self.now) }
     {
         are_gifts(&self.gifts);
+        let _gifts = self.gifts.len();
         let below = self.graph.due();
         let above = self.gifts.due();
-        u128::from(below) + u128::from(above)
+        below + above
     }
 }
 

@@ -38,6 +38,7 @@ impl GraphSettling {
         ensures later { (K.faults kernel.old ≤ K.faults kernel.new)
             × (O.faults out.old ≤ O.faults out.new) }
     {
+        self.prepare();
         while let Some(call) = self.next_call() {
             let Ok(()) = kernel.apply(&call) else {
                 return Err(SettleError::KernelFailed);

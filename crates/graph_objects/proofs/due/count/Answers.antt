@@ -35,8 +35,11 @@ loop-index-preserved c =
 pub loop-index-smaller : goal.loop-index-smaller
 loop-index-smaller c = omega (arith, c.in-Some.ensures.some.from, c.in-Some.ensures.some.within, c.len-end.ensures.len)
 
-pub returns : goal.returns
-returns c =
+pub returns-clause-few : goal.returns-clause-few
+returns-clause-few c = omega (arith, counted_few c.args.slots.now.entries c.loop-index.start, c.loop-index.invariant.count, c.loop-index.invariant.within)
+
+pub returns-clause-due : goal.returns-clause-due
+returns-clause-due c =
     let es = c.args.slots.now.entries in
     let none = c.in_default.ensures.none in
     let skipped = count_skipped es c.loop-index.start (length es) c.loop-index.invariant.within (λ k e above below at. alone_unmarked c.args.marks.now es c.requires.marked k e at (none k above (omega (arith, below, c.len-end.ensures.len)))) in

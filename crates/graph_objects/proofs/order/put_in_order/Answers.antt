@@ -3,6 +3,7 @@ use Rattle.graph_objects.proofs.order.put_in_order.Goals as goal
 
 pub returns-clause-room : goal.returns-clause-room
 returns-clause-room c = record {
+  few = c.requires.room.few;
   takes = omega (arith, c.requires.room.takes, c.list_due.ensures.capacity);
   puts = omega (arith, c.requires.room.puts, c.list_due-2.ensures.capacity);
 }

@@ -17,7 +17,7 @@ pub returns-clause-err : goal.returns-clause-err
 returns-clause-err c = subst (λ (m : Marks). OnErr c.expect.result (wishes c.expect.new.slots.entries ≡ m.wishes)) c.self.view_is c.expect.ensures.err
 
 pub invariant_of-self-2 : goal.invariant_of-self-2
-invariant_of-self-2 c = record { slots = c.expect.ensures.slots; marked = c.expect.ensures.marked; listed = c.expect.ensures.listed; order = record { takes = λ kept. absurd (cc (kept, c.in_ok-make_room.ensures.kept)); puts = λ kept. absurd (cc (kept, c.in_ok-make_room.ensures.kept)) }; room = record { takes = omega (arith, c.in_ok-make_room.ensures.ok.takes, c.expect.ensures.few, c.len.ensures.len); puts = omega (arith, c.in_ok-make_room.ensures.ok.puts, c.expect.ensures.few, c.len.ensures.len) } }
+invariant_of-self-2 c = record { slots = c.expect.ensures.slots; marked = c.expect.ensures.marked; listed = c.expect.ensures.listed; order = record { takes = λ kept. absurd (cc (kept, c.in_ok-make_room.ensures.kept)); puts = λ kept. absurd (cc (kept, c.in_ok-make_room.ensures.kept)) }; room = record { few = omega (arith, c.in_ok-make_room.ensures.ok.few, c.expect.ensures.few, c.len.ensures.len); takes = omega (arith, c.in_ok-make_room.ensures.ok.takes, c.expect.ensures.few, c.len.ensures.len); puts = omega (arith, c.in_ok-make_room.ensures.ok.puts, c.expect.ensures.few, c.len.ensures.len) } }
 
 pub invariant_of-self : goal.invariant_of-self
 invariant_of-self c = record {
@@ -26,6 +26,7 @@ invariant_of-self c = record {
   listed = c.self.invariant.listed;
   order = record { takes = λ kept. absurd (cc (kept, c.in_err-make_room.ensures.kept)); puts = λ kept. absurd (cc (kept, c.in_err-make_room.ensures.kept)) };
   room = record {
+    few = c.self.invariant.room.few;
     takes = omega (arith, c.self.invariant.room.takes, c.in_err-make_room.ensures.takes);
     puts = omega (arith, c.self.invariant.room.puts, c.in_err-make_room.ensures.puts);
   };

@@ -24,6 +24,7 @@ invariant_of-self c =
       listed = still_listed c.self.inside.by_id.items (deciders es) (deciders now) (subst (λ (xs : Entries). HasNoNewWish (deciders es) (deciders xs)) (sym c.forget_from.ensures.slots) (no_new_below count es)) c.self.invariant.listed;
       order = record { takes = λ kept. absurd (cc kept); puts = λ kept. absurd (cc kept) };
       room = record {
+        few = omega (arith, c.self.invariant.room.few, size);
         takes = omega (arith, c.self.invariant.room.takes, size);
         puts = omega (arith, c.self.invariant.room.puts, size);
       };

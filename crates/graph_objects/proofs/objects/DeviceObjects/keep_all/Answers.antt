@@ -23,6 +23,7 @@ invariant_of-self-2 c = record {
   listed = still_listed c.self.inside.by_id.items (deciders c.self.inside.slots.entries) (deciders c.keep_all.new.slots.entries) c.keep_all.ensures.stay c.self.invariant.listed;
   order = record { takes = λ kept. absurd (cc (kept, c.in_ok-make_room.ensures.kept)); puts = λ kept. absurd (cc (kept, c.in_ok-make_room.ensures.kept)) };
   room = record {
+    few = omega (arith, c.in_ok-make_room.ensures.ok.few, c.keep_all.ensures.few, c.len.ensures.len, c.len-2.ensures.len);
     takes = omega (arith, c.in_ok-make_room.ensures.ok.takes, c.keep_all.ensures.few, c.len.ensures.len, c.len-2.ensures.len);
     puts = omega (arith, c.in_ok-make_room.ensures.ok.puts, c.keep_all.ensures.few, c.len.ensures.len, c.len-2.ensures.len);
   };
@@ -35,6 +36,7 @@ invariant_of-self c = record {
   listed = c.self.invariant.listed;
   order = record { takes = λ kept. absurd (cc (kept, c.in_err-make_room.ensures.kept)); puts = λ kept. absurd (cc (kept, c.in_err-make_room.ensures.kept)) };
   room = record {
+    few = c.self.invariant.room.few;
     takes = omega (arith, c.self.invariant.room.takes, c.in_err-make_room.ensures.takes);
     puts = omega (arith, c.self.invariant.room.puts, c.in_err-make_room.ensures.puts);
   };

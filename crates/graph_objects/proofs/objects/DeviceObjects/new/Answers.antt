@@ -13,5 +13,5 @@ invariant_of-result c = record {
   marked = subst (λ (es : Entries). AreMarked c.new-2.result es) (sym c.new.ensures.empty) (none_marked c.new-2.result);
   listed = subst (λ (es : Entries). AreListed c.new-3.result.items (deciders es)) (sym c.new.ensures.empty) (none_listed c.new-3.result.items c.new-3.ensures.items);
   order = record { takes = λ kept. absurd (cc (kept, c.no_order.ensures)); puts = λ kept. absurd (cc (kept, c.no_order.ensures)) };
-  room = record { takes = omega (arith, ap length c.new.ensures.empty); puts = omega (arith, ap length c.new.ensures.empty) };
+  room = record { few = omega (arith, ap length c.new.ensures.empty); takes = omega (arith, ap length c.new.ensures.empty); puts = omega (arith, ap length c.new.ensures.empty) };
 }

@@ -40,5 +40,5 @@ invariant_of-self c =
         takes = λ kept. no_takes_left es now wanted size c.args.object.now c.put.ensures.held c.put.ensures.steady is done c.self.inside.order.takes.items (c.self.invariant.order.takes kept);
         puts = λ kept. c.drop_done.ensures.listed (puts_left es now wanted size c.args.object.now c.put.ensures.held c.put.ensures.steady is done c.self.inside.order.puts.items (c.self.invariant.order.puts kept));
       };
-      room = record { takes = omega (arith, c.self.invariant.room.takes, size); puts = omega (arith, c.self.invariant.room.puts, size, c.drop_done.ensures.capacity) };
+      room = record { few = omega (arith, c.self.invariant.room.few, size); takes = omega (arith, c.self.invariant.room.takes, size); puts = omega (arith, c.self.invariant.room.puts, size, c.drop_done.ensures.capacity) };
     }

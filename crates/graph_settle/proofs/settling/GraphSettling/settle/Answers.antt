@@ -1,22 +1,25 @@
-use Rattle.std.proofs.Common.{arith, drop, sym, refl, subst, ◌∙◌}
+use Rattle.std.proofs.Common.{arith, ◌≡◌, drop, sym, refl, ap, subst, ◌∙◌}
 use Rattle.net_settle.specs.Outside.{outside_of}
 use Rattle.net_settle.specs.Settle.{SettledAlone, StopsAtCall}
 use Rattle.net_settle.proofs.SettleLemmas.{nothing_settled, settled_more, stops_at_line, stops_at_call}
-use Rattle.graph_settle.specs.Course.{calls_of}
+use Rattle.graph_settle.specs.Course.{Course, calls_of, IsReady, IsAlike, HoldsAs}
 use Rattle.graph_settle.proofs.MadeLemmas.{first_and_rest, is_admitted}
 use Rattle.graph_settle.proofs.EndLemmas.{none_left, is_reached, ready_at_end, admits, alike_itself, alike_on, holds_then}
 use Rattle.graph_settle.proofs.settling.GraphSettling.settle.Goals as goal
 
 pub loop-call-init : goal.loop-call-init
-loop-call-init g c = record {
-  settled = nothing_settled (calls_of c.args.self.now) (outside_of g.O.Sink g.K.Kernel c.args.out.now c.args.kernel.now);
-  ready = c.requires.ready;
-  of = c.requires.of;
-  stays = alike_itself c.args.self.now;
-  may_fall = refl;
-  kernel_later = omega arith;
-  out_later = omega arith;
-}
+loop-call-init g c =
+    let same : c.args.self.now ≡ c.prepare.new.self = sym c.prepare.ensures in
+    let first = outside_of g.O.Sink g.K.Kernel c.args.out.now c.args.kernel.now in
+    record {
+      settled = subst (λ (s : Course). SettledAlone (calls_of c.args.self.now) (calls_of s) first first) same (nothing_settled (calls_of c.args.self.now) first);
+      ready = subst IsReady same c.requires.ready;
+      of = subst (HoldsAs g.K.Kernel c.args.kernel.now) same c.requires.of;
+      stays = subst (IsAlike c.args.self.now) same (alike_itself c.args.self.now);
+      may_fall = ap (λ (s : Course). s.may_fall) c.prepare.ensures;
+      kernel_later = omega arith;
+      out_later = omega arith;
+    }
 
 pub apply-requires : goal.apply-requires
 apply-requires g c =
