@@ -38,6 +38,16 @@ impl PlaceSet {
         Ok(PlaceSet { list, marks })
     }
 
+    /// No places, without room for any. It takes no memory.
+    pub fn empty(alloc: Global) -> PlaceSet
+        ensures { result ≡ record { bound = 0; list = [] } }
+    {
+        PlaceSet {
+            list: Vec::new(alloc),
+            marks: Vec::new(alloc),
+        }
+    }
+
     /// The places.
     pub fn places(&self) -> &[usize]
         ensures places { result.now ≡ self.now.list }

@@ -1,5 +1,6 @@
 ghost use Rattle.std.specs.Prelude.{◌≡◌, IfOk};
 ghost use Rattle.net_rules.specs.declared.inputs.Inputs.{Inputs};
+ghost use Rattle.net_rules.specs.Inputs.{no_inputs};
 ghost use Rattle.net_reach.specs.Reach.{IsReachOf, AreTouched};
 
 use crate::above::{row_names, rows_above};
@@ -32,6 +33,16 @@ impl Visit {
         let touched = PlaceSet::new(alloc, interface_count)?;
         Ok(Visit { rows, touched })
     }
+
+    fn new(alloc: Global) -> Visit
+        ensures rows { result.rows.bound ≡ 0 }
+        ensures interfaces { result.touched.bound ≡ 0 }
+    {
+        Visit {
+            rows: PlaceSet::empty(alloc),
+            touched: PlaceSet::empty(alloc),
+        }
+    }
 }
 
 /// What reaches what, by name. Of several with one name the first has the place.
@@ -56,6 +67,24 @@ pub struct Reach {
 }
 
 impl Reach {
+    /// What reaches what where there are no inputs. It takes no memory.
+    pub fn new(alloc: Global) -> Reach
+        ensures { IsReachOf no_inputs result }
+    {
+        Reach {
+            interfaces: BTreeMap::new(alloc),
+            radios: BTreeMap::new(alloc),
+            devices: BTreeMap::new(alloc),
+            rows: BTreeMap::new(alloc),
+            names: Vec::new(alloc),
+            above: BTreeMap::new(alloc),
+            at_device: BTreeMap::new(alloc),
+            at_layer: BTreeMap::new(alloc),
+            routes: BTreeMap::new(alloc),
+            visit: Visit::new(alloc),
+        }
+    }
+
     /// What reaches what by inputs.
     ///
     /// # Errors
