@@ -27,7 +27,7 @@ pub no_gifts : AreGifts []
 no_gifts = record { once = tt; upper = λ g member. absurd (none_in_nil g member); fit = λ g member. absurd (none_in_nil g member) }
 
 -- an object without a gift
-no_gift : (gs : Gifts) (o : Object) → has_place gs o ≡ false → (g : Gift) → Contains gs g → g.object ≡ o → ⊥
+pub no_gift : (gs : Gifts) (o : Object) → has_place gs o ≡ false → (g : Gift) → Contains gs g → g.object ≡ o → ⊥
 no_gift [] o none g member is = none_in_nil g member
 no_gift (x ∷ xs) o none g member is = by (λ rest later. no_gift xs o rest g later is) (is_of o x) refl none
   where

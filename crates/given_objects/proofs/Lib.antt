@@ -8,3 +8,4 @@ pub mod PlaceLemmas
 pub mod CallLemmas
 pub mod DueLemmas
 pub mod KeptLemmas
+pub mod OrderedLemmas

@@ -67,7 +67,7 @@ written change k c w made (e ∷ es) (suc i) once at =
     ∙ sym (ap (λ b. (if b then change (gift_in e) else gift_in e) ∷ changed change (listed es) k.0) off)
 
 -- what is looked up is the gift of the object
-looked : (k : GiftKey) (es : Entries) → is_some (lookup (key_eq k) es) ≡ has_place (listed es) k.0
+pub looked : (k : GiftKey) (es : Entries) → is_some (lookup (key_eq k) es) ≡ has_place (listed es) k.0
 looked k [] = refl
 looked k (e ∷ es) = by (looked k es) (key_eq k e.0)
   where

@@ -1,10 +1,11 @@
 -- How gifts are kept: a table from objects to what is told of each.
-use Rattle.std.specs.Prelude.{List, map}
+use Rattle.std.specs.Prelude.{List, map, length}
 use Rattle.given_objects.specs.declared.key.GiftKey.{GiftKey}
 use Rattle.given_objects.specs.declared.gift.Gift.{Gift}
 use Rattle.given_objects.specs.declared.gift.Counts.{Counts}
 use Rattle.given_objects.specs.declared.given.GivenObjects.TheInside.{Inside}
 use Rattle.given_objects.specs.Gifts.{Gifts, AreGifts}
+use Rattle.given_objects.specs.Ordered.{IsOrder, HasRoom}
 
 abbrev pub Entries : Type 0
 Entries = List (GiftKey × Counts)
@@ -19,6 +20,8 @@ listed es = map gift_in es
 abbrev pub gifts_in : Inside → Gifts
 gifts_in given = listed given.table.entries
 
--- what is kept are gifts
-abbrev pub IsKept : Inside → Type 0
-IsKept given = AreGifts (gifts_in given)
+-- what is kept are gifts; the order, where it is kept, has what comes of them, and there is room in it for all of them
+pub record IsKept (given : Inside) : Type 0 where
+  pub gifts : AreGifts (gifts_in given)
+  pub order : IsOrder given.order (gifts_in given)
+  pub room : HasRoom given.order (length given.table.entries)

@@ -10,6 +10,8 @@ pub mod First
 pub mod Due
 -- which of two calls of gifts comes sooner, as the program goes over them
 pub mod Turns
+-- what comes of gifts, in the order of its calls
+pub mod Ordered
 -- keys of gifts
 pub mod Keys
 -- how gifts are kept

@@ -21,7 +21,8 @@ pub(crate) enum Turn {
     Puts,
 }
 
-fn is_due(turn: Turn, gift: &Gift) -> bool
+/// Whether a turn calls for a gift.
+pub(crate) fn is_due(turn: Turn, gift: &Gift) -> bool
     ensures { result ≡ spec.is_due turn gift.now }
 {
     match turn {
@@ -31,7 +32,7 @@ fn is_due(turn: Turn, gift: &Gift) -> bool
 }
 
 /// The call of an object, a take with own values of zero.
-fn call_of(turn: Turn, object: &Object) -> Call
+pub(crate) fn call_of(turn: Turn, object: &Object) -> Call
     ensures { result ≡ spec.call_of turn object.now }
 {
     match turn {

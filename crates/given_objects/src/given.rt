@@ -7,10 +7,11 @@ ghost use Rattle.given_objects.specs.Gifts.{has_place, givers_of, held_of, given
 ghost use Rattle.given_objects.specs.Changes.{with_place, given_once_more, given_once_less, noted, with_falls, is_live, with_live, kept_for};
 ghost use Rattle.given_objects.specs.First.{is_take_due, is_put_due, plain_take, IsFirstGift, NoneDue};
 
-use crate::first::{Turn, first};
+use crate::first::{Turn, first, is_due};
 use crate::form::has_form;
 use crate::gift::{Counts, Gift};
 use crate::key::GiftKey;
+use crate::order::{Order, gift_at, go_on, last_due, make_room, no_order, put_in_order, turn_of};
 use indexmap::IndexMap;
 use kern_model::{LinkKind, Object};
 use plane_io::Memory;
@@ -22,6 +23,8 @@ use std::marker::Model;
 #[derive(Drop)]
 pub struct GivenObjects {
     table: IndexMap<GiftKey, Counts>,
+    /// What is to be taken and put, in the order of its calls, while that is kept.
+    order: Order,
 }
 
 impl Model for GivenObjects {
@@ -43,6 +46,7 @@ impl GivenObjects {
     {
         GivenObjects {
             table: IndexMap::new(alloc),
+            order: no_order(alloc),
         }
     }
 
@@ -63,6 +67,8 @@ impl GivenObjects {
         if self.table.contains_key(&key) {
             return Ok(());
         }
+        self.order.is_kept = false;
+        make_room(&mut self.order, self.table.len() + 1)?;
         let counts = Counts {
             givers: 0,
             held: false,
@@ -81,6 +87,7 @@ impl GivenObjects {
         let Some(place) = self.table.get_index_of(&GiftKey(*object)) else {
             return;
         };
+        self.order.is_kept = false;
         self.table[place].givers += 1;
     }
 
@@ -92,10 +99,11 @@ impl GivenObjects {
         let Some(place) = self.table.get_index_of(&GiftKey(*object)) else {
             return;
         };
+        self.order.is_kept = false;
         self.table[place].givers -= 1;
     }
 
-    /// It was put and is held, or was taken and is not. Then its name does not fall.
+    /// It was put and is held, or was taken and is not. Then its name does not fall. Where that was due, what is left stays in order.
     pub fn note(&mut self, object: &Object, held: bool)
         requires { has_place self.old object.now ≡ true }
         ensures { self.new ≡ noted self.old object.now held }
@@ -103,12 +111,16 @@ impl GivenObjects {
         let Some(place) = self.table.get_index_of(&GiftKey(*object)) else {
             return;
         };
+        let turn = turn_of(held);
+        let was_due = is_due(turn, &gift_at(&self.table, place));
         let givers = self.table[place].givers;
         self.table[place] = Counts {
             givers,
             held,
             falls: false,
         };
+        self.order.is_kept &= was_due;
+        go_on(&self.table, turn, &mut self.order);
     }
 
     /// Whether the name of the gift at a place falls.
@@ -116,6 +128,7 @@ impl GivenObjects {
         requires { place < length self.old }
         ensures { self.new ≡ with_falls self.old place falls }
     {
+        self.order.is_kept = false;
         self.table[place].falls = falls;
     }
 
@@ -133,13 +146,15 @@ impl GivenObjects {
         requires { place < length self.now }
         ensures { slice_get self.now place ≡ Some result }
     {
-        let (key, counts) = self.table.get_index(place).unwrap();
-        Gift {
-            object: key.0,
-            givers: counts.givers,
-            held: counts.held,
-            falls: counts.falls,
-        }
+        gift_at(&self.table, place)
+    }
+
+    /// What is to be taken and put is put in order, so that the first is found at once. Nothing else is seen of it, and it takes no
+    /// memory.
+    pub fn prepare(&mut self)
+        ensures { self.new ≡ self.old }
+    {
+        put_in_order(&self.table, &mut self.order);
     }
 
     /// The address or route that is taken first.
@@ -147,6 +162,9 @@ impl GivenObjects {
         ensures some { IfSome result (IsFirstGift is_take_due plain_take self.now) }
         ensures none { IfNone result (NoneDue is_take_due self.now) }
     {
+        if self.order.is_kept {
+            return last_due(&self.table, Turn::Takes, &self.order.takes);
+        }
         first(self, Turn::Takes)
     }
 
@@ -155,6 +173,9 @@ impl GivenObjects {
         ensures some { IfSome result (IsFirstGift is_put_due Put self.now) }
         ensures none { IfNone result (NoneDue is_put_due self.now) }
     {
+        if self.order.is_kept {
+            return last_due(&self.table, Turn::Puts, &self.order.puts);
+        }
         first(self, Turn::Puts)
     }
 
@@ -208,6 +229,8 @@ impl GivenObjects {
             return Ok(());
         }
         has_form(&gift.object);
+        self.order.is_kept = false;
+        make_room(&mut self.order, self.table.len() + 1)?;
         let counts = Counts {
             givers: gift.givers,
             held: gift.held,

@@ -8,6 +8,8 @@ mod gift;
 mod given;
 mod key;
 mod laws;
+mod line;
+mod order;
 
 pub use gift::Gift;
 pub use given::GivenObjects;

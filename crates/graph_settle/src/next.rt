@@ -55,6 +55,7 @@ impl GraphSettling {
         ensures { self.new ≡ self.old }
     {
         self.graph.prepare();
+        self.gifts.prepare();
     }
 
     /// How many objects are in one of what is held and what is wanted, and not in the other.

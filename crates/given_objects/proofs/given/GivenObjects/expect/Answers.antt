@@ -1,10 +1,11 @@
-use Rattle.std.proofs.Common.{◌≡◌, false, ap, sym, subst, ◌∙◌}
+use Rattle.std.proofs.Common.{arith, ◌≡◌, false, ap, sym, subst, ◌∙◌}
 use Rattle.given_objects.specs.Gifts.{AreGifts, has_place}
 use Rattle.given_objects.specs.Changes.{with_place, empty_gift}
 use Rattle.given_objects.specs.Inside.{listed}
 use Rattle.given_objects.specs.declared.gift.Counts.{Counts}
 use Rattle.given_objects.proofs.TableLemmas.{key_of, has_looked, added, place_there, place_new}
 use Rattle.given_objects.proofs.KeepLemmas.{more_gifts}
+use Rattle.given_objects.proofs.OrderedLemmas.{one_more}
 use Rattle.given_objects.proofs.given.GivenObjects.expect.Goals as goal
 
 pub returns-then-contains_key-clause-ok : goal.returns-then-contains_key-clause-ok
@@ -19,8 +20,13 @@ invariant_of-self-2 c =
     let es = c.self.inside.table.entries in
     let off : has_place (listed es) o ≡ false = sym (has_looked (key_of o) es c.contains_key.result c.contains_key.ensures) ∙ c.if-contains_key.false in
     let counts : Counts = record { givers = 0; held = false; falls = false } in
-    subst AreGifts (sym (ap listed c.in_ok-_none.ensures.entries ∙ added (key_of o) counts es off))
-    (more_gifts (listed es) (empty_gift o) off c.requires (c.has_form.ensures c.requires) c.self.invariant)
+    let is = ap listed c.in_ok-_none.ensures.entries ∙ added (key_of o) counts es off in
+    let size = one_more es c.insert.new.self.entries (empty_gift o) is in
+    record {
+      gifts = subst AreGifts (sym is) (more_gifts (listed es) (empty_gift o) off c.requires (c.has_form.ensures c.requires) c.self.invariant.gifts);
+      order = record { takes = λ kept. absurd (cc (kept, c.in_ok-make_room.ensures.kept)); puts = λ kept. absurd (cc (kept, c.in_ok-make_room.ensures.kept)) };
+      room = record { takes = omega (arith, size, c.in_ok-make_room.ensures.ok.takes, c.len.ensures.len); puts = omega (arith, size, c.in_ok-make_room.ensures.ok.puts, c.len.ensures.len) };
+    }
 
 pub returns-clause-ok : goal.returns-clause-ok
 returns-clause-ok c =

@@ -1,11 +1,15 @@
-use Rattle.std.proofs.Common.{false, ap, refl, sym, subst, ◌∙◌}
+use Rattle.std.proofs.Common.{arith, ◌≡◌, true, false, ap, refl, sym, subst, ◌∙◌}
 use Rattle.given_objects.specs.declared.gift.Gift.{Gift}
 use Rattle.given_objects.specs.declared.gift.Counts.{Counts}
-use Rattle.given_objects.specs.Gifts.{AreGifts}
+use Rattle.indexmap.specs.IndexMap.{set_value_at}
+use Rattle.given_objects.specs.declared.first.Turn.TheVariants.{Takes, Puts}
+use Rattle.given_objects.specs.Gifts.{Gifts, AreGifts}
 use Rattle.given_objects.specs.Changes.{noted}
+use Rattle.given_objects.specs.Turns.{is_due}
 use Rattle.given_objects.specs.Inside.{listed}
 use Rattle.given_objects.proofs.TableLemmas.{key_of, entry_at, written, not_lacking}
 use Rattle.given_objects.proofs.KeepLemmas.{note_gifts}
+use Rattle.given_objects.proofs.OrderedLemmas.{as_many_still, due_there, lists_go_on, and_left, and_right}
 use Rattle.given_objects.proofs.given.GivenObjects.note.Goals as goal
 
 pub returns : goal.returns
@@ -16,13 +20,37 @@ returns c =
     (entry_at (key_of c.args.object.now) es c.in-Some.place counts (sym c.in-Some.ensures.index) c.index.ensures)
     ∙ ap (λ gs. noted gs c.args.object.now c.args.held) c.self.view_is
 
+pub go_on-requires : goal.go_on-requires
+go_on-requires c =
+    let es = c.self.inside.table.entries in
+    let o = c.args.object.now in
+    let held = c.args.held in
+    let counts : Counts = c.index.result.now in
+    let is = written (λ (g : Gift). record g { held = held; falls = false }) (key_of o) counts (record counts { held = held; falls = false }) refl es c.in-Some.place c.get_index_of.ensures.unique
+    (entry_at (key_of o) es c.in-Some.place counts (sym c.in-Some.ensures.index) c.index.ensures) in
+    subst AreGifts (sym is) (note_gifts (listed es) o held c.self.invariant.gifts)
+
 pub invariant_of-self : goal.invariant_of-self
 invariant_of-self c =
     let es = c.self.inside.table.entries in
+    let gs : Gifts = listed es in
+    let o = c.args.object.now in
+    let held = c.args.held in
     let counts : Counts = c.index.result.now in
-    subst AreGifts (sym (written (λ (g : Gift). record g { held = c.args.held; falls = false }) (key_of c.args.object.now) counts (record counts { held = c.args.held; falls = false }) refl es c.in-Some.place c.get_index_of.ensures.unique
-    (entry_at (key_of c.args.object.now) es c.in-Some.place counts (sym c.in-Some.ensures.index) c.index.ensures)))
-    (note_gifts (listed es) c.args.object.now c.args.held c.self.invariant)
+    let w : Counts = record counts { held = held; falls = false } in
+    let is = written (λ (g : Gift). record g { held = held; falls = false }) (key_of o) counts w refl es c.in-Some.place c.get_index_of.ensures.unique
+    (entry_at (key_of o) es c.in-Some.place counts (sym c.in-Some.ensures.index) c.index.ensures) in
+    let size = as_many_still es (set_value_at es c.in-Some.place w) (λ (g : Gift). record g { held = held; falls = false }) o is in
+    let was_due = λ (on : c.is_due-was_due.result ≡ true). due_there gs c.self.invariant.gifts (key_of o) es refl held c.in-Some.place c.gift_at.result (sym c.in-Some.ensures.index) c.gift_at.ensures
+    (ap (λ turn. is_due turn c.gift_at.result) (sym c.turn_of-turn.ensures) ∙ sym c.is_due-was_due.ensures ∙ on) in
+    record {
+      gifts = subst AreGifts (sym is) (note_gifts gs o held c.self.invariant.gifts);
+      order = c.go_on.ensures.order (record {
+        takes = λ kept. lists_go_on Takes gs (listed (set_value_at es c.in-Some.place w)) o held is (was_due (and_right _ _ kept)) c.self.inside.order.takes.items (c.self.invariant.order.takes (and_left _ _ kept));
+        puts = λ kept. lists_go_on Puts gs (listed (set_value_at es c.in-Some.place w)) o held is (was_due (and_right _ _ kept)) c.self.inside.order.puts.items (c.self.invariant.order.puts (and_left _ _ kept));
+      });
+      room = record { takes = omega (arith, size, c.self.invariant.room.takes, c.go_on.ensures.takes); puts = omega (arith, size, c.self.invariant.room.puts, c.go_on.ensures.puts) };
+    }
 
 pub returns-in_default : goal.returns-in_default
 returns-in_default c = absurd (not_lacking (key_of c.args.object.now) c.self.inside.table.entries _ c.self.view_is c.in_default.ensures.found c.requires)

@@ -4,8 +4,10 @@ use Rattle.given_objects.specs.declared.gift.Counts.{Counts}
 use Rattle.given_objects.specs.Gifts.{AreGifts, givers_of}
 use Rattle.given_objects.specs.Changes.{given_once_less}
 use Rattle.given_objects.specs.Inside.{listed}
+use Rattle.indexmap.specs.IndexMap.{set_value_at}
 use Rattle.given_objects.proofs.TableLemmas.{key_of, entry_at, written, givers_at, not_given}
 use Rattle.given_objects.proofs.KeepLemmas.{withdraw_gifts}
+use Rattle.given_objects.proofs.OrderedLemmas.{as_many_still}
 use Rattle.given_objects.proofs.given.GivenObjects.withdraw.Goals as goal
 
 pub returns : goal.returns
@@ -19,10 +21,17 @@ returns c =
 pub invariant_of-self : goal.invariant_of-self
 invariant_of-self c =
     let es = c.self.inside.table.entries in
+    let o = c.args.object.now in
     let counts : Counts = c.index_mut.result.now in
-    subst AreGifts (sym (written (λ (g : Gift). record g { givers = g.givers - 1 }) (key_of c.args.object.now) counts (record counts { givers = counts.givers - 1 }) refl es c.in-Some.place c.get_index_of.ensures.unique
-    (entry_at (key_of c.args.object.now) es c.in-Some.place counts (sym c.in-Some.ensures.index) c.index_mut.ensures.value)))
-    (withdraw_gifts (listed es) c.args.object.now c.self.invariant)
+    let place = c.in-Some.place in
+    let is = written (λ (g : Gift). record g { givers = g.givers - 1 }) (key_of o) counts (record counts { givers = counts.givers - 1 }) refl es place c.get_index_of.ensures.unique
+    (entry_at (key_of o) es place counts (sym c.in-Some.ensures.index) c.index_mut.ensures.value) in
+    let size = as_many_still es (set_value_at es place (record counts { givers = counts.givers - 1 })) (λ (g : Gift). record g { givers = g.givers - 1 }) o is in
+    record {
+      gifts = subst AreGifts (sym is) (withdraw_gifts (listed es) o c.self.invariant.gifts);
+      order = record { takes = λ kept. absurd (cc kept); puts = λ kept. absurd (cc kept) };
+      room = record { takes = omega (arith, size, c.self.invariant.room.takes); puts = omega (arith, size, c.self.invariant.room.puts) };
+    }
 
 pub returns-in_default : goal.returns-in_default
 returns-in_default c = absurd (not_given (key_of c.args.object.now) c.self.inside.table.entries _ c.self.view_is c.in_default.ensures.found c.requires)
