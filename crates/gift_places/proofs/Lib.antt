@@ -1,0 +1,3 @@
+pub mod MoreLemmas
+pub mod HeldLemmas
+pub mod LawLemmas
