@@ -1,0 +1,10 @@
+-- What interfaces are, kept beside inputs, a graph and gifts.
+
+-- what is kept of interfaces
+pub mod Kept
+-- what is counted over them
+pub mod Counted
+-- what an interface becomes
+pub mod Becoming
+-- what is kept before any interface claims or gives something
+pub mod Load
