@@ -1,0 +1,9 @@
+pub mod ListLemmas
+pub mod RowLemmas
+pub mod CountLemmas
+pub mod KeptLemmas
+pub mod LostLemmas
+pub mod OpenedLemmas
+pub mod StepLemmas
+pub mod LosingLemmas
+pub mod OpeningLemmas

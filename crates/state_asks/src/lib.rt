@@ -1,0 +1,10 @@
+//! Touched interfaces follow what happened: what they give and claim, and their asks. None of this takes memory.
+#![tactic(auto)]
+
+mod asking;
+mod losing;
+mod opening;
+mod renewing;
+mod telling;
+
+pub use renewing::renew;
