@@ -1,0 +1,15 @@
+pub mod GiftLemmas
+pub mod CalmLemmas
+pub mod CountLemmas
+pub mod KeptLemmas
+pub mod StepLemmas
+pub mod CommandLemmas
+pub mod RoomLemmas
+pub mod PlaceLemmas
+pub mod GraphLemmas
+pub mod TellLemmas
+pub mod DeviceLemmas
+pub mod AnswerLemmas
+pub mod AnsweredLemmas
+pub mod MoreLemmas
+pub mod AwaitLemmas
