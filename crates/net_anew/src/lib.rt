@@ -1,0 +1,14 @@
+//! Loads and answers of radios: all but the graph of devices is made anew, all memory is taken before, and then interfaces become what they
+//! are in one round.
+#![tactic(auto)]
+
+mod anew;
+mod beginning;
+mod gifts;
+mod loads;
+mod next;
+mod radios;
+
+pub use anew::Anew;
+pub use loads::load;
+pub use radios::join_ports;
