@@ -9,8 +9,8 @@ use Rattle.line_texts.specs.declared.line_error.LineError.{LineError}
 use Rattle.line_texts.specs.declared.line_error.LineError.TheVariants as error
 use Rattle.line_texts.specs.declared.call_status.CallStatus.{CallStatus}
 use Rattle.line_texts.specs.ErrorLine.{error_line}
-use Rattle.step_net.specs.Moved.{Telling}
-use Rattle.step_net.specs.Taken.{Asks}
+use Rattle.local_objects.specs.LineMoved.{Telling}
+use Rattle.local_objects.specs.LineTaken.{Asks}
 use Rattle.call_texts.specs.Arguments.{arguments_of}
 use Rattle.call_texts.specs.ReplyLine.{reply_line}
 use Rattle.local_answers.specs.declared.local_answer.LocalAnswer.{LocalAnswer}

@@ -6,7 +6,7 @@ use Rattle.kern_model.specs.declared.kernel.Asked.{Asked}
 use Rattle.ubus_frames.specs.declared.frame_error.FrameError.{FrameError}
 use Rattle.uci_tool.specs.Folder.{Folder}
 use Rattle.line_texts.specs.ErrorLine.{error_line}
-use Rattle.step_net.specs.Moved.{Telling}
+use Rattle.local_objects.specs.LineMoved.{Telling}
 use Rattle.script_clients.specs.declared.client_error.ClientError.{ClientError}
 use Rattle.script_clients.specs.declared.client_error.ClientError.TheVariants as client
 use Rattle.script_clients.specs.declared.clients.Fed.{Fed}

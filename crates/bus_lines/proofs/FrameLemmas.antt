@@ -7,7 +7,7 @@ use Rattle.bus_table.specs.declared.rows.LocalCall.{LocalCall}
 use Rattle.bus_table.specs.Served.{frame as frame_event, local_reply}
 use Rattle.uci_tool.specs.Folder.{Folder}
 use Rattle.line_texts.specs.ErrorLine.{error_line}
-use Rattle.step_net.specs.Taken.{Asks}
+use Rattle.local_objects.specs.LineTaken.{Asks}
 use Rattle.script_clients.specs.Bus.{BusPart, Came, came_by}
 use Rattle.local_answers.specs.declared.local_answer.LocalAnswer.{LocalAnswer}
 use Rattle.local_answers.specs.declared.uci_answer.CallStop.{CallStop}

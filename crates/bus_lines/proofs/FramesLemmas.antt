@@ -9,7 +9,7 @@ use Rattle.ubus_frames.specs.declared.frame.Frame.{Frame}
 use Rattle.bus_table.specs.declared.rows.LocalCall.{LocalCall}
 use Rattle.bus_table.specs.Served.{frame as frame_event}
 use Rattle.line_texts.specs.ErrorLine.{error_line}
-use Rattle.step_net.specs.Moved.{failed_events}
+use Rattle.local_objects.specs.LineMoved.{failed_events}
 use Rattle.script_clients.specs.Bus.{BusPart, came_by}
 use Rattle.local_answers.specs.declared.uci_answer.CallStop.{CallStop}
 use Rattle.local_answers.specs.declared.uci_answer.CallStop.TheVariants as stop

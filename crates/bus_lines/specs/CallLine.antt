@@ -11,7 +11,7 @@ use Rattle.line_texts.specs.declared.call_status.CallStatus.{CallStatus}
 use Rattle.line_texts.specs.declared.call_status.CallStatus.TheVariants as status
 use Rattle.line_texts.specs.declared.line_error.LineError.{LineError}
 use Rattle.line_texts.specs.declared.line_error.LineError.TheVariants as error
-use Rattle.step_net.specs.Moved.{fails_first}
+use Rattle.local_objects.specs.LineMoved.{fails_first}
 use Rattle.call_texts.specs.Arguments.{arguments_of, with_session}
 use Rattle.call_texts.specs.ReplyLine.{reply_line}
 use Rattle.local_answers.specs.declared.local_answer.LocalAnswer.{LocalAnswer}

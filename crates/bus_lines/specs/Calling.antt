@@ -4,7 +4,7 @@ use Rattle.std.specs.Option.{option_map}
 use Rattle.blob_codec.specs.declared.blob.Attr.{Attr}
 use Rattle.uci_tool.specs.Folder.{Folder}
 use Rattle.line_texts.specs.ErrorLine.{error_line}
-use Rattle.step_net.specs.Taken.{Telled, Asks}
+use Rattle.local_objects.specs.LineTaken.{Telled, Asks}
 use Rattle.local_answers.specs.declared.uci_answer.CallStop.{CallStop}
 use Rattle.local_answers.specs.declared.uci_answer.CallStop.TheVariants as stop
 use Rattle.local_objects.specs.declared.local_object.LocalObject.{LocalObject}

@@ -5,7 +5,7 @@ use Rattle.ubus_frames.specs.declared.frame.Frame.{Frame}
 use Rattle.bus_table.specs.declared.rows.LocalCall.{LocalCall}
 use Rattle.bus_table.specs.Served.{frame as frame_event}
 use Rattle.rpc_session.specs.SessionList.{SessionList}
-use Rattle.step_net.specs.Moved.{failed_events}
+use Rattle.local_objects.specs.LineMoved.{failed_events}
 use Rattle.call_texts.specs.Arguments.{arguments_of}
 use Rattle.script_clients.specs.declared.clients.Fed.{Fed}
 use Rattle.script_clients.specs.declared.clients.ScriptClient.{ScriptClient}

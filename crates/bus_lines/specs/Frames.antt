@@ -5,7 +5,7 @@ use Rattle.ubus_frames.specs.declared.frame.Frame.{Frame}
 use Rattle.bus_table.specs.declared.rows.LocalCall.{LocalCall}
 use Rattle.uci_tool.specs.Folder.{Folder}
 use Rattle.line_texts.specs.ErrorLine.{error_line}
-use Rattle.step_net.specs.Taken.{Asks}
+use Rattle.local_objects.specs.LineTaken.{Asks}
 use Rattle.local_answers.specs.declared.uci_answer.CallStop.{CallStop}
 use Rattle.local_answers.specs.declared.uci_answer.CallStop.TheVariants as stop
 use Rattle.script_clients.specs.declared.clients.Fed.{Fed}

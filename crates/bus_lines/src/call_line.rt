@@ -1,8 +1,8 @@
 //! Lines that call a method of a local object.
 ghost use Rattle.std.specs.Prelude.{◌≡◌, [], Ok, OnOk, IfOk};
 ghost use Rattle.uci_tool.specs.Answers.{IsOpen};
-ghost use Rattle.net_plane.specs.Network.{IsOf};
-ghost use Rattle.step_net.specs.Taken.{telled_of};
+ghost use Rattle.local_objects.specs.Network.{IsOf};
+ghost use Rattle.local_objects.specs.LineTaken.{telled_of};
 ghost use Rattle.call_texts.specs.Arguments.{arguments_of};
 ghost use Rattle.local_objects.specs.Passed.{StaysOrStopsIn};
 ghost use Rattle.local_objects.specs.Kept.{StaysOn, faults_of};
@@ -23,8 +23,7 @@ use call_texts::{name_session, read_arguments};
 use kern_model::Kernel;
 use line_texts::LineError;
 use local_answers::{CallStop, LocalAnswer};
-use local_objects::{LocalObject, Outcome};
-use net_plane::Net;
+use local_objects::{LocalObject, Net, Outcome};
 use plane_disk::Disk;
 use plane_io::Memory;
 use plane_outside::Random;

@@ -1,8 +1,8 @@
 //! Lines of bytes that a client sends.
 ghost use Rattle.std.specs.Prelude.{◌≡◌, [], OnOk};
 ghost use Rattle.uci_tool.specs.Answers.{IsOpen};
-ghost use Rattle.net_plane.specs.Network.{IsOf};
-ghost use Rattle.step_net.specs.Taken.{telled_of};
+ghost use Rattle.local_objects.specs.Network.{IsOf};
+ghost use Rattle.local_objects.specs.LineTaken.{telled_of};
 ghost use Rattle.local_objects.specs.Passed.{StaysOrStopsIn};
 ghost use Rattle.local_objects.specs.Kept.{StaysOn, faults_of};
 ghost use Rattle.bus_lines.specs.Ended.{Ends, world_of};
@@ -18,7 +18,7 @@ use crate::handled::Handled;
 use crate::told::{end_bytes, refuse_client};
 use kern_model::Kernel;
 use local_answers::CallStop;
-use net_plane::Net;
+use local_objects::Net;
 use plane_disk::Disk;
 use plane_io::{Memory, Text};
 use plane_outside::Random;

@@ -1,8 +1,8 @@
 //! Frames that are served.
 ghost use Rattle.std.specs.Prelude.{◌≡◌, [], OnOk};
 ghost use Rattle.uci_tool.specs.Answers.{IsOpen};
-ghost use Rattle.net_plane.specs.Network.{IsOf};
-ghost use Rattle.step_net.specs.Taken.{telled_of};
+ghost use Rattle.local_objects.specs.Network.{IsOf};
+ghost use Rattle.local_objects.specs.LineTaken.{telled_of};
 ghost use Rattle.local_objects.specs.Passed.{StaysOrStopsIn};
 ghost use Rattle.local_objects.specs.Kept.{StaysOn, faults_of};
 ghost use Rattle.bus_lines.specs.Ended.{world_of};
@@ -16,12 +16,11 @@ use crate::calling::call_with_word;
 use crate::gathered::Gathered;
 use kern_model::Kernel;
 use local_answers::CallStop;
-use local_objects::LocalObject;
-use net_plane::Net;
+use local_objects::{LocalObject, Net};
 use plane_disk::Disk;
 use plane_outside::Random;
+use script_clients::LocalCall;
 use std::alloc::Global;
-use ubus_broker::LocalCall;
 use ubus_frames::Frame;
 use uci_store::Store;
 

@@ -8,9 +8,8 @@ ghost use Rattle.bus_lines.specs.Gathered as spec;
 use local_answers::LocalAnswer;
 use local_objects::Outcome;
 use plane_io::{Memory, Text};
-use script_clients::ScriptBus;
+use script_clients::{LocalCall, ScriptBus};
 use std::alloc::Global;
-use ubus_broker::LocalCall;
 
 /// The lines of sends, the lines of asks, and the line of the first refusal.
 #[derive(Drop)]

@@ -7,10 +7,9 @@ use crate::handled::Handled;
 use call_texts::append_reply;
 use line_texts::{CallStatus, LineError};
 use local_answers::LocalAnswer;
-use local_objects::Outcome;
+use local_objects::{Outcome, Told, refuse, tell_text};
 use plane_io::{Memory, Text};
 use std::alloc::Global;
-use step_net::{Told, refuse, tell_text};
 
 /// What comes of a call that is answered so, and asks nothing.
 pub(crate) fn quiet(alloc: Global, answer: LocalAnswer) -> Outcome

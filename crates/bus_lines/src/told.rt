@@ -9,10 +9,10 @@ use crate::gathered::Gathered;
 use crate::handled::Handled;
 use crate::replied::refuse_line;
 use line_texts::LineError;
+use local_objects::{Told, tell_nothing, tell_text};
 use plane_io::{Memory, Text};
 use script_clients::{ClientError, ScriptBus};
 use std::alloc::Global;
-use step_net::{Told, tell_nothing, tell_text};
 use ubus_frames::FrameError;
 
 /// A client opens, as this user and group.

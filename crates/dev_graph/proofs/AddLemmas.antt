@@ -11,7 +11,7 @@ use Rattle.graph_counts.proofs.GrowLemmas.{sound_with_name}
 use Rattle.graph_tables.specs.Whole.{IsWhole}
 use Rattle.graph_tables.specs.Wished.{wish_in}
 use Rattle.graph_tables.specs.Lists.{AreUsed, HaveSame}
-use Rattle.graph_wishes.specs.Wishes.{mays}
+use Rattle.graph_tables.specs.Wishes.{mays}
 use Rattle.dev_graph.specs.declared.graph.Graph.TheInside.{Inside}
 use Rattle.dev_graph.specs.Added.{added}
 use Rattle.dev_graph.specs.Inside.{known_in, IsTied}

@@ -23,7 +23,7 @@ use Rattle.graph_counts.specs.Uses.{TellsUses}
 use Rattle.graph_counts.proofs.AnswerLemmas.{sound_names}
 use Rattle.graph_counts.proofs.LoadLemmas.{sound_loaded}
 use Rattle.graph_counts.proofs.SoundLemmas.{rowless_bridge}
-use Rattle.graph_wishes.specs.Wishes.{mays}
+use Rattle.graph_tables.specs.Wishes.{mays}
 use Rattle.graph_tables.specs.Wished.{known, wish_in, wishes_at}
 use Rattle.graph_tables.specs.Lists.{AreUsed, HaveSame, unjudged}
 use Rattle.graph_tables.specs.Differing.{DiffersAt}

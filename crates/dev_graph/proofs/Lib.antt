@@ -4,3 +4,5 @@ pub mod GraphLemmas
 pub mod AddLemmas
 pub mod KeptLemmas
 pub mod PlainLemmas
+-- decisions over tables
+pub use Rattle.graph_tables.proofs.DecideLemmas

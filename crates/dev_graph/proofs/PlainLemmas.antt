@@ -34,8 +34,8 @@ use Rattle.graph_counts.specs.Counted.{id_of, name_of}
 use Rattle.graph_counts.proofs.GrowLemmas.{absent, names_more}
 use Rattle.graph_counts.proofs.IdLemmas.{id_in_front, id_at, no_row}
 use Rattle.graph_counts.proofs.SoundLemmas.{in_front}
-use Rattle.graph_wishes.specs.Wishes.{May, may_alone, mays, mays_of}
-use Rattle.graph_wishes.proofs.MayLemmas.{mays_apart, mays_grounded}
+use Rattle.graph_tables.specs.Wishes.{May, may_alone, mays, mays_of}
+use Rattle.graph_tables.proofs.MayLemmas.{mays_apart, mays_grounded}
 use Rattle.graph_tables.specs.Wished.{wish_in}
 use Rattle.graph_tables.specs.Lists.{AreUsed, HaveSame}
 use Rattle.graph_tables.specs.Whole.{IsWhole}

@@ -12,8 +12,8 @@ use Rattle.graph_objects.specs.Slots.{wished}
 use Rattle.graph_objects.specs.Marks.{Marks, wanted_of}
 use Rattle.graph_rules.specs.State.{Known}
 use Rattle.graph_rules.specs.Wanted.{want_in}
-use Rattle.graph_wishes.specs.Wishes.{May, mays, is_used_may, used_mays}
-use Rattle.graph_wishes.proofs.WishLemmas.{wants_used_mays}
+use Rattle.graph_tables.specs.Wishes.{May, mays, is_used_may, used_mays}
+use Rattle.graph_tables.proofs.WishLemmas.{wants_used_mays}
 use Rattle.graph_tables.specs.Wished.{wish_in}
 use Rattle.graph_tables.specs.Lists.{HaveSame}
 use Rattle.graph_tables.proofs.DecideLemmas.{filter_member}

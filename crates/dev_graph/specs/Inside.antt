@@ -2,7 +2,7 @@
 use Rattle.std.specs.Prelude.{◌≡◌, ◌≤◌, [], map, length, Option, Some, None}
 use Rattle.graph_rules.specs.State.{Known, State, nothing_known}
 use Rattle.graph_objects.specs.Marks.{held_of}
-use Rattle.graph_wishes.specs.Wishes.{mays}
+use Rattle.graph_tables.specs.Wishes.{mays}
 use Rattle.dev_graph.specs.declared.graph.Graph.TheInside.{Inside}
 use Rattle.graph_tables.specs.Wished.{wish_in}
 use Rattle.graph_tables.specs.Lists.{AreUsed, HaveSame}

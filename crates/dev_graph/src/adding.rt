@@ -4,7 +4,7 @@ ghost use Rattle.net_options.specs.Dotted.{vlan_parts};
 ghost use Rattle.net_rules.specs.Inputs as inputs;
 ghost use Rattle.graph_rules.specs.State.{nothing_known, place_among};
 ghost use Rattle.graph_rules.specs.After.{with_name};
-ghost use Rattle.graph_wishes.specs.Wishes.{mays};
+ghost use Rattle.graph_tables.specs.Wishes.{mays};
 ghost use Rattle.graph_tables.specs.Wished.{wish_in};
 ghost use Rattle.graph_tables.specs.Lists.{HaveSame};
 ghost use Rattle.graph_tables.specs.Whole.{IsWhole};

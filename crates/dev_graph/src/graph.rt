@@ -11,7 +11,7 @@ ghost use Rattle.graph_rules.specs.Conditions.{IsId, IsNext, ArePorts, CanLoad, 
 ghost use Rattle.graph_rules.specs.Edges.{changed_edges};
 ghost use Rattle.graph_counts.specs.Counted.{name_of};
 ghost use Rattle.graph_objects.specs.Marks.{held_of};
-ghost use Rattle.graph_wishes.specs.Wishes.{mays};
+ghost use Rattle.graph_tables.specs.Wishes.{mays};
 ghost use Rattle.graph_tables.specs.Lists.{AreUsed, HaveSame};
 ghost use Rattle.graph_tables.specs.Whole.{IsWhole};
 ghost use Rattle.graph_tables.specs.Wished.{wish_in};

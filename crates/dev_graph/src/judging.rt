@@ -2,7 +2,7 @@
 ghost use Rattle.std.specs.Prelude.{◌≡◌, ◌<◌, ℕ, [], map, length, Contains};
 ghost use Rattle.graph_rules.specs.State.{Known};
 ghost use Rattle.graph_counts.specs.Sound.{IsSound};
-ghost use Rattle.graph_wishes.specs.Wishes.{mays};
+ghost use Rattle.graph_tables.specs.Wishes.{mays};
 ghost use Rattle.graph_tables.specs.Wished.{wish_in};
 ghost use Rattle.graph_tables.specs.Lists.{AreUsed, HaveSame};
 ghost use Rattle.graph_tables.specs.Differing.{DiffersAt};

@@ -22,7 +22,7 @@ use Rattle.graph_rules.specs.Wanted.{want_in}
 use Rattle.graph_rules.specs.Calls.{calls_in, falls_in, due_in}
 use Rattle.graph_wishes.specs.Wishes.{May, mays, is_used_may, used_mays}
 use Rattle.graph_wishes.proofs.WishLemmas.{wants_used_mays}
-use Rattle.graph_tables.proofs.DecideLemmas.{filter_member, may_lower}
+use Rattle.dev_graph.proofs.DecideLemmas.{filter_member, may_lower}
 use Rattle.given_objects.specs.declared.gift.Gift.{Gift}
 use Rattle.given_objects.specs.Gifts as gift
 use Rattle.given_objects.specs.Gifts.{Gifts, is_given, objects_by, AreGifts}

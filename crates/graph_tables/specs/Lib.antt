@@ -8,3 +8,5 @@ pub mod Lists
 pub mod Differing
 -- rows, names and VLANs that are sound together
 pub mod Whole
+-- wishes, as their crate tells them
+pub use Rattle.graph_wishes.specs.Wishes

@@ -8,3 +8,5 @@ pub mod UciLemmas
 pub mod NetworkLemmas
 -- calls of an object that is this one
 pub mod ObjectLemmas
+-- lines over the plane of interfaces, as their crate tells them
+pub use Rattle.net_calls.proofs.GrowthLemmas

@@ -7,19 +7,19 @@ use Rattle.rpc_session.specs.SessionList.{SessionList}
 use Rattle.kern_model.specs.declared.kernel.Asked.{Asked}
 use Rattle.kern_model.specs.Kernel.{Records}
 use Rattle.net_rules.specs.Moment.{Moment}
-use Rattle.net_plane.specs.Network.{Network, moment_of}
+use Rattle.net_calls.specs.Network.{Network, moment_of}
 use Rattle.line_texts.specs.declared.call_status.CallStatus.{CallStatus}
 use Rattle.line_texts.specs.declared.call_status.CallStatus.TheVariants as status
 use Rattle.line_texts.specs.CallStatus.{status_number}
-use Rattle.step_net.specs.NetLine.{NetLine}
-use Rattle.step_net.specs.Acted.{acted}
-use Rattle.step_net.specs.Taken.{Telled, Asks, IsLeft}
+use Rattle.net_calls.specs.NetLine.{NetLine}
+use Rattle.net_calls.specs.Acted.{acted}
+use Rattle.net_calls.specs.LineTaken.{Telled, Asks, IsLeft}
 use Rattle.net_objects.specs.declared.net_object.NetObject.{NetObject}
 use Rattle.net_objects.specs.declared.net_call.NetCall.{NetCall}
 use Rattle.net_objects.specs.Reading.{AsksMethod}
-use Rattle.net_answers.specs.declared.net_answer.NetAnswer.{NetAnswer}
-use Rattle.net_answers.specs.Answered.{answered, refused_as}
-use Rattle.net_reload.proofs.AskLemmas.{interface_asks, interface_stays, device_asks, device_stays, radio_asks, radio_stays}
+use Rattle.net_calls.specs.NetAnswer.{NetAnswer}
+use Rattle.net_calls.specs.Answered.{answered, refused_as}
+use Rattle.net_calls.proofs.AskLemmas.{interface_asks, interface_stays, device_asks, device_stays, radio_asks, radio_stays}
 use Rattle.net_calls.specs.NetCalls.{CallMeans, IsHaltedIn, IsAnsweredTo, IsStopped}
 use Rattle.local_answers.specs.LocalAnswer.{refused}
 use Rattle.local_objects.specs.declared.local_object.LocalObject.TheVariants.{Network as NetworkObject}

@@ -4,7 +4,7 @@ use Rattle.std.specs.Prelude.{Result}
 use Rattle.plane_disk.specs.View.{View}
 use Rattle.blob_codec.specs.declared.blob.Attr.{Attr}
 use Rattle.uci_store.specs.declared.store.Store.{Store}
-use Rattle.step_net.specs.Taken.{Telled}
+use Rattle.net_calls.specs.LineTaken.{Telled}
 use Rattle.local_answers.specs.declared.uci_answer.CallStop.{CallStop}
 use Rattle.local_objects.specs.declared.local_object.LocalObject.{LocalObject}
 use Rattle.local_objects.specs.declared.outcome.Outcome.{Outcome}

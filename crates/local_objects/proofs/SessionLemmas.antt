@@ -9,8 +9,8 @@ use Rattle.uci_store.specs.Store.{names_of, snap_of, staged_in}
 use Rattle.uci_tool.specs.Folder.{Folder, folder_of}
 use Rattle.rpc_session.specs.SessionList.{SessionList}
 use Rattle.net_rules.specs.Moment.{Moment}
-use Rattle.net_plane.specs.Network.{Network, moment_of}
-use Rattle.step_net.specs.Taken.{Telled, Asks}
+use Rattle.net_calls.specs.Network.{Network, moment_of}
+use Rattle.net_calls.specs.LineTaken.{Telled, Asks}
 use Rattle.local_answers.specs.declared.session_call.SessionAnswer.{SessionAnswer}
 use Rattle.local_answers.specs.SessionCall.{session_call, HasAnswered, StaysOpen}
 use Rattle.local_objects.specs.declared.local_object.LocalObject.TheVariants.{Session}

@@ -18,7 +18,7 @@ use Rattle.uci_tool.specs.Folder.{folder_of}
 use Rattle.uci_tool.proofs.StageLemmas.{follows_itself}
 use Rattle.rpc_session.specs.SessionList.{SessionList}
 use Rattle.rpc_uci.specs.Done.{Leads}
-use Rattle.net_plane.specs.Network.{Network}
+use Rattle.net_calls.specs.Network.{Network}
 use Rattle.local_answers.specs.declared.uci_answer.CallStop.{CallStop}
 use Rattle.local_answers.specs.SessionCall.{StaysOpen}
 use Rattle.local_objects.specs.declared.local_object.LocalObject.TheVariants.{Uci}

@@ -24,14 +24,14 @@ use Rattle.net_rules.specs.declared.event.Event.TheVariants as event
 use Rattle.net_rules.specs.declared.refusal.Refusal.{Refusal}
 use Rattle.net_rules.specs.Refusal.{refusal}
 use Rattle.net_rules.specs.Moment.{Moment}
-use Rattle.net_plane.specs.Network.{Network, moment_of}
-use Rattle.step_net.specs.declared.told.Told.{Told}
-use Rattle.step_net.specs.NetLine.{NetLine, load_within}
-use Rattle.step_net.specs.Acted.{acted, took_or_refused}
-use Rattle.step_net.specs.Moved.{Telling}
-use Rattle.step_net.specs.Taken.{Telled, Asks}
-use Rattle.net_reload.specs.Reload.{ReloadAsks}
-use Rattle.net_reload.specs.Taken.{IsTakenAlone, IsHaltedAlone}
+use Rattle.net_calls.specs.Network.{Network, moment_of}
+use Rattle.net_calls.specs.LineTold.{Told}
+use Rattle.net_calls.specs.NetLine.{NetLine, load_within}
+use Rattle.net_calls.specs.Acted.{acted, took_or_refused}
+use Rattle.net_calls.specs.LineMoved.{Telling}
+use Rattle.net_calls.specs.LineTaken.{Telled, Asks}
+use Rattle.net_calls.specs.Reload.{ReloadAsks}
+use Rattle.net_calls.specs.ReloadTaken.{IsTakenAlone, IsHaltedAlone}
 use Rattle.local_answers.specs.declared.local_answer.LocalAnswer.{LocalAnswer}
 use Rattle.local_answers.specs.declared.uci_answer.UciAnswer.{UciAnswer}
 use Rattle.local_answers.specs.declared.uci_answer.CallStop.{CallStop}

@@ -17,15 +17,15 @@ use Rattle.line_texts.specs.declared.call_status.CallStatus.{CallStatus}
 use Rattle.line_texts.specs.declared.call_status.CallStatus.TheVariants as status
 use Rattle.line_texts.specs.declared.line_error.LineError.{LineError}
 use Rattle.line_texts.specs.CallStatus.{status_number}
-use Rattle.step_net.specs.NetLine.{NetLine}
-use Rattle.step_net.specs.Acted.{acted}
+use Rattle.net_calls.specs.NetLine.{NetLine}
+use Rattle.net_calls.specs.Acted.{acted}
 use Rattle.net_objects.specs.declared.net_object.NetObject.{NetObject}
 use Rattle.net_objects.specs.declared.net_call.NetCall.{NetCall}
 use Rattle.net_objects.specs.Method.{method_of}
 use Rattle.net_objects.specs.Reading.{AsksMethod, AsksNothing}
-use Rattle.net_answers.specs.Answered.{answered}
+use Rattle.net_calls.specs.Answered.{answered}
 use Rattle.net_calls.specs.NetCalls.{CallMeans}
-use Rattle.net_reload.specs.Reload.{ReloadAsks}
+use Rattle.net_calls.specs.Reload.{ReloadAsks}
 use Rattle.local_answers.specs.declared.local_answer.LocalAnswer.{LocalAnswer}
 use Rattle.local_answers.specs.declared.uci_answer.UciAnswer.{UciAnswer}
 use Rattle.local_answers.specs.LocalAnswer.{told, refused}

@@ -6,8 +6,8 @@ use Rattle.kern_model.specs.declared.kernel.Asked.{Asked}
 use Rattle.kern_model.specs.Kernel.{Records}
 use Rattle.kern_model.specs.ObjectOrder.{Objects}
 use Rattle.net_rules.specs.Moment.{Moment}
-use Rattle.step_net.specs.Moved.{once_if}
-use Rattle.step_net.specs.Taken.{Telled}
+use Rattle.net_calls.specs.LineMoved.{once_if}
+use Rattle.net_calls.specs.LineTaken.{Telled}
 use Rattle.local_objects.specs.declared.local_object.LocalObject.{LocalObject}
 use Rattle.local_objects.specs.Calls.{Parts, Called, CallsTo}
 

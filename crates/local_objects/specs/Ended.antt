@@ -5,9 +5,9 @@ use Rattle.blob_codec.specs.declared.blob.Attr.{Attr}
 use Rattle.uci_store.specs.declared.store.Store.{Store}
 use Rattle.uci_tool.specs.Folder.{folder_of}
 use Rattle.rpc_session.specs.SessionList.{SessionList}
-use Rattle.net_plane.specs.Network.{Network, moment_of}
+use Rattle.net_calls.specs.Network.{Network, moment_of}
 use Rattle.line_texts.specs.ErrorLine.{error_line}
-use Rattle.step_net.specs.Taken.{Telled, Asks}
+use Rattle.net_calls.specs.LineTaken.{Telled, Asks}
 use Rattle.local_answers.specs.declared.uci_answer.CallStop.{CallStop}
 use Rattle.local_answers.specs.declared.uci_answer.CallStop.TheVariants as stop
 use Rattle.local_objects.specs.declared.local_object.LocalObject.{LocalObject}

@@ -16,3 +16,10 @@ pub mod Ended
 pub mod Outcome
 -- what the code made of a call of the object `uci`
 pub mod UciCall
+-- lines over the plane of interfaces, as their crate tells them
+pub use Rattle.net_calls.specs.LineMoved
+pub use Rattle.net_calls.specs.LineTaken
+pub use Rattle.net_calls.specs.LineTells
+pub use Rattle.net_calls.specs.LineTold
+-- the plane of interfaces, as its crate tells it
+pub use Rattle.net_calls.specs.Network

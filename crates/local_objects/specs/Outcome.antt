@@ -1,7 +1,7 @@
 -- What is told of a call, by what its object answers.
 use Rattle.std.specs.Prelude.{[], false, None}
-use Rattle.step_net.specs.declared.told.Told.{Told}
-use Rattle.net_answers.specs.declared.net_answer.NetAnswer.{NetAnswer}
+use Rattle.net_calls.specs.LineTold.{Told}
+use Rattle.net_calls.specs.NetAnswer.{NetAnswer}
 use Rattle.local_answers.specs.declared.local_answer.LocalAnswer.{LocalAnswer}
 use Rattle.local_answers.specs.declared.session_call.SessionAnswer.{SessionAnswer}
 use Rattle.local_objects.specs.declared.outcome.Outcome.{Outcome}

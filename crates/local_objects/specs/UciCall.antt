@@ -6,9 +6,9 @@ use Rattle.uci_tool.specs.Folder.{Folder}
 use Rattle.rpc_session.specs.SessionList.{SessionList}
 use Rattle.rpc_rules.specs.declared.rpc_error.RpcError.{RpcError}
 use Rattle.rpc_uci.specs.declared.reply.Reply.{Reply}
-use Rattle.net_plane.specs.Network.{Network, moment_of}
+use Rattle.net_calls.specs.Network.{Network, moment_of}
 use Rattle.line_texts.specs.ErrorLine.{error_line}
-use Rattle.step_net.specs.Taken.{Telled, Asks}
+use Rattle.net_calls.specs.LineTaken.{Telled, Asks}
 use Rattle.local_answers.specs.declared.uci_answer.UciAnswer.{UciAnswer}
 use Rattle.local_answers.specs.declared.uci_answer.CallStop.{CallStop}
 use Rattle.local_answers.specs.declared.uci_answer.CallStop.TheVariants as stop

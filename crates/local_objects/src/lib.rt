@@ -8,4 +8,5 @@ mod uci_call;
 
 pub use call::call_object;
 pub use local_object::LocalObject;
+pub use net_calls::{Net, Told, refuse, tell_nothing, tell_text};
 pub use outcome::Outcome;

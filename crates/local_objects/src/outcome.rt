@@ -5,11 +5,10 @@ ghost use Rattle.local_objects.specs.Outcome as spec;
 use blob_codec::Attr;
 use line_texts::CallStatus;
 use local_answers::{LocalAnswer, SessionAnswer};
-use net_answers::NetAnswer;
+use net_calls::{NetAnswer, Told};
 use plane_io::Text;
 use sqlite_items::Items;
 use std::alloc::Global;
-use step_net::Told;
 
 /// What comes of a call of a local object.
 #[derive(Debug, Drop)]

@@ -13,11 +13,11 @@ use Rattle.net_rules.specs.declared.refusal.Refusal.{Refusal}
 use Rattle.net_rules.specs.declared.refusal.Refusal.TheVariants as why
 use Rattle.net_rules.specs.Moment.{Moment, moment_after}
 use Rattle.net_rules.specs.Refusal.{refusal}
-use Rattle.net_plane.specs.declared.net_error.NetError.{NetError}
-use Rattle.net_plane.specs.declared.net_error.NetError.TheVariants as net_error
-use Rattle.net_plane.specs.NetError as plane
-use Rattle.net_plane.specs.Network.{Network, moment_of}
-use Rattle.net_plane.specs.Taken.{IsAfter, Answers, AnswersOrFails, TellsOnce}
+use Rattle.step_net.specs.NetError.{NetError}
+use Rattle.step_net.specs.NetError.TheVariants as net_error
+use Rattle.step_net.specs.PlaneErrors as plane
+use Rattle.step_net.specs.Network.{Network, moment_of}
+use Rattle.step_net.specs.PlaneTaken.{IsAfter, Answers, AnswersOrFails, TellsOnce}
 use Rattle.step_net.specs.NetLine.{NetLine, load_within}
 use Rattle.step_net.specs.Acted.{Acted, acted, error_of, took, took_free, took_or_refused, refused_for, failed_at, lines_of_asks}
 use Rattle.step_net.specs.Taken.{Telled, Asks, IsLeft}

@@ -2,9 +2,9 @@
 use Rattle.std.proofs.Common.{◌≡◌, Option, Some, None, false, inl, inr, ap, sym, subst, ◌∙◌}
 use Rattle.std.specs.Prelude.{Result, Ok, Err, IfOk, ◌⊎◌}
 use Rattle.serde_json.specs.Data.{Data}
-use Rattle.net_plane.specs.declared.net_error.NetError.{NetError}
-use Rattle.net_plane.specs.declared.net_error.NetError.TheVariants as net_error
-use Rattle.net_plane.specs.Network.{Network, moment_of}
+use Rattle.step_net.specs.NetError.{NetError}
+use Rattle.step_net.specs.NetError.TheVariants as net_error
+use Rattle.step_net.specs.Network.{Network, moment_of}
 use Rattle.line_texts.specs.declared.call_status.CallStatus.TheVariants as status
 use Rattle.step_net.specs.NetLine.{NetLine}
 use Rattle.net_answers.specs.declared.net_answer.NetAnswer.{NetAnswer}

@@ -9,7 +9,7 @@ use Rattle.kern_model.specs.declared.kernel.Asked.{Asked}
 use Rattle.net_rules.specs.Moment.{Moment}
 use Rattle.net_status.specs.Interfaces.{interface_status, dump}
 use Rattle.net_status.specs.Radios.{radio_status}
-use Rattle.net_plane.specs.declared.net_error.NetError.{NetError}
+use Rattle.step_net.specs.NetError.{NetError}
 use Rattle.line_texts.specs.declared.call_status.CallStatus.{CallStatus}
 use Rattle.line_texts.specs.declared.call_status.CallStatus.TheVariants as status
 use Rattle.line_texts.specs.declared.line_error.LineError.{LineError}

@@ -2,8 +2,8 @@
 use Rattle.std.specs.Prelude.{ℕ, ◌≡◌, List, [], Bool, false, ⊤, Option, Some, None, Result, Ok, Err}
 use Rattle.serde_json.specs.Data.{Data}
 use Rattle.blob_json.specs.FromJson.{attrs_of}
-use Rattle.net_plane.specs.declared.net_error.NetError.{NetError}
-use Rattle.net_plane.specs.Network.{Network, moment_of}
+use Rattle.step_net.specs.NetError.{NetError}
+use Rattle.step_net.specs.Network.{Network, moment_of}
 use Rattle.line_texts.specs.declared.call_status.CallStatus.{CallStatus}
 use Rattle.step_net.specs.NetLine.{NetLine}
 use Rattle.step_net.specs.Acted.{acted, lines_of_asks}

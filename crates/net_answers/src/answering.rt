@@ -1,6 +1,6 @@
 ghost use Rattle.std.specs.Prelude.{◌≡◌, [], IfOk, OnOk};
 ghost use Rattle.net_rules.specs.declared.event.Event.TheVariants as event_of;
-ghost use Rattle.net_plane.specs.Network.{IsOf, HasSameKernel};
+ghost use Rattle.step_net.specs.Network.{IsOf, HasSameKernel};
 ghost use Rattle.step_net.specs.NetLine.{NetLine, load_line};
 ghost use Rattle.step_net.specs.Acted.{lines_of_asks as lines_of};
 ghost use Rattle.step_net.specs.Taken.{telled_of};
@@ -8,11 +8,10 @@ ghost use Rattle.net_answers.specs.Told.{Takes, Tries, Ends, AsksOnly};
 
 use crate::net_answer::{NetAnswer, refuse_for};
 use kern_model::{DevEvent, DevName, Kernel};
-use net_plane::{Net, NetError};
 use net_rules::Answer;
 use plane_io::{Items, Memory, Text};
 use std::alloc::Global;
-use step_net::lines_of_asks;
+use step_net::{Net, NetError, lines_of_asks};
 use uci_tree::Package;
 
 /// A call tells that something happens to a device: the kernel is told, and the plane follows.

@@ -4,10 +4,10 @@ ghost use Rattle.net_answers.specs.Told.{TellsError};
 
 use blob_codec::Attr;
 use line_texts::CallStatus;
-use net_plane::NetError;
 use plane_io::{Memory, Text};
 use sqlite_items::Items;
 use std::alloc::Global;
+use step_net::NetError;
 
 /// What comes of a call: the lines of the asks that it brings, and its payload or why it is refused.
 #[derive(Debug, Drop)]

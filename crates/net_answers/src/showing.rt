@@ -7,10 +7,10 @@ use crate::net_answer::{NetAnswer, refuse, refuse_for};
 use blob_json::{JsonError, blob_of_json};
 use kern_model::read_name;
 use line_texts::CallStatus;
-use net_plane::Net;
 use plane_io::{Memory, Text};
 use serde_json::Value;
 use std::alloc::Global;
+use step_net::Net;
 
 /// A call asks for the status of all interfaces.
 ///

@@ -7,12 +7,12 @@ use Rattle.uci_tree.specs.declared.tree_error.TreeError.{TreeError}
 use Rattle.uci_tree.specs.Fault.{fault_of}
 use Rattle.uci_tool.specs.Folder.{Folder}
 use Rattle.net_rules.specs.Moment.{Moment}
-use Rattle.net_plane.specs.Network.{Network, moment_of}
+use Rattle.net_reload.specs.Network.{Network, moment_of}
 use Rattle.line_texts.specs.declared.call_status.CallStatus.TheVariants as status
 use Rattle.line_texts.specs.declared.line_error.LineError.TheVariants as error
-use Rattle.step_net.specs.NetLine.{NetLine, refused as refuses}
-use Rattle.step_net.specs.Acted.{acted}
-use Rattle.step_net.specs.Taken.{Telled, Asks, IsLeft}
+use Rattle.net_reload.specs.NetLine.{NetLine, refused as refuses}
+use Rattle.net_reload.specs.Acted.{acted}
+use Rattle.net_reload.specs.LineTaken.{Telled, Asks, IsLeft}
 use Rattle.net_objects.specs.declared.net_object.NetObject.{NetObject}
 use Rattle.net_objects.specs.declared.net_call.NetCall.{NetCall}
 use Rattle.net_objects.specs.declared.net_call.NetCall.TheVariants as call

@@ -3,10 +3,10 @@ use Rattle.std.specs.Prelude.{ℕ, ◌≡◌, List, [], false, None, Result, Ok,
 use Rattle.blob_codec.specs.declared.blob.Attr.{Attr}
 use Rattle.uci_tool.specs.Folder.{Folder}
 use Rattle.net_rules.specs.declared.event.Event.TheVariants as event
-use Rattle.net_plane.specs.Network.{Network}
+use Rattle.net_reload.specs.Network.{Network}
 use Rattle.line_texts.specs.declared.call_status.CallStatus.TheVariants as status
-use Rattle.step_net.specs.NetLine.{NetLine}
-use Rattle.step_net.specs.Taken.{Telled, Asks, IsLeft}
+use Rattle.net_reload.specs.NetLine.{NetLine}
+use Rattle.net_reload.specs.LineTaken.{Telled, Asks, IsLeft}
 use Rattle.net_objects.specs.declared.net_object.NetObject.{NetObject}
 use Rattle.net_objects.specs.declared.net_call.NetCall.{NetCall}
 use Rattle.net_objects.specs.declared.net_call.NetCall.TheVariants as call

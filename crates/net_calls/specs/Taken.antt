@@ -2,10 +2,10 @@
 use Rattle.std.specs.Prelude.{◌≡◌, ◌⊎◌, [], false, IsSomeAnd, Result, Ok, Err}
 use Rattle.uci_tree.specs.declared.tree_error.TreeError.{TreeError}
 use Rattle.uci_tree.specs.Fault.{fault_of}
-use Rattle.net_plane.specs.Network.{Network, moment_of}
+use Rattle.net_reload.specs.Network.{Network, moment_of}
 use Rattle.line_texts.specs.declared.call_status.CallStatus.TheVariants as status
-use Rattle.step_net.specs.NetLine.{NetLine}
-use Rattle.step_net.specs.Acted.{acted}
+use Rattle.net_reload.specs.NetLine.{NetLine}
+use Rattle.net_reload.specs.Acted.{acted}
 use Rattle.net_answers.specs.declared.net_answer.NetAnswer.{NetAnswer}
 use Rattle.net_answers.specs.Answered.{answered, refused_as}
 use Rattle.net_answers.specs.Told.{IsAnswered}

@@ -1,11 +1,11 @@
 ghost use Rattle.std.specs.Prelude.{◌≡◌, []};
 ghost use Rattle.uci_store.specs.Store.{IsStore};
 ghost use Rattle.uci_tool.specs.Folder.{folder_of};
-ghost use Rattle.net_plane.specs.Network.{IsOf};
-ghost use Rattle.step_net.specs.Taken.{telled_of};
+ghost use Rattle.net_reload.specs.Network.{IsOf};
+ghost use Rattle.net_reload.specs.LineTaken.{telled_of};
 ghost use Rattle.net_calls.specs.NetCalls.{Answers, Carries};
 
-use crate::reload::reload;
+use crate::reloading::reload;
 use blob_codec::Attr;
 use kern_model::Kernel;
 use line_texts::CallStatus;
@@ -14,7 +14,7 @@ use net_answers::{
     answer_interface_status, answer_operator, answer_radio, answer_radio_status, refuse,
 };
 use net_objects::{NetCall, NetCallError, NetObject, read_call};
-use net_plane::Net;
+use net_reload::Net;
 use plane_io::Memory;
 use std::alloc::Global;
 use uci_store::Store;

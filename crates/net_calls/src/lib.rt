@@ -2,6 +2,8 @@
 #![tactic(auto)]
 
 mod call;
-mod reload;
+mod reloading;
 
 pub use call::call_network;
+pub use net_answers::NetAnswer;
+pub use net_reload::{Net, Told, refuse, reload, tell_nothing, tell_text};

@@ -45,9 +45,9 @@ use Rattle.net_reach.specs.Layers.{TellsLayer}
 use Rattle.net_reach.proofs.AlikeLemmas.{answer_tells}
 use Rattle.asked_places.specs.Touched.{has, names_of_rows}
 use Rattle.asked_places.proofs.PlaceLemmas.{place_of_first}
-use Rattle.net_states.specs.declared.states.States.{States}
-use Rattle.net_states.specs.Kept.{number_of, IsNotedAs, AreOwnAsks, IsTied, FollowBut}
-use Rattle.net_states.specs.Counted.{needs_no_answer, HasGiftRoom, IsCountedBy}
+use Rattle.state_asks.specs.States.{States}
+use Rattle.state_asks.specs.Kept.{number_of, IsNotedAs, AreOwnAsks, IsTied, FollowBut}
+use Rattle.state_asks.specs.Counted.{needs_no_answer, HasGiftRoom, IsCountedBy}
 use Rattle.net_follow.specs.Answering.{heard, layer_by, given_hearing}
 use Rattle.net_follow.proofs.KeptLemmas.{has_member}
 use Rattle.net_follow.proofs.StepLemmas.{moment_of}

@@ -25,10 +25,10 @@ use Rattle.net_reach.specs.Groups.{HasRoomAt}
 use Rattle.net_reach.specs.Reach.{IsReachOf, interface_place}
 use Rattle.net_reach.specs.Layers.{TellsLayer}
 use Rattle.asked_places.proofs.PlaceLemmas.{first_at_place}
-use Rattle.net_states.specs.declared.states.States.{States}
-use Rattle.net_states.specs.Kept.{IsTied, FollowBut}
-use Rattle.net_states.specs.Counted.{IsCountedBy, DiffersInCounts}
-use Rattle.net_states.specs.Becoming.{idle}
+use Rattle.state_asks.specs.States.{States}
+use Rattle.state_asks.specs.Kept.{IsTied, FollowBut}
+use Rattle.state_asks.specs.Counted.{IsCountedBy, DiffersInCounts}
+use Rattle.state_asks.specs.Becoming.{idle}
 use Rattle.net_follow.specs.declared.follower.Follower.{Follower}
 use Rattle.net_follow.specs.InStep.{inputs_of, IsInStep}
 use Rattle.net_follow.specs.Answering.{HasAnswerRoom}

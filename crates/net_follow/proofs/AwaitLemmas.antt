@@ -21,8 +21,8 @@ use Rattle.net_reach.specs.declared.reach.Reach.{Reach}
 use Rattle.net_reach.specs.Groups.{HasRoomAt}
 use Rattle.net_reach.specs.Reach.{interface_place}
 use Rattle.asked_places.proofs.PlaceLemmas.{first_at_place}
-use Rattle.net_states.specs.declared.states.States.{States}
-use Rattle.net_states.specs.Kept.{IsTied}
+use Rattle.state_asks.specs.States.{States}
+use Rattle.state_asks.specs.Kept.{IsTied}
 use Rattle.net_follow.specs.declared.follower.Follower.{Follower}
 use Rattle.net_follow.specs.InStep.{inputs_of}
 use Rattle.net_follow.specs.Answering.{HasAnswerRoom, layer_by, given_hearing}

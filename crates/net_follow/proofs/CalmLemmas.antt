@@ -26,9 +26,9 @@ use Rattle.course_laws.proofs.CourseLemmas.{looked_ready, quiet_ready}
 use Rattle.claim_moves.specs.Claiming.{HasClaims, DiffersInClaims}
 use Rattle.net_claims.specs.declared.state.InterfaceState.{InterfaceState}
 use Rattle.net_gifts.proofs.BareLemmas.{held_stays}
-use Rattle.net_states.specs.declared.states.States.{States}
-use Rattle.net_states.specs.Kept.{AreStatesOf}
-use Rattle.net_states.specs.Counted.{AgreesWith, IsCountedBy, DiffersInCounts}
+use Rattle.state_asks.specs.States.{States}
+use Rattle.state_asks.specs.Kept.{AreStatesOf}
+use Rattle.state_asks.specs.Counted.{AgreesWith, IsCountedBy, DiffersInCounts}
 use Rattle.net_follow.specs.InStep.{IsCalm}
 use Rattle.net_follow.proofs.GiftLemmas.{looked_places, looked_givers, looked_held, quiet_counts}
 

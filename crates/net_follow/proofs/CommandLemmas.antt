@@ -17,9 +17,9 @@ use Rattle.net_view.proofs.PlaceLemmas.{at_place}
 use Rattle.net_reach.specs.Reach.{interface_place}
 use Rattle.net_reach.proofs.AlikeLemmas.{alike_reach, command_alike}
 use Rattle.touch_laws.proofs.StateLemmas.{behind_command}
-use Rattle.net_states.specs.declared.states.States.{States}
-use Rattle.net_states.specs.Kept.{AreStatesOf, FollowBut}
-use Rattle.net_states.specs.Counted.{IsCountedBy}
+use Rattle.state_asks.specs.States.{States}
+use Rattle.state_asks.specs.Kept.{AreStatesOf, FollowBut}
+use Rattle.state_asks.specs.Counted.{IsCountedBy}
 use Rattle.net_follow.proofs.CalmLemmas.{calm_of_ready}
 use Rattle.net_follow.proofs.CountLemmas.{counted_other, tied_other}
 use Rattle.net_follow.proofs.KeptLemmas.{Moves, has_member, within_of}

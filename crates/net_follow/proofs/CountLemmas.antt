@@ -16,9 +16,9 @@ use Rattle.net_gifts.proofs.TimesLemmas.{gives_agree}
 use Rattle.net_reach.specs.declared.reach.Reach.{Reach}
 use Rattle.net_reach.specs.Reach.{IsReachOf}
 use Rattle.claim_moves.specs.Claiming.{HasClaims}
-use Rattle.net_states.specs.declared.states.States.{States}
-use Rattle.net_states.specs.Kept.{IsNotedAs, IsTied}
-use Rattle.net_states.specs.Counted.{AgreesWith, HasGiftRoom, IsCountedBy}
+use Rattle.state_asks.specs.States.{States}
+use Rattle.state_asks.specs.Kept.{IsNotedAs, IsTied}
+use Rattle.state_asks.specs.Counted.{AgreesWith, HasGiftRoom, IsCountedBy}
 
 module _ (inputs : Inputs) (ds : List (List ℕ × Device)) (cs : List Command) where
   abbrev pub other : Inputs

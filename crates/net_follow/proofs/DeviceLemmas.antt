@@ -19,9 +19,9 @@ use Rattle.net_reach.specs.Reach.{IsReachOf, AreTouched}
 use Rattle.asked_places.proofs.OrderLemmas.{rising_below}
 use Rattle.touch_laws.proofs.DeviceLemmas.{same_walk}
 use Rattle.touch_laws.proofs.StateLemmas.{behind_device}
-use Rattle.net_states.specs.declared.states.States.{States}
-use Rattle.net_states.specs.Kept.{AreStatesOf, FollowBut}
-use Rattle.net_states.specs.Counted.{IsCountedBy}
+use Rattle.state_asks.specs.States.{States}
+use Rattle.state_asks.specs.Kept.{AreStatesOf, FollowBut}
+use Rattle.state_asks.specs.Counted.{IsCountedBy}
 use Rattle.net_follow.specs.InStep.{IsCalm}
 use Rattle.net_follow.proofs.CountLemmas.{tied_other}
 use Rattle.net_follow.proofs.KeptLemmas.{Moves, has_member, within_of, rising_few}

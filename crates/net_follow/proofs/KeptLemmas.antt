@@ -8,9 +8,9 @@ use Rattle.net_rules.specs.declared.inputs.Inputs.{Inputs}
 use Rattle.net_rules.specs.Numbers.{AreRising}
 use Rattle.graph_settle.specs.Course.{Course}
 use Rattle.asked_places.specs.Touched.{has}
-use Rattle.net_states.specs.declared.states.States.{States}
-use Rattle.net_states.specs.Kept.{IsTied, FollowBut}
-use Rattle.net_states.specs.Counted.{IsCountedBy}
+use Rattle.state_asks.specs.States.{States}
+use Rattle.state_asks.specs.Kept.{IsTied, FollowBut}
+use Rattle.state_asks.specs.Counted.{IsCountedBy}
 use Rattle.net_follow.specs.declared.follower.Follower.{Follower}
 use Rattle.net_follow.specs.InStep.{inputs_of, HasRoom, IsCalm, IsMoving}
 

@@ -15,9 +15,9 @@ use Rattle.course_laws.proofs.FurtherLemmas.{ready_grown, below_grown, same_clai
 use Rattle.net_claims.specs.declared.state.InterfaceState.{InterfaceState}
 use Rattle.net_reach.specs.declared.reach.Reach.{Reach}
 use Rattle.net_reach.specs.Reach.{IsReachOf}
-use Rattle.net_states.specs.declared.states.States.{States}
-use Rattle.net_states.specs.Kept.{AreStatesOf}
-use Rattle.net_states.specs.Counted.{IsCountedBy}
+use Rattle.state_asks.specs.States.{States}
+use Rattle.state_asks.specs.Kept.{AreStatesOf}
+use Rattle.state_asks.specs.Counted.{IsCountedBy}
 use Rattle.net_follow.specs.declared.follower.Follower.{Follower}
 use Rattle.net_follow.specs.InStep.{inputs_of, IsInStep}
 use Rattle.net_follow.proofs.CountLemmas.{tied_other}

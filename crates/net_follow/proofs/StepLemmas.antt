@@ -11,8 +11,8 @@ use Rattle.touch_laws.specs.Staying.{told_of, FollowTouched}
 use Rattle.known_inputs.specs.Known.{Known}
 use Rattle.graph_settle.specs.Course.{held_of, IsReady}
 use Rattle.asked_places.specs.Touched.{is_touched}
-use Rattle.net_states.specs.Kept.{AreStatesOf}
-use Rattle.net_states.specs.Counted.{IsCountedBy}
+use Rattle.state_asks.specs.Kept.{AreStatesOf}
+use Rattle.state_asks.specs.Counted.{IsCountedBy}
 use Rattle.net_follow.specs.declared.follower.Follower.{Follower}
 use Rattle.net_follow.specs.InStep.{inputs_of, touched_by, HasRoom, IsInStep, HasFollowed}
 

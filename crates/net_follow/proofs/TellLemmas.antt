@@ -23,7 +23,7 @@ use Rattle.claim_moves.specs.Claiming.{HasClaims}
 use Rattle.known_inputs.specs.Steps.{name_of}
 use Rattle.net_claims.specs.declared.state.InterfaceState.{InterfaceState}
 use Rattle.net_gifts.specs.Giving.{HasGivers}
-use Rattle.net_states.specs.Counted.{AgreesWith, HasGiftRoom, IsCountedBy}
+use Rattle.state_asks.specs.Counted.{AgreesWith, HasGiftRoom, IsCountedBy}
 use Rattle.net_follow.specs.InStep.{IsCalm}
 use Rattle.net_follow.proofs.GiftLemmas.{left_places, left_givers}
 use Rattle.net_follow.proofs.CountLemmas.{counted_other}

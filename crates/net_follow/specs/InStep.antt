@@ -11,8 +11,8 @@ use Rattle.graph_laws.specs.Links.{HoldsLinksOfRows}
 use Rattle.graph_settle.specs.Course.{Course, held_of, IsReady}
 use Rattle.course_laws.specs.Beside.{HoldsLower, AreQuiet}
 use Rattle.asked_places.specs.Touched.{is_touched}
-use Rattle.net_states.specs.Kept.{IsTied, AreStatesOf, FollowBut}
-use Rattle.net_states.specs.Counted.{IsCountedBy}
+use Rattle.state_asks.specs.Kept.{IsTied, AreStatesOf, FollowBut}
+use Rattle.state_asks.specs.Counted.{IsCountedBy}
 use Rattle.net_follow.specs.declared.follower.Follower.{Follower}
 
 -- the inputs of the network

@@ -13,7 +13,7 @@ ghost use Rattle.gift_places.specs.Expecting.{HasMorePlaces};
 ghost use Rattle.graph_settle.specs.Course.{held_of};
 ghost use Rattle.net_reach.specs.Groups.{HasRoomAt};
 ghost use Rattle.net_reach.specs.Reach.{IsReachOf, interface_place};
-ghost use Rattle.net_states.specs.Kept.{IsTied};
+ghost use Rattle.state_asks.specs.Kept.{IsTied};
 ghost use Rattle.net_follow.specs.InStep.{inputs_of, IsInStep, LooksAs};
 ghost use Rattle.net_follow.specs.Answering as spec;
 ghost use Rattle.net_follow.specs.Answering.{HasAnswerRoom, layer_by, given_hearing};
@@ -26,9 +26,9 @@ use known_inputs::KnownInputs;
 use net_reach::Reach;
 use net_rows::InterfaceRow;
 use net_rules::Answer;
-use net_states::States;
 use net_view::asks_nothing;
 use plane_io::{Memory, Text};
+use state_asks::States;
 use std::alloc::Global;
 
 impl Follower {

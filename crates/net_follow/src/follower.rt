@@ -1,7 +1,7 @@
 use graph_settle::GraphSettling;
 use known_inputs::KnownInputs;
 use net_rules::Notice;
-use net_states::States;
+use state_asks::States;
 use std::collections::VecDeque;
 
 /// What is kept of a network, in step with its inputs.

@@ -8,9 +8,9 @@ ghost use Rattle.net_claims.specs.declared.state.InterfaceState.{InterfaceState}
 ghost use Rattle.net_reach.specs.Reach.{IsReachOf, AreTouched};
 ghost use Rattle.graph_settle.specs.Course.{held_of, IsReady};
 ghost use Rattle.graph_settle.specs.Leaving.{all_looked_at};
-ghost use Rattle.net_states.specs.declared.states.States.{States};
-ghost use Rattle.net_states.specs.Kept.{AreStatesOf};
-ghost use Rattle.net_states.specs.Counted.{IsCountedBy};
+ghost use Rattle.state_asks.specs.States.{States};
+ghost use Rattle.state_asks.specs.Kept.{AreStatesOf};
+ghost use Rattle.state_asks.specs.Counted.{IsCountedBy};
 ghost use Rattle.net_follow.specs.InStep.{inputs_of, touched_by, HasRoom, IsCalm, IsMoving};
 
 use crate::follower::Follower;

@@ -1,7 +1,7 @@
 -- Lines that ask one of several things.
 use Rattle.std.proofs.Common.{◌≡◌, [], false, inl, inr, refl}
 use Rattle.std.specs.Prelude.{Result, Ok, Err, IfOk}
-use Rattle.net_plane.specs.Network.{Network, moment_of}
+use Rattle.step_net.specs.Network.{Network, moment_of}
 use Rattle.line_texts.specs.declared.line_error.LineError.{LineError}
 use Rattle.step_net.specs.declared.told.Told.{Told}
 use Rattle.step_net.specs.NetLine.{NetLine, refused as refuses}

@@ -8,7 +8,7 @@ use Rattle.net_rules.specs.declared.event.Event.TheVariants as event
 use Rattle.net_rules.specs.declared.refusal.Refusal.{Refusal}
 use Rattle.net_rules.specs.Refusal.{refusal}
 use Rattle.net_rules.specs.Moment.{Moment}
-use Rattle.net_plane.specs.Taken.{IsOfNoDevice}
+use Rattle.step_net.specs.PlaneTaken.{IsOfNoDevice}
 use Rattle.step_net.specs.NetLine.{NetLine, load_within, load_line}
 use Rattle.step_net.specs.Acted.{acted, took_or_refused, shown_or, named_device}
 use Rattle.step_net.specs.Taken.{Asks}

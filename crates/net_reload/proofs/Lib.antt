@@ -4,3 +4,5 @@ pub mod AskLemmas
 pub mod AnswerLemmas
 -- packages that are loaded
 pub mod LoadLemmas
+-- lines over the plane of interfaces, as their crate tells them
+pub use Rattle.step_net.proofs.GrowthLemmas

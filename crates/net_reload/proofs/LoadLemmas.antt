@@ -8,7 +8,7 @@ use Rattle.uci_tree.specs.Fault.{fault_of}
 use Rattle.uci_store.specs.declared.store.Store.{Store}
 use Rattle.uci_store.specs.Refusals.{IsCommitted, HasNoFile, DoesNotRead}
 use Rattle.uci_tool.specs.Folder.{Folder, folder_of}
-use Rattle.net_plane.specs.Network.{Network}
+use Rattle.step_net.specs.Network.{Network}
 use Rattle.line_texts.specs.declared.line_error.LineError.TheVariants as error
 use Rattle.step_net.specs.declared.told.Told.{Told}
 use Rattle.step_net.specs.NetLine.{refused as refuses}

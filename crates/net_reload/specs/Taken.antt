@@ -2,7 +2,7 @@
 use Rattle.std.specs.Prelude.{◌≡◌, ◌⊎◌, [], false, ⊤, IsSomeAnd, Result, Ok, Err}
 use Rattle.uci_tree.specs.declared.tree_error.TreeError.{TreeError}
 use Rattle.uci_tree.specs.Fault.{fault_of}
-use Rattle.net_plane.specs.Network.{Network, moment_of}
+use Rattle.step_net.specs.Network.{Network, moment_of}
 use Rattle.line_texts.specs.declared.line_error.LineError.TheVariants as error
 use Rattle.step_net.specs.declared.told.Told.{Told}
 use Rattle.step_net.specs.NetLine.{NetLine}

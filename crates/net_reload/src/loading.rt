@@ -1,17 +1,16 @@
 ghost use Rattle.std.specs.Prelude.{◌≡◌, [], IfOk, IfErr};
 ghost use Rattle.uci_store.specs.Store.{IsStore};
 ghost use Rattle.uci_tool.specs.Folder.{folder_of};
-ghost use Rattle.net_plane.specs.Network.{HasSameKernel};
+ghost use Rattle.step_net.specs.Network.{HasSameKernel};
 ghost use Rattle.net_reload.specs.Loaded as spec;
 ghost use Rattle.net_reload.specs.Loaded.{IsLoaded, LoadRefuses};
 ghost use Rattle.net_reload.specs.Reload.{ReloadAsks};
 ghost use Rattle.net_reload.specs.Taken.{TakesOne, RefusesUnread};
 
 use line_texts::LineError;
-use net_plane::Net;
 use plane_io::{Items, Memory, Text};
 use std::alloc::Global;
-use step_net::{Told, refuse, take_load};
+use step_net::{Net, Told, refuse, take_load};
 use uci_store::{Store, StoreError};
 use uci_tree::{Package, TreeError};
 

@@ -8,3 +8,5 @@ pub mod Counted
 pub mod Becoming
 -- what is kept before any interface claims or gives something
 pub mod Load
+-- the course of a settling
+pub use Rattle.graph_settle.specs.Course

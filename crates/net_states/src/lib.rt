@@ -6,4 +6,6 @@ mod becoming;
 mod load;
 mod states;
 
+pub use graph_settle::GraphSettling;
+pub use net_looks::Look;
 pub use states::States;

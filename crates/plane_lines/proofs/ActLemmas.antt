@@ -2,15 +2,15 @@
 use Rattle.std.proofs.Common.{ℕ, ◌≡◌, List, [], Option, Some, false, inl, inr, refl, sym, subst}
 use Rattle.std.specs.Prelude.{Result, Ok, Err, IfOk, ◌⊎◌}
 use Rattle.kern_model.specs.declared.kernel.Asked.{Asked}
-use Rattle.net_plane.specs.Network.{Network, moment_of}
+use Rattle.net_reload.specs.Network.{Network, moment_of}
 use Rattle.script_lines.specs.declared.script_line.ScriptLine.{ScriptLine}
 use Rattle.script_lines.specs.declared.script_line.ScriptLine.TheVariants as line
 use Rattle.line_texts.specs.declared.line_error.LineError.{LineError}
-use Rattle.step_net.specs.declared.told.Told.{Told}
-use Rattle.step_net.specs.NetLine.{NetLine, refused as refuses}
-use Rattle.step_net.specs.Acted.{acted}
-use Rattle.step_net.specs.Taken.{telling_in, Takes, Shows, Tries, Telled, Asks, IsLeft}
-use Rattle.step_net.specs.Told.{refused}
+use Rattle.net_reload.specs.LineTold.{Told}
+use Rattle.net_reload.specs.NetLine.{NetLine, refused as refuses}
+use Rattle.net_reload.specs.Acted.{acted}
+use Rattle.net_reload.specs.LineTaken.{telling_in, Takes, Shows, Tries, Telled, Asks, IsLeft}
+use Rattle.net_reload.specs.LineTells.{refused}
 use Rattle.plane_lines.specs.Ground.{Ground}
 use Rattle.plane_lines.specs.Means.{Means, bad_line}
 use Rattle.plane_lines.specs.Done.{Front, Read, ground_at, IsNetUndone, NetDoes, IsOfNet}

@@ -12,10 +12,10 @@ use Rattle.uci_tool.specs.Line.{Carried}
 use Rattle.uci_tool.specs.Passes.{uci_passes}
 use Rattle.uci_tool.specs.Alone.{words_carried, ReportsWords}
 use Rattle.uci_tool.specs.Answers.{Writes, Carries}
-use Rattle.net_plane.specs.Network.{Network}
+use Rattle.net_reload.specs.Network.{Network}
 use Rattle.script_lines.specs.declared.script_line.ScriptLine.TheVariants as line
-use Rattle.step_net.specs.declared.told.Told.{Told}
-use Rattle.step_net.specs.Taken.{telling_in, Telled, Asks, IsTaken}
+use Rattle.net_reload.specs.LineTold.{Told}
+use Rattle.net_reload.specs.LineTaken.{telling_in, Telled, Asks, IsTaken}
 use Rattle.plane_lines.specs.declared.stop.Stop.{Stop}
 use Rattle.plane_lines.specs.declared.stop.Stop.TheVariants as stop
 use Rattle.plane_lines.specs.FilesMoved.{folder_behind}

@@ -12,3 +12,7 @@ pub mod CommandLemmas
 pub mod LiftLemmas
 -- the folders that a line passes through
 pub mod PassLemmas
+-- reloads at which the kernel is asked nothing
+pub use Rattle.net_reload.proofs.AskLemmas
+-- lines over the plane of interfaces, as their crate tells them
+pub use Rattle.net_reload.proofs.GrowthLemmas

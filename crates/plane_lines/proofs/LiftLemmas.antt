@@ -1,13 +1,13 @@
 -- Lines of the plane of interfaces, and of the moment, as lines of a script.
 use Rattle.std.proofs.Common.{ℕ, ◌≡◌, List, [], Option, Some, false, inl, inr, refl, ap, sym, subst}
 use Rattle.std.specs.Prelude.{Result, Ok, Err}
-use Rattle.net_plane.specs.Network.{Network}
+use Rattle.net_reload.specs.Network.{Network}
 use Rattle.script_lines.specs.declared.script_line.ScriptLine.{ScriptLine}
 use Rattle.script_lines.specs.declared.script_line.ScriptLine.TheVariants as line
 use Rattle.uci_store.specs.declared.store.Store.{Store}
 use Rattle.uci_tool.specs.Folder.{Folder, folder_of}
-use Rattle.step_net.specs.declared.told.Told.{Told}
-use Rattle.step_net.specs.Taken.{Telled, Asks}
+use Rattle.net_reload.specs.LineTold.{Told}
+use Rattle.net_reload.specs.LineTaken.{Telled, Asks}
 use Rattle.plane_lines.specs.declared.stop.Stop.{Stop}
 use Rattle.plane_lines.specs.declared.stop.Stop.TheVariants as stop
 use Rattle.plane_lines.specs.FilesMoved.{FilesMoved, stays, files_moved}

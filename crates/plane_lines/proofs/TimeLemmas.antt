@@ -17,12 +17,12 @@ use Rattle.uci_tool.specs.Stops.{StaysOrStops, StopsAmong}
 use Rattle.uci_tool.proofs.CommitLemmas.{same_all}
 use Rattle.uci_tool.proofs.StageLemmas.{never_both}
 use Rattle.uci_tool.proofs.StopLemmas.{step_stops}
-use Rattle.net_plane.specs.Network.{Network}
+use Rattle.net_reload.specs.Network.{Network}
 use Rattle.line_texts.specs.declared.line_error.LineError.TheVariants as error
-use Rattle.step_net.specs.declared.told.Told.{Told}
-use Rattle.step_net.specs.NetLine.{NetLine, refused as refuses, nothing}
-use Rattle.step_net.specs.Taken.{telling_in}
-use Rattle.step_net.specs.Told.{refused, shown}
+use Rattle.net_reload.specs.LineTold.{Told}
+use Rattle.net_reload.specs.NetLine.{NetLine, refused as refuses, nothing}
+use Rattle.net_reload.specs.LineTaken.{telling_in}
+use Rattle.net_reload.specs.LineTells.{refused, shown}
 use Rattle.plane_lines.specs.declared.stop.Stop.TheVariants as stop
 use Rattle.plane_lines.specs.FilesMoved.{FilesMoved, stays, folder_at, at_moved}
 use Rattle.plane_lines.specs.Means.{AtAsks}

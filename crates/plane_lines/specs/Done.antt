@@ -11,12 +11,12 @@ use Rattle.uci_tool.specs.Line.{Carried}
 use Rattle.uci_tool.specs.Answers.{IsAmong}
 use Rattle.uci_tool.specs.Passes.{uci_passes}
 use Rattle.uci_tool.specs.Alone.{words_carried}
-use Rattle.net_plane.specs.Network.{Network}
-use Rattle.step_net.specs.declared.told.Told.{Told}
-use Rattle.step_net.specs.NetLine.{NetLine}
-use Rattle.step_net.specs.Moved.{Telling}
-use Rattle.step_net.specs.Told as told
-use Rattle.step_net.specs.Taken.{telling_in, Telled, Asks, IsTaken, IsLeft}
+use Rattle.net_reload.specs.Network.{Network}
+use Rattle.net_reload.specs.LineTold.{Told}
+use Rattle.net_reload.specs.NetLine.{NetLine}
+use Rattle.net_reload.specs.LineMoved.{Telling}
+use Rattle.net_reload.specs.LineTells as told
+use Rattle.net_reload.specs.LineTaken.{telling_in, Telled, Asks, IsTaken, IsLeft}
 use Rattle.line_texts.specs.declared.line_error.LineError.TheVariants as error
 use Rattle.plane_lines.specs.declared.stop.Stop.{Stop}
 use Rattle.plane_lines.specs.declared.stop.Stop.TheVariants as stop

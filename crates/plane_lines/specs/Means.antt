@@ -17,7 +17,7 @@ use Rattle.answer_json.specs.AnswerJson.{IsAnswer}
 use Rattle.answer_json.specs.PortsJson.{ArePorts}
 use Rattle.line_texts.specs.declared.line_error.LineError.{LineError}
 use Rattle.line_texts.specs.declared.line_error.LineError.TheVariants as error
-use Rattle.step_net.specs.NetLine.{NetLine, refused, nothing}
+use Rattle.net_reload.specs.NetLine.{NetLine, refused, nothing}
 use Rattle.plane_lines.specs.Ground.{Ground}
 use Rattle.plane_lines.specs.FilesMoved.{folder_at}
 use Rattle.net_reload.specs.Reload.{ReloadAsks}

@@ -1,6 +1,6 @@
 ghost use Rattle.std.specs.Prelude.{ℕ, ◌≡◌, [], Some};
-ghost use Rattle.net_plane.specs.Network.{IsOf};
-ghost use Rattle.step_net.specs.Taken.{telled_of};
+ghost use Rattle.net_reload.specs.Network.{IsOf};
+ghost use Rattle.net_reload.specs.LineTaken.{telled_of};
 ghost use Rattle.uci_store.specs.Store.{IsStore};
 ghost use Rattle.uci_tool.specs.Answers.{IsOpen};
 ghost use Rattle.uci_tool.specs.Folder.{folder_of};
@@ -16,15 +16,14 @@ use crate::commands::carry_uci;
 use crate::stop::Stop;
 use crate::time::go_to;
 use kern_model::Kernel;
-use net_plane::Net;
-use net_reload::reload;
+use net_reload::{
+    Net, Told, reload, show_device, show_dump, show_interface, show_radio, take_device,
+    take_operator,
+};
 use plane_disk::Disk;
 use plane_io::Memory;
 use script_lines::ScriptLine;
 use std::alloc::Global;
-use step_net::{
-    Told, show_device, show_dump, show_interface, show_radio, take_device, take_operator,
-};
 use uci_store::Store;
 
 /// Acts on what a line asks for, which stands at this number in the script. The calls of its settling are not made.

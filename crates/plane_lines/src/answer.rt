@@ -1,20 +1,19 @@
 ghost use Rattle.std.specs.Prelude.{◌≡◌, [], IfOk};
 ghost use Rattle.std.specs.Option.{option_map};
 ghost use Rattle.serde_json.specs.View.{view};
-ghost use Rattle.net_plane.specs.Network.{HasSameKernel};
-ghost use Rattle.step_net.specs.Told as told_spec;
-ghost use Rattle.step_net.specs.Taken.{telling_in};
+ghost use Rattle.net_reload.specs.Network.{HasSameKernel};
+ghost use Rattle.net_reload.specs.LineTells as told_spec;
+ghost use Rattle.net_reload.specs.LineTaken.{telling_in};
 ghost use Rattle.line_texts.specs.declared.line_error.LineError.TheVariants as error;
 ghost use Rattle.plane_lines.specs.Means.{json_of, AnswerAsks, RadioAsks};
 ghost use Rattle.net_reload.specs.Taken.{TakesOne};
 
 use answer_json::{read_answer, read_ports};
 use line_texts::LineError;
-use net_plane::Net;
+use net_reload::{Net, Told, refuse, take_answer, take_radio};
 use plane_io::{Memory, Text};
 use serde_json::Value;
 use std::alloc::Global;
-use step_net::{Told, refuse, take_answer, take_radio};
 
 /// The handler of an interface answers an ask, in a line at this number of the script.
 pub(crate) fn answer_interface(

@@ -9,4 +9,5 @@ mod stop;
 mod time;
 
 pub use act::act_on;
+pub use net_reload::{Net, NetError, finish, lines_of_asks, load_package, settle_and_show};
 pub use stop::Stop;

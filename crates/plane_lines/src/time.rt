@@ -1,7 +1,7 @@
 //! The moment of a script.
 ghost use Rattle.std.specs.Prelude.{◌≡◌, ◌≢◌, [], false, Err};
 ghost use Rattle.snap_disk.specs.Images.{SameDisk};
-ghost use Rattle.net_plane.specs.Network.{HasSameKernel};
+ghost use Rattle.net_reload.specs.Network.{HasSameKernel};
 ghost use Rattle.uci_store.specs.Store.{names_of, staged_in, has_failed, IsOnFiles};
 ghost use Rattle.uci_tool.specs.Folder.{folder_of};
 ghost use Rattle.uci_tool.specs.Stops.{StaysOrStops};
@@ -11,11 +11,9 @@ ghost use Rattle.plane_lines.specs.Done.{GoesTo};
 
 use crate::stop::Stop;
 use line_texts::LineError;
-use net_plane::Net;
-use net_reload::reload;
+use net_reload::{Net, Told, refuse, reload, tell_nothing};
 use plane_disk::Disk;
 use std::alloc::Global;
-use step_net::{Told, refuse, tell_nothing};
 use uci_store::Store;
 
 /// The moment becomes this one, unless it is before the last. An apply whose deadline has come is undone, and then the files are

@@ -1,6 +1,5 @@
 use plane_io::MemSink;
-use plane_main::lack_memory;
-use plane_session::{Failing, LAN, Session, run};
+use plane_session::{Failing, LAN, Session, lack_memory, run};
 use std::alloc::Global;
 use std::test::Fail;
 

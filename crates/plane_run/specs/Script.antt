@@ -10,7 +10,7 @@ use Rattle.uci_tree.specs.Fault.{fault_of_text}
 use Rattle.uci_tool.specs.Ends.{Stream}
 use Rattle.line_texts.specs.declared.line_error.LineError.TheVariants as error
 use Rattle.line_texts.specs.ErrorLine.{error_line}
-use Rattle.bus_lines.specs.World.{World}
+use Rattle.plane_step.specs.World.{World}
 use Rattle.plane_step.specs.Plain.{ArePlain}
 use Rattle.plane_step.specs.Moved.{Luck, Moved, Folds}
 use Rattle.plane_run.specs.declared.script.Script.{Script}

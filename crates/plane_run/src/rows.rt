@@ -3,12 +3,12 @@ ghost use Rattle.std.specs.Prelude.{◌≡◌, IfOk, IfErr, IfSome, IfNone};
 ghost use Rattle.uci_store.specs.Store.{IsStore};
 ghost use Rattle.uci_tree.specs.Fault.{fault_of};
 ghost use Rattle.uci_tool.specs.Folder.{folder_of};
-ghost use Rattle.net_reload.specs.Loaded.{IsLoaded, network_name, wireless_name};
+ghost use Rattle.plane_step.specs.Loaded.{IsLoaded, network_name, wireless_name};
 ghost use Rattle.plane_run.specs.RunEnd.{name_of};
 ghost use Rattle.plane_run.specs.Parts.{LoadRefuses, RowsRefuse};
 
 use crate::run_end::{RowPackage, RunEnd};
-use net_reload::load_package;
+use plane_step::load_package;
 use std::alloc::Global;
 use uci_store::Store;
 use uci_tree::{Package, TreeError};

@@ -6,5 +6,6 @@ mod session;
 mod texts;
 
 pub use folder::Folder;
+pub use plane_main::lack_memory;
 pub use session::{Failing, Session, run, run_over};
 pub use texts::{LAN, ROUTER};

@@ -12,3 +12,5 @@ pub mod LiftLemmas
 pub mod LineLemmas
 -- scripts that are carried out
 pub mod ScriptLemmas
+-- lines over the plane of interfaces, as their crate tells them
+pub use Rattle.plane_lines.proofs.GrowthLemmas

@@ -7,11 +7,11 @@ use Rattle.script_lines.specs.declared.script_line.ScriptLine.{ScriptLine}
 use Rattle.script_lines.specs.declared.script_line.ScriptLine.TheVariants as line
 use Rattle.uci_tool.specs.Folder.{Folder}
 use Rattle.net_rules.specs.Moment.{Moment}
-use Rattle.net_plane.specs.Network.{Network, moment_of}
-use Rattle.step_net.specs.declared.told.Told.{Told}
-use Rattle.step_net.specs.Acted.{acted}
-use Rattle.step_net.specs.Moved.{Telling, once_if}
-use Rattle.step_net.specs.Taken.{Asks, IsLeft}
+use Rattle.plane_lines.specs.Network.{Network, moment_of}
+use Rattle.plane_lines.specs.LineTold.{Told}
+use Rattle.plane_lines.specs.Acted.{acted}
+use Rattle.plane_lines.specs.LineMoved.{Telling, once_if}
+use Rattle.plane_lines.specs.LineTaken.{Asks, IsLeft}
 use Rattle.plane_lines.specs.declared.stop.Stop.{Stop}
 use Rattle.plane_lines.specs.declared.stop.Stop.TheVariants as stop
 use Rattle.plane_lines.specs.Faults as plain
@@ -19,9 +19,9 @@ use Rattle.plane_lines.proofs.PassLemmas.{front_passed}
 use Rattle.plane_lines.specs.Done.{Front, Behind, IsDone as PlainIsDone, IsNetUndone, Does as PlainLineDoes}
 use Rattle.local_answers.specs.declared.uci_answer.CallStop.{CallStop}
 use Rattle.local_answers.specs.declared.uci_answer.CallStop.TheVariants as call
-use Rattle.script_clients.specs.Bus.{part_of}
-use Rattle.local_objects.specs.Cut.{Cut, IsCutSo, untouched}
-use Rattle.local_objects.specs.Kept.{faults_of}
+use Rattle.bus_lines.specs.ClientBus.{part_of}
+use Rattle.bus_lines.specs.ObjectsCut.{Cut, IsCutSo, untouched}
+use Rattle.bus_lines.specs.ObjectsKept.{faults_of}
 use Rattle.bus_lines.specs.declared.callers.Callers.{Callers}
 use Rattle.bus_lines.specs.declared.caller_line.CallerLine.{CallerLine}
 use Rattle.bus_lines.specs.declared.caller_line.CallerLine.TheVariants as caller

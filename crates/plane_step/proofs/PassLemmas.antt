@@ -14,7 +14,7 @@ use Rattle.uci_tool.specs.Answers.{IsAmong}
 use Rattle.uci_tool.specs.Stops.{OpensAmong, StaysOrStops}
 use Rattle.script_lines.specs.declared.script_line.ScriptLine.{ScriptLine}
 use Rattle.plane_lines.specs.FilesMoved.{files_moved}
-use Rattle.local_objects.specs.Passed.{OpensIn, StopsIn, StaysOrStopsIn}
+use Rattle.bus_lines.specs.ObjectsPassed.{OpensIn, StopsIn, StaysOrStopsIn}
 use Rattle.bus_lines.specs.World.{World}
 use Rattle.bus_lines.specs.Words.{Supply}
 use Rattle.plane_step.specs.Passed.{LinePasses, PlainPasses}

@@ -7,8 +7,8 @@ use Rattle.uci_tool.specs.Answers.{IsOpen}
 use Rattle.local_answers.specs.declared.uci_answer.CallStop.{CallStop}
 use Rattle.local_answers.specs.declared.uci_answer.CallStop.TheVariants as call
 use Rattle.local_answers.specs.SessionCall.{StaysOpen}
-use Rattle.local_objects.specs.Kept.{StaysOn as CallStays}
-use Rattle.local_objects.proofs.StoreLemmas.{stays_open}
+use Rattle.bus_lines.specs.ObjectsKept.{StaysOn as CallStays}
+use Rattle.bus_lines.proofs.ObjectsStoreLemmas.{stays_open}
 use Rattle.bus_lines.specs.declared.handled.Handled.{Handled}
 use Rattle.plane_lines.specs.declared.stop.Stop.{Stop}
 use Rattle.plane_lines.specs.declared.stop.Stop.TheVariants as stop

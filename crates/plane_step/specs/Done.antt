@@ -5,7 +5,7 @@ use Rattle.script_lines.specs.declared.script_line.ScriptLine.{ScriptLine}
 use Rattle.script_lines.specs.declared.script_line.ScriptLine.TheVariants as line
 use Rattle.local_answers.specs.declared.uci_answer.CallStop.{CallStop}
 use Rattle.local_answers.specs.declared.uci_answer.CallStop.TheVariants as call
-use Rattle.local_objects.specs.Cut.{Cut, untouched}
+use Rattle.bus_lines.specs.ObjectsCut.{Cut, untouched}
 use Rattle.bus_lines.specs.declared.caller_line.CallerLine.{CallerLine}
 use Rattle.bus_lines.specs.declared.caller_line.CallerLine.TheVariants as caller
 use Rattle.bus_lines.specs.Did.{Did}

@@ -9,5 +9,5 @@ mod script;
 
 pub use bus_lines::Callers;
 pub use carrying::carry_out;
-pub use plane_lines::Stop;
+pub use plane_lines::{Net, NetError, Stop, lines_of_asks, load_package, settle_and_show};
 pub use script::run_lines;

@@ -8,3 +8,6 @@ pub mod Fed
 pub mod Sends
 -- a message bus with the clients of a script
 pub mod Bus
+-- the broker, as its crate tells it
+pub use Rattle.ubus_broker.specs.Did as BrokerDid
+pub use Rattle.ubus_broker.specs.declared.broker.Broker

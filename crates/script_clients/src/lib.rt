@@ -9,3 +9,4 @@ mod sends;
 pub use client_error::ClientError;
 pub use clients::{Fed, ScriptClient};
 pub use script_bus::ScriptBus;
+pub use ubus_broker::LocalCall;

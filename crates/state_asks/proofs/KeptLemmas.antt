@@ -9,7 +9,7 @@ use Rattle.net_rules.specs.declared.inputs.OpenInterface.{OpenInterface}
 use Rattle.net_rules.specs.Rows.{asks_nothing}
 use Rattle.net_rules.specs.Inputs.{facts_of}
 use Rattle.net_reach.specs.Reach.{IsReachOf}
-use Rattle.graph_settle.specs.Course.{Course}
+use Rattle.net_states.specs.Course.{Course}
 use Rattle.net_claims.specs.declared.state.InterfaceState.{InterfaceState}
 use Rattle.net_claims.specs.States.{is_first, IsIdle}
 use Rattle.net_claims.proofs.MoveLemmas.{some_is}

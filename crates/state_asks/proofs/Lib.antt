@@ -7,3 +7,6 @@ pub mod OpenedLemmas
 pub mod StepLemmas
 pub mod LosingLemmas
 pub mod OpeningLemmas
+-- what is kept of interfaces, as its crate tells it
+pub use Rattle.net_states.proofs.BecomeLemmas
+pub use Rattle.net_states.proofs.PlaceLemmas

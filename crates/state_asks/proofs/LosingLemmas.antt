@@ -13,7 +13,7 @@ use Rattle.known_inputs.specs.Steps.{ask_of, without_ask}
 use Rattle.net_reach.specs.declared.reach.Reach.{Reach}
 use Rattle.net_reach.specs.Reach.{IsReachOf, interface_place}
 use Rattle.net_reach.specs.Layers.{TellsLayer}
-use Rattle.graph_settle.specs.Course.{Course}
+use Rattle.net_states.specs.Course.{Course}
 use Rattle.net_claims.specs.declared.state.InterfaceState.{InterfaceState}
 use Rattle.asked_places.specs.Touched.{has}
 use Rattle.asked_places.specs.Losing.{lost_at, left_at}

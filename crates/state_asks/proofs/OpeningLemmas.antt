@@ -9,7 +9,7 @@ use Rattle.net_rules.specs.Rows.{interface_named}
 use Rattle.net_rules.specs.Inputs.{facts_of, open_interface}
 use Rattle.known_inputs.specs.Known.{Known, IsNamed}
 use Rattle.known_inputs.specs.Steps.{with_ask}
-use Rattle.graph_settle.specs.Course.{Course}
+use Rattle.net_states.specs.Course.{Course}
 use Rattle.net_claims.specs.declared.state.InterfaceState.{InterfaceState}
 use Rattle.net_claims.proofs.MoveLemmas.{some_is}
 use Rattle.asked_places.specs.Touched.{has}

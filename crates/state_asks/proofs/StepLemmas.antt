@@ -14,7 +14,7 @@ use Rattle.net_rules.specs.After.{opened_interfaces}
 use Rattle.net_rules.specs.Notices.{interface_notice}
 use Rattle.net_asked.specs.Touched.{lost_numbers, asked_of}
 use Rattle.known_inputs.specs.Known.{Known, StandOnce}
-use Rattle.graph_settle.specs.Course.{Course}
+use Rattle.net_states.specs.Course.{Course}
 use Rattle.asked_places.specs.Touched.{is_touched}
 use Rattle.asked_places.specs.Losing.{lost_at, lost_at_places, left_at}
 use Rattle.asked_places.specs.Opening.{opened_at, with_opened, opened_after, opened_notices, told_of_all}

@@ -4,3 +4,8 @@
 pub mod Asking
 -- what is told of one ask
 pub mod Telling
+-- what is kept of interfaces, as its crate tells it
+pub use Rattle.net_states.specs.Becoming
+pub use Rattle.net_states.specs.Counted
+pub use Rattle.net_states.specs.Kept
+pub use Rattle.net_states.specs.declared.states.States

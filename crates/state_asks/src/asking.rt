@@ -8,11 +8,9 @@ ghost use Rattle.net_claims.specs.declared.state.InterfaceState.{InterfaceState}
 ghost use Rattle.net_states.specs.Counted.{AgreesWith};
 ghost use Rattle.state_asks.specs.Asking as spec;
 
-use graph_settle::GraphSettling;
 use known_inputs::KnownInputs;
-use net_looks::Look;
 use net_rules::InterfaceAsk;
-use net_states::States;
+use net_states::{GraphSettling, Look, States};
 use net_view::asks_nothing;
 
 /// What stands once in inputs always does.

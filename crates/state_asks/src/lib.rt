@@ -7,4 +7,5 @@ mod opening;
 mod renewing;
 mod telling;
 
+pub use net_states::States;
 pub use renewing::renew;

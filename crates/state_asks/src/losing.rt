@@ -9,11 +9,10 @@ ghost use Rattle.asked_places.specs.Losing.{lost_at, lost_at_places, left_at};
 ghost use Rattle.state_asks.specs.Asking.{AreBetween};
 
 use crate::asking::{keep_ask, needs_ask};
-use graph_settle::GraphSettling;
 use kern_model::DevName;
 use known_inputs::KnownInputs;
 use net_rules::{Answer, OpenInterface};
-use net_states::States;
+use net_states::{GraphSettling, States};
 
 /// The asks of the interfaces at some places are lost that are no longer needed. Their numbers are noted.
 pub(crate) fn lose_asks(

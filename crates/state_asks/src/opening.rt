@@ -14,10 +14,9 @@ ghost use Rattle.state_asks.specs.Asking.{AreBetween};
 
 use crate::asking::{keep_ask, needs_ask};
 use crate::telling::tell_one;
-use graph_settle::GraphSettling;
 use known_inputs::KnownInputs;
 use net_rules::{InterfaceAsk, Notice};
-use net_states::States;
+use net_states::{GraphSettling, States};
 use std::collections::VecDeque;
 
 /// Interfaces at some places that need an ask and have none get one, and it is told.

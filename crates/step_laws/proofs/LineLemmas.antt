@@ -10,8 +10,8 @@ use Rattle.step_net.specs.Moved.{fails_first}
 use Rattle.step_net.specs.NetLine.{NetLine}
 use Rattle.plane_lines.specs.Ground.{Ground}
 use Rattle.plane_lines.specs.Means.{Means}
-use Rattle.bus_lines.specs.World.{World}
-use Rattle.bus_lines.specs.Did.{Did}
+use Rattle.plane_step.specs.World.{World}
+use Rattle.plane_step.specs.CallerDid.{Did}
 use Rattle.plane_step.specs.Expiry.{Goes, Reached, Expired, keeping}
 use Rattle.plane_step.specs.Does.{Does, PlainDoes, AtDoes, ground_of, plain_did}
 use Rattle.plane_step.specs.Plain.{IsPlain}

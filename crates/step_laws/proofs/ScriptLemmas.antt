@@ -3,8 +3,8 @@ use Rattle.std.proofs.Common.{ℕ, ◌≡◌, List, [], ◌∷◌, ◌++◌, Opt
 use Rattle.uci_text.specs.declared.line.Line.{Line}
 use Rattle.script_lines.specs.declared.script_line.ScriptLine.{ScriptLine}
 use Rattle.script_lines.specs.Lines.{line_of}
-use Rattle.bus_lines.specs.World.{World}
-use Rattle.bus_lines.specs.Did.{Did}
+use Rattle.plane_step.specs.World.{World}
+use Rattle.plane_step.specs.CallerDid.{Did}
 use Rattle.plane_step.specs.Does.{Does}
 use Rattle.plane_step.specs.Moved.{Luck, Moved, moved, followed, Folds}
 use Rattle.plane_step.specs.Plain.{IsPlain, ArePlain}

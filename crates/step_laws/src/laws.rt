@@ -5,8 +5,8 @@ ghost use Rattle.script_lines.specs.declared.script_line.ScriptLine.{ScriptLine}
 ghost use Rattle.step_net.specs.NetLine.{NetLine};
 ghost use Rattle.plane_lines.specs.Ground.{Ground};
 ghost use Rattle.plane_lines.specs.Means.{Means};
-ghost use Rattle.bus_lines.specs.World.{World};
-ghost use Rattle.bus_lines.specs.Did.{Did};
+ghost use Rattle.plane_step.specs.World.{World};
+ghost use Rattle.plane_step.specs.CallerDid.{Did};
 ghost use Rattle.plane_step.specs.Does.{Does};
 ghost use Rattle.plane_step.specs.Moved.{Luck, Moved, Folds};
 ghost use Rattle.plane_step.specs.Plain.{IsPlain, ArePlain};

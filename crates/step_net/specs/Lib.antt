@@ -14,3 +14,9 @@ pub mod Told
 pub mod Taken
 -- what a settling and an answer left outside
 pub mod Finished
+-- the plane of interfaces, as its crate tells it
+pub use Rattle.net_plane.specs.NetError as PlaneErrors
+pub use Rattle.net_plane.specs.Network
+pub use Rattle.net_plane.specs.Settled as PlaneSettled
+pub use Rattle.net_plane.specs.Taken as PlaneTaken
+pub use Rattle.net_plane.specs.declared.net_error.NetError

@@ -1,5 +1,5 @@
 use Rattle.std.proofs.Common.{refl}
-use Rattle.step_net.specs.Taken.{telled_of}
+use Rattle.local_objects.specs.LineTaken.{telled_of}
 use Rattle.local_objects.specs.Passed.{CallPasses}
 use Rattle.local_objects.specs.Cut.{CallCuts}
 use Rattle.local_objects.specs.Kept.{faults_of}

@@ -1,6 +1,6 @@
 use Rattle.std.proofs.Common.{sym}
 use Rattle.std.specs.Prelude.{Err}
-use Rattle.step_net.specs.Taken.{telled_of}
+use Rattle.local_objects.specs.LineTaken.{telled_of}
 use Rattle.local_objects.specs.Kept.{faults_of}
 use Rattle.script_clients.specs.Bus.{part_of}
 use Rattle.bus_lines.specs.declared.callers.Callers.{Callers}

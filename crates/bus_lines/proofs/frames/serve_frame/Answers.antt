@@ -1,5 +1,5 @@
 use Rattle.std.proofs.Common.{refl, ap, sym, ◌∙◌}
-use Rattle.step_net.specs.Taken.{telled_of}
+use Rattle.local_objects.specs.LineTaken.{telled_of}
 use Rattle.script_clients.specs.Bus.{BusPart}
 use Rattle.local_objects.specs.Kept.{faults_of}
 use Rattle.bus_lines.specs.declared.callers.Callers.{Callers}

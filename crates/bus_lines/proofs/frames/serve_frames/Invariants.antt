@@ -1,8 +1,8 @@
 use Rattle.std.proofs.Common.{◌≡◌, ◌++◌, List, [], length}
 use Rattle.std.specs.Prelude.{Ok}
 use Rattle.ubus_frames.specs.declared.frame.Frame.{Frame}
-use Rattle.net_plane.specs.Network.{IsOf}
-use Rattle.step_net.specs.Taken.{telled_of}
+use Rattle.local_objects.specs.Network.{IsOf}
+use Rattle.local_objects.specs.LineTaken.{telled_of}
 use Rattle.local_objects.specs.Passed.{StaysOrStopsIn}
 use Rattle.local_objects.specs.Kept.{StaysOn, faults_of}
 use Rattle.bus_lines.specs.Passed.{FramesPass}

@@ -3,7 +3,7 @@ use Rattle.std.specs.Prelude.{filter, nat_lt}
 use Rattle.graph_objects.specs.declared.slot.Wish.{Wish}
 use Rattle.use_counts.specs.Uses.{Marking}
 use Rattle.graph_rules.specs.State.{Known}
-use Rattle.graph_wishes.specs.Wishes.{mays}
+use Rattle.graph_tables.specs.Wishes.{mays}
 use Rattle.graph_tables.specs.Wished.{wish_in}
 use Rattle.graph_tables.specs.Lists.{AreUsed, HaveSame}
 use Rattle.dev_graph.specs.Added.{added}

@@ -1,6 +1,6 @@
 use Rattle.std.specs.Prelude.{Ok, Err}
-use Rattle.step_net.specs.Taken.{telled_of}
-use Rattle.net_reload.proofs.AskLemmas.{asks_nothing}
+use Rattle.net_calls.specs.LineTaken.{telled_of}
+use Rattle.net_calls.proofs.AskLemmas.{asks_nothing}
 use Rattle.local_answers.specs.declared.uci_answer.CallStop.TheVariants as stop
 use Rattle.local_objects.specs.declared.local_object.LocalObject.TheVariants.{Session, Uci, Network}
 use Rattle.local_objects.specs.Ended.{parts_of}

@@ -2,8 +2,8 @@ use Rattle.std.proofs.Common.{◌≡◌, refl, ap, subst, ◌∙◌, true, false
 use Rattle.std.specs.Prelude.{◌⊎◌, Ok}
 use Rattle.serde_json.specs.View.{view}
 use Rattle.kern_model.specs.Name.{is_name}
-use Rattle.net_plane.specs.declared.net_error.NetError.TheVariants as net_error
-use Rattle.net_plane.specs.Network.{moment_of}
+use Rattle.step_net.specs.NetError.TheVariants as net_error
+use Rattle.step_net.specs.Network.{moment_of}
 use Rattle.net_status.specs.Devices.{device_status}
 use Rattle.plane_io.specs.declared.outcome.Memory.{Memory}
 use Rattle.step_net.specs.NetLine.{NetLine}

@@ -1,6 +1,6 @@
 use Rattle.std.proofs.Common.{refl}
 use Rattle.serde_json.specs.View.{view}
-use Rattle.net_plane.specs.declared.net_error.NetError.TheVariants as net_error
+use Rattle.step_net.specs.NetError.TheVariants as net_error
 use Rattle.net_status.specs.Radios.{radio_status}
 use Rattle.step_net.specs.NetLine.{NetLine}
 use Rattle.net_answers.proofs.ShowLemmas.{shows, shows_none}

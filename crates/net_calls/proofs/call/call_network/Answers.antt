@@ -1,4 +1,4 @@
-use Rattle.step_net.specs.Taken.{telled_of}
+use Rattle.net_reload.specs.LineTaken.{telled_of}
 use Rattle.uci_tool.specs.Folder.{folder_of}
 use Rattle.net_calls.proofs.CallLemmas.{answers_carried}
 use Rattle.net_calls.proofs.call.call_network.Goals as goal

@@ -1,9 +1,9 @@
 use Rattle.std.proofs.Common.{refl}
 use Rattle.net_rules.specs.declared.event.Event.TheVariants as event
-use Rattle.net_plane.specs.Network.{moment_of}
+use Rattle.net_reload.specs.Network.{moment_of}
 use Rattle.uci_tool.specs.Folder.{folder_of}
-use Rattle.step_net.specs.NetLine.{NetLine}
-use Rattle.step_net.specs.Taken.{telled_of}
+use Rattle.net_reload.specs.NetLine.{NetLine}
+use Rattle.net_reload.specs.LineTaken.{telled_of}
 use Rattle.net_objects.specs.declared.net_call.NetCall.TheVariants as call
 use Rattle.net_reload.proofs.AskLemmas.{asks_nothing}
 use Rattle.net_reload.proofs.AskLemmas.{happening_asks}

@@ -10,8 +10,8 @@ use Rattle.net_rules.specs.Interfaces.{device_or_own}
 use Rattle.net_rules.specs.Inputs.{facts_of}
 use Rattle.net_wants.specs.Grouped.{is_route_named}
 use Rattle.gift_places.specs.Expecting.{listed_given, with_places}
-use Rattle.net_states.proofs.PlaceLemmas.{read_same}
-use Rattle.net_states.proofs.BecomeLemmas.{stands, device_noted}
+use Rattle.state_asks.proofs.PlaceLemmas.{read_same}
+use Rattle.state_asks.proofs.BecomeLemmas.{stands, device_noted}
 use Rattle.net_follow.specs.Answering.{heard, layer_by}
 use Rattle.net_follow.proofs.AwaitLemmas.{on_ok}
 use Rattle.net_follow.proofs.MoreLemmas.{none_given, all_given}

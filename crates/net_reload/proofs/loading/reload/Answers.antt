@@ -1,4 +1,4 @@
-use Rattle.net_plane.specs.Network.{moment_of}
+use Rattle.step_net.specs.Network.{moment_of}
 use Rattle.step_net.specs.NetLine.{load_line}
 use Rattle.uci_tool.specs.Folder.{folder_of}
 use Rattle.net_reload.specs.Loaded.{network_name, wireless_name}

@@ -2,7 +2,7 @@ use Rattle.std.proofs.Common.{ℕ, List, Option, Some, None, inl, refl, ap, sym,
 use Rattle.script_lines.specs.declared.script_line.ScriptLine.{ScriptLine}
 use Rattle.script_lines.specs.declared.script_line.ScriptLine.TheVariants as line
 use Rattle.line_texts.specs.declared.line_error.LineError.TheVariants as error
-use Rattle.step_net.specs.Taken.{telled_of}
+use Rattle.net_reload.specs.LineTaken.{telled_of}
 use Rattle.uci_tool.specs.Folder.{folder_of}
 use Rattle.uci_tool.specs.Stops.{StaysOrStops}
 use Rattle.plane_lines.specs.FilesMoved.{files_moved}

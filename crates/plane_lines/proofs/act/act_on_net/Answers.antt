@@ -1,11 +1,11 @@
 use Rattle.std.proofs.Common.{refl}
 use Rattle.std.specs.Prelude.{Some}
 use Rattle.net_rules.specs.declared.event.Event.TheVariants as event
-use Rattle.net_plane.specs.Network.{moment_of}
+use Rattle.net_reload.specs.Network.{moment_of}
 use Rattle.script_lines.specs.declared.script_line.ScriptLine.TheVariants as line
 use Rattle.line_texts.specs.declared.line_error.LineError.TheVariants as error
-use Rattle.step_net.specs.NetLine.{NetLine}
-use Rattle.step_net.specs.Taken.{telled_of}
+use Rattle.net_reload.specs.NetLine.{NetLine}
+use Rattle.net_reload.specs.LineTaken.{telled_of}
 use Rattle.uci_tool.specs.Folder.{folder_of}
 use Rattle.plane_lines.specs.Done.{Front, Read, ground_at}
 use Rattle.plane_lines.specs.Means.{AnswerAsks, RadioAsks}

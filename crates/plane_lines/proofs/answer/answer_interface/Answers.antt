@@ -6,8 +6,8 @@ use Rattle.answer_json.specs.AnswerJson.{IsAnswer}
 use Rattle.net_rules.specs.declared.answer.Answer.{Answer}
 use Rattle.net_rules.specs.declared.event.Event.TheVariants as event
 use Rattle.line_texts.specs.declared.line_error.LineError.TheVariants as error
-use Rattle.net_plane.specs.Network.{moment_of}
-use Rattle.step_net.specs.NetLine.{NetLine}
+use Rattle.net_reload.specs.Network.{moment_of}
+use Rattle.net_reload.specs.NetLine.{NetLine}
 use Rattle.plane_lines.specs.Means.{json_of, AnswerAsks}
 use Rattle.net_reload.proofs.AskLemmas.{happening_asks}
 use Rattle.net_reload.proofs.AnswerLemmas.{takes_this, takes_refused}

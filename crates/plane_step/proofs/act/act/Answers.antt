@@ -2,11 +2,11 @@ use Rattle.std.proofs.Common.{◌≡◌, [], Option, Some, sym, subst}
 use Rattle.std.specs.Prelude.{Result}
 use Rattle.script_lines.specs.declared.script_line.ScriptLine.{ScriptLine}
 use Rattle.script_lines.specs.declared.script_line.ScriptLine.TheVariants as line
-use Rattle.step_net.specs.Taken.{telled_of}
+use Rattle.plane_lines.specs.LineTaken.{telled_of}
 use Rattle.plane_lines.specs.declared.stop.Stop.{Stop}
 use Rattle.plane_lines.specs.Kept.{StaysOn}
-use Rattle.local_objects.specs.Kept.{faults_of}
-use Rattle.local_objects.specs.Passed.{StaysOrStopsIn}
+use Rattle.bus_lines.specs.ObjectsKept.{faults_of}
+use Rattle.bus_lines.specs.ObjectsPassed.{StaysOrStopsIn}
 use Rattle.bus_lines.specs.declared.callers.SpareWord.{SpareWord}
 use Rattle.bus_lines.specs.declared.handled.Handled.{Handled}
 use Rattle.bus_lines.specs.Words.{supply_of}

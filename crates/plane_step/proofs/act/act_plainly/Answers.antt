@@ -1,6 +1,6 @@
 use Rattle.std.proofs.Common.{◌∙◌}
 use Rattle.std.specs.Prelude.{Ok}
-use Rattle.step_net.specs.Taken.{telled_of}
+use Rattle.plane_lines.specs.LineTaken.{telled_of}
 use Rattle.uci_tool.specs.Folder.{folder_of}
 use Rattle.plane_lines.specs.Done.{Front, Behind}
 use Rattle.plane_lines.specs.FilesMoved.{files_moved}

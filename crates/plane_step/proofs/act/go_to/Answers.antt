@@ -1,11 +1,11 @@
 use Rattle.std.proofs.Common.{inl, refl, Some}
 use Rattle.std.specs.Prelude.{Ok, Err}
 use Rattle.script_lines.specs.declared.script_line.ScriptLine.TheVariants as line
-use Rattle.step_net.specs.Taken.{telled_of}
-use Rattle.net_reload.proofs.AskLemmas.{asks_nothing}
+use Rattle.plane_lines.specs.LineTaken.{telled_of}
+use Rattle.plane_lines.proofs.AskLemmas.{asks_nothing}
 use Rattle.plane_lines.specs.declared.stop.Stop.TheVariants as stop
 use Rattle.plane_lines.proofs.StoreLemmas.{stays_both}
-use Rattle.local_objects.specs.Kept.{faults_of}
+use Rattle.bus_lines.specs.ObjectsKept.{faults_of}
 use Rattle.bus_lines.specs.Ended.{world_of}
 use Rattle.plane_step.specs.Passed.{PlainPasses, AtPasses}
 use Rattle.plane_step.proofs.LiftLemmas.{at_halts, at_ends, at_passes}

@@ -1,10 +1,10 @@
 use Rattle.std.proofs.Common.{Option, ap, sym, subst, ◌∙◌}
 use Rattle.script_lines.specs.declared.script_line.ScriptLine.{ScriptLine}
 use Rattle.script_lines.specs.Lines.{line_of}
-use Rattle.net_reload.proofs.AskLemmas.{asks_nothing}
-use Rattle.local_objects.specs.Kept.{faults_of}
-use Rattle.local_objects.specs.Passed.{StaysOrStopsIn}
-use Rattle.step_net.specs.Taken.{telled_of}
+use Rattle.plane_lines.proofs.AskLemmas.{asks_nothing}
+use Rattle.bus_lines.specs.ObjectsKept.{faults_of}
+use Rattle.bus_lines.specs.ObjectsPassed.{StaysOrStopsIn}
+use Rattle.plane_lines.specs.LineTaken.{telled_of}
 use Rattle.bus_lines.specs.Words.{supply_of}
 use Rattle.bus_lines.specs.Ended.{Seen, world_of}
 use Rattle.plane_step.specs.Plain.{IsPlain}

@@ -2,7 +2,7 @@ use Rattle.std.proofs.Common.{◌≡◌, inl, [], ◌∷◌, ◌++◌, refl, ap,
 use Rattle.std.specs.Prelude.{Ok, Err}
 use Rattle.net_settle.specs.Outside.{outside_of}
 use Rattle.plane_lines.proofs.StoreLemmas.{stays_itself, stays_both, stays_as}
-use Rattle.local_objects.specs.Passed.{StaysOrStopsIn}
+use Rattle.bus_lines.specs.ObjectsPassed.{StaysOrStopsIn}
 use Rattle.bus_lines.specs.Words.{supply_of}
 use Rattle.bus_lines.specs.Ended.{world_of}
 use Rattle.plane_step.specs.Passed.{LinePasses}

@@ -1,6 +1,6 @@
 use Rattle.std.proofs.Common.{arith, length, Some, map, refl, ap, subst, ◌∙◌}
 use Rattle.graph_objects.specs.Marks.{held_of}
-use Rattle.graph_wishes.specs.Wishes.{mays}
+use Rattle.graph_tables.specs.Wishes.{mays}
 use Rattle.graph_tables.specs.Wished.{wish_in}
 use Rattle.graph_tables.specs.Lists.{AreUsed, HaveSame}
 use Rattle.dev_graph.specs.Inside.{known_in}

@@ -5,7 +5,7 @@ use Rattle.kern_model.specs.Touched.{is_taken}
 use Rattle.graph_objects.specs.Marks.{held_of}
 use Rattle.graph_rules.specs.State.{State}
 use Rattle.graph_rules.specs.Conditions.{IsNext}
-use Rattle.graph_wishes.specs.Wishes.{mays}
+use Rattle.graph_tables.specs.Wishes.{mays}
 use Rattle.graph_tables.specs.Wished.{wish_in}
 use Rattle.graph_tables.specs.Lists.{HaveSame}
 use Rattle.dev_graph.specs.Inside.{known_in, state_of}

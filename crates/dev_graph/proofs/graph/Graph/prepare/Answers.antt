@@ -1,7 +1,7 @@
 use Rattle.std.proofs.Common.{sym, ap, subst, map, ◌∙◌}
 use Rattle.graph_objects.specs.Marks.{Marks, held_of}
 use Rattle.graph_rules.specs.State.{State}
-use Rattle.graph_wishes.specs.Wishes.{mays}
+use Rattle.graph_tables.specs.Wishes.{mays}
 use Rattle.graph_tables.specs.Wished.{wish_in}
 use Rattle.graph_tables.specs.Lists.{HaveSame}
 use Rattle.dev_graph.specs.Inside.{known_in}

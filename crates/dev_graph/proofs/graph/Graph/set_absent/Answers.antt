@@ -4,7 +4,7 @@ use Rattle.graph_objects.specs.Marks.{held_of}
 use Rattle.graph_rules.specs.State.{Named, Known}
 use Rattle.graph_rules.specs.After.{name_at, with_device, left_by}
 use Rattle.graph_counts.proofs.AnswerLemmas.{device_spelled}
-use Rattle.graph_wishes.specs.Wishes.{mays}
+use Rattle.graph_tables.specs.Wishes.{mays}
 use Rattle.graph_tables.specs.Wished.{wish_in}
 use Rattle.graph_tables.specs.Lists.{HaveSame}
 use Rattle.use_counts.specs.Uses.{Marking}

@@ -7,7 +7,7 @@ use Rattle.net_asked.proofs.EventLemmas.{answer_after, answer_silent}
 use Rattle.graph_settle.specs.Course.{held_of}
 use Rattle.known_inputs.specs.Known.{Known}
 use Rattle.net_reach.specs.Reach.{IsReachOf}
-use Rattle.net_states.specs.declared.states.States.{States}
+use Rattle.state_asks.specs.States.{States}
 use Rattle.net_follow.specs.declared.follower.Follower.{Follower}
 use Rattle.net_follow.specs.InStep.{inputs_of}
 use Rattle.net_follow.proofs.CalmLemmas.{calm_of_ready, calm_counts, held_counts}

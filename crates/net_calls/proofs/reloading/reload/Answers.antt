@@ -1,12 +1,12 @@
-use Rattle.net_plane.specs.Network.{moment_of}
-use Rattle.step_net.specs.NetLine.{load_line}
+use Rattle.net_reload.specs.Network.{moment_of}
+use Rattle.net_reload.specs.NetLine.{load_line}
 use Rattle.uci_tool.specs.Folder.{folder_of}
 use Rattle.net_reload.specs.Loaded.{network_name, wireless_name}
 use Rattle.net_reload.specs.Reload.{ReloadAsks}
 use Rattle.net_reload.proofs.AskLemmas.{load_asks}
 use Rattle.net_reload.proofs.LoadLemmas.{of_fault}
 use Rattle.net_calls.proofs.CallLemmas.{takes_this, takes_unread}
-use Rattle.net_calls.proofs.reload.reload.Goals as goal
+use Rattle.net_calls.proofs.reloading.reload.Goals as goal
 
 pub returns-in-Err-clause-takes : goal.returns-in-Err-clause-takes
 returns-in-Err-clause-takes c =

@@ -1,14 +1,13 @@
 ghost use Rattle.std.specs.Prelude.{◌≡◌, [], IfOk};
 ghost use Rattle.uci_store.specs.Store.{IsStore};
 ghost use Rattle.uci_tool.specs.Folder.{folder_of};
-ghost use Rattle.net_plane.specs.Network.{HasSameKernel};
+ghost use Rattle.net_reload.specs.Network.{HasSameKernel};
 ghost use Rattle.net_reload.specs.Reload.{ReloadAsks};
 ghost use Rattle.net_calls.specs.Taken.{TakesOne, RefusesUnread};
 
 use line_texts::CallStatus;
 use net_answers::{NetAnswer, answer_load, refuse};
-use net_plane::Net;
-use net_reload::load_package;
+use net_reload::{Net, load_package};
 use plane_io::Memory;
 use std::alloc::Global;
 use uci_store::Store;
