@@ -20,9 +20,9 @@ use Rattle.load_parts.specs.Further.{further_names}
 use Rattle.known_inputs.specs.Known.{StandOnce}
 use Rattle.known_inputs.proofs.EventLemmas.{stands_after}
 use Rattle.touch_laws.proofs.OwnLemmas.{own_asks}
-use Rattle.net_states.specs.Kept.{AreOwnAsks, IsTied}
-use Rattle.net_states.specs.Load.{AreIdle}
-use Rattle.net_states.specs.Counted.{HasGiftRoom}
+use Rattle.net_follow.specs.Kept.{AreOwnAsks, IsTied}
+use Rattle.net_follow.specs.Load.{AreIdle}
+use Rattle.net_follow.specs.Counted.{HasGiftRoom}
 use Rattle.net_follow.specs.declared.follower.Follower.{Follower}
 use Rattle.net_follow.specs.InStep.{inputs_of}
 use Rattle.net_anew.specs.declared.anew.Anew.{Anew}

@@ -7,13 +7,13 @@ use Rattle.net_rules.specs.declared.event.Event.{Event}
 use Rattle.net_rules.specs.Moment.{IsHistory}
 use Rattle.graph_rules.specs.State.{State, claims_in}
 use Rattle.given_objects.specs.Gifts as gift
-use Rattle.graph_settle.specs.Course.{Course, held_of, IsReady}
+use Rattle.net_follow.specs.Course.{Course, held_of, IsReady}
 use Rattle.net_gifts.proofs.BareLemmas.{held_stays}
-use Rattle.claim_moves.specs.Claiming.{DiffersInClaims}
-use Rattle.net_states.specs.declared.states.States.{States}
-use Rattle.net_states.specs.Kept.{AreStatesOf}
-use Rattle.net_states.specs.Counted.{AgreesWith, IsCountedBy, DiffersInCounts}
-use Rattle.net_states.proofs.CountLemmas.{agrees_still}
+use Rattle.net_follow.specs.Claiming.{DiffersInClaims}
+use Rattle.net_follow.specs.States.{States}
+use Rattle.net_follow.specs.Kept.{AreStatesOf}
+use Rattle.net_follow.specs.Counted.{AgreesWith, IsCountedBy, DiffersInCounts}
+use Rattle.net_follow.proofs.StateCountLemmas.{agrees_still}
 use Rattle.net_follow.specs.declared.follower.Follower.{Follower}
 use Rattle.net_follow.specs.InStep.{inputs_of, HasRoom, IsInStep}
 use Rattle.net_anew.specs.declared.anew.Anew.{Anew}

@@ -26,8 +26,8 @@ use Rattle.net_gifts.specs.Giving.{HavePlaces}
 use Rattle.gift_places.specs.Expecting.{listed_given, with_places, all_held_alone, HasMorePlaces}
 use Rattle.gift_places.proofs.LawLemmas.{still_place, all_places, same_held, same_givers, alone_held, alone_givers}
 use Rattle.gift_places.proofs.MoreLemmas.{none_more, both_more}
-use Rattle.net_states.specs.Counted.{needs_no_answer, HasGiftRoom}
-use Rattle.net_states.proofs.PlaceLemmas.{member_at}
+use Rattle.net_follow.specs.Counted.{needs_no_answer, HasGiftRoom}
+use Rattle.net_follow.proofs.StatePlaceLemmas.{member_at}
 use Rattle.net_anew.specs.Anew.{AreFewRows}
 use Rattle.net_anew.specs.Room.{GivesFew, HasRowRoom}
 

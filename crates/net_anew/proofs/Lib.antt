@@ -6,3 +6,10 @@ pub mod NameLemmas
 pub mod RadioLemmas
 pub mod GiftLemmas
 pub mod AnewLemmas
+-- graphs with gifts beside inputs, as their crates tell them
+pub use Rattle.graph_laws.proofs.LoadLemmas as GraphLoadLemmas
+pub use Rattle.graph_laws.proofs.LowerLemmas
+pub use Rattle.load_parts.proofs.FurtherLemmas
+pub use Rattle.net_follow.proofs.CountedLemmas
+pub use Rattle.net_follow.proofs.CourseLemmas
+pub use Rattle.net_follow.proofs.LentLemmas

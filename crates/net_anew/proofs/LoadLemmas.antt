@@ -11,11 +11,11 @@ use Rattle.net_rules.proofs.MomentLemmas.{present_follows}
 use Rattle.graph_rules.specs.State.{State, claims_in}
 use Rattle.graph_rules.specs.After.{loaded_after}
 use Rattle.graph_laws.proofs.UsedLemmas.{knows_loaded}
-use Rattle.graph_settle.specs.Course.{held_of}
-use Rattle.course_laws.proofs.LoadLemmas.{loaded_below, loaded_claims}
+use Rattle.net_follow.specs.Course.{held_of}
+use Rattle.net_follow.proofs.CourseLoadLemmas.{loaded_below, loaded_claims}
 use Rattle.load_parts.proofs.FurtherLemmas.{devices_are_there}
 use Rattle.net_claims.specs.Claims.{claims_of}
-use Rattle.net_states.specs.Counted.{AgreesWith}
+use Rattle.net_follow.specs.Counted.{AgreesWith}
 use Rattle.net_follow.specs.declared.follower.Follower.{Follower}
 use Rattle.net_follow.specs.InStep.{inputs_of, IsInStep}
 use Rattle.net_anew.specs.declared.anew.Anew.{Anew}

@@ -13,16 +13,16 @@ use Rattle.graph_tables.specs.Whole.{IsWhole}
 use Rattle.given_objects.specs.declared.gift.Gift.{Gift}
 use Rattle.given_objects.specs.Gifts as gift
 use Rattle.given_objects.specs.Gifts.{Gifts, is_of, gift_of, has_place, givers_of, AreGifts}
-use Rattle.graph_settle.specs.Course.{Course, held_of, IsReady}
-use Rattle.graph_settle.specs.Leaving.{looked_at, all_looked_at}
+use Rattle.net_follow.specs.Course.{Course, held_of, IsReady}
+use Rattle.net_follow.specs.Leaving.{looked_at, all_looked_at}
 use Rattle.net_claims.specs.declared.state.InterfaceState.{InterfaceState}
-use Rattle.claim_moves.specs.Claiming.{HasClaims}
-use Rattle.course_laws.specs.Beside.{HoldsLower, IsCourseOf}
-use Rattle.course_laws.proofs.CourseLemmas.{looked_ready}
-use Rattle.course_laws.proofs.CountedLemmas.{counted_beside}
-use Rattle.net_states.specs.declared.states.States.{States}
-use Rattle.net_states.specs.Kept.{AreStatesOf}
-use Rattle.net_states.specs.Counted.{AgreesWith, IsCountedBy}
+use Rattle.net_follow.specs.Claiming.{HasClaims}
+use Rattle.net_follow.specs.Beside.{HoldsLower, IsCourseOf}
+use Rattle.net_follow.proofs.CourseLemmas.{looked_ready}
+use Rattle.net_follow.proofs.CountedLemmas.{counted_beside}
+use Rattle.net_follow.specs.States.{States}
+use Rattle.net_follow.specs.Kept.{AreStatesOf}
+use Rattle.net_follow.specs.Counted.{AgreesWith, IsCountedBy}
 
 -- ---- they are the same gifts otherwise
 

@@ -11,7 +11,7 @@ use Rattle.net_view.proofs.PortLemmas.{more_is}
 use Rattle.graph_rules.specs.declared.ids.RadioPort.{RadioPort}
 use Rattle.graph_rules.specs.State.{Named, State, name_list, names_in, place_among}
 use Rattle.graph_rules.specs.After.{added_after, ports_after}
-use Rattle.course_laws.proofs.FurtherLemmas.{more_names}
+use Rattle.net_follow.proofs.FurtherLemmas.{more_names}
 use Rattle.net_anew.specs.Joined.{HasMoreNames, KnowsAll, HasJoined}
 
 -- ---- a name of a graph

@@ -24,15 +24,15 @@ use Rattle.graph_rules.specs.Conditions.{ArePorts}
 use Rattle.graph_tables.specs.Whole.{IsWhole}
 use Rattle.graph_laws.proofs.RadioLemmas.{are_ports}
 use Rattle.given_objects.specs.Gifts as gift
-use Rattle.graph_settle.specs.Course.{Course, held_of, IsReady}
-use Rattle.course_laws.specs.Beside.{IsCourseOf}
-use Rattle.course_laws.proofs.CountedLemmas.{counted_beside}
-use Rattle.course_laws.proofs.FurtherLemmas.{beside_grown, ready_grown, below_grown, same_claims, more_names}
+use Rattle.net_follow.specs.Course.{Course, held_of, IsReady}
+use Rattle.net_follow.specs.Beside.{IsCourseOf}
+use Rattle.net_follow.proofs.CountedLemmas.{counted_beside}
+use Rattle.net_follow.proofs.FurtherLemmas.{beside_grown, ready_grown, below_grown, same_claims, more_names}
 use Rattle.load_parts.specs.Further.{further_names}
 use Rattle.load_parts.proofs.FurtherLemmas.{ports_are_there}
 use Rattle.net_claims.specs.declared.state.InterfaceState.{InterfaceState}
 use Rattle.net_claims.specs.Claims.{claims_of}
-use Rattle.net_states.specs.Counted.{AgreesWith, IsCountedBy}
+use Rattle.net_follow.specs.Counted.{AgreesWith, IsCountedBy}
 use Rattle.net_follow.specs.declared.follower.Follower.{Follower}
 use Rattle.net_follow.specs.InStep.{inputs_of, IsInStep, LooksAs}
 use Rattle.net_anew.specs.declared.anew.Anew.{Anew}

@@ -12,9 +12,9 @@ use Rattle.graph_rules.specs.Answers.{port_of}
 use Rattle.given_objects.specs.Gifts as gift
 use Rattle.given_objects.specs.Gifts.{givers_of}
 use Rattle.load_parts.specs.Further.{further_names}
-use Rattle.net_states.specs.Kept.{IsTied}
-use Rattle.net_states.specs.Load.{AreIdle}
-use Rattle.net_states.specs.Counted.{HasGiftRoom}
+use Rattle.net_follow.specs.Kept.{IsTied}
+use Rattle.net_follow.specs.Load.{AreIdle}
+use Rattle.net_follow.specs.Counted.{HasGiftRoom}
 use Rattle.net_follow.specs.declared.follower.Follower.{Follower}
 use Rattle.net_follow.specs.InStep.{inputs_of}
 use Rattle.net_anew.specs.declared.anew.Anew.{Anew}

@@ -3,7 +3,7 @@ use Rattle.std.specs.Prelude.{ℕ, ◌≡◌, ◌+◌}
 use Rattle.net_rules.specs.declared.event.Event.{Event}
 use Rattle.net_rules.specs.After.{after}
 use Rattle.net_rules.specs.Notices.{notices}
-use Rattle.graph_settle.specs.Course.{held_of}
+use Rattle.net_follow.specs.Course.{held_of}
 use Rattle.net_follow.specs.declared.follower.Follower.{Follower}
 use Rattle.net_follow.specs.InStep.{inputs_of}
 

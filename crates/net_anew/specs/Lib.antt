@@ -8,3 +8,13 @@ pub mod Room
 pub mod Joined
 -- what a load leaves
 pub mod Begun
+-- what is followed, as its crate tells it
+pub use Rattle.net_follow.specs.Counted
+pub use Rattle.net_follow.specs.InStep
+pub use Rattle.net_follow.specs.Kept
+pub use Rattle.net_follow.specs.declared.follower.Follower
+-- graphs with gifts beside inputs, as their crates tell them
+pub use Rattle.graph_laws.specs.Knowing
+pub use Rattle.net_follow.specs.Beside
+pub use Rattle.net_follow.specs.Claiming
+pub use Rattle.net_follow.specs.Course

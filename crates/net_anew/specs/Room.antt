@@ -8,7 +8,7 @@ use Rattle.net_rules.specs.Want.{given_by, of_options, of_answer}
 use Rattle.net_rules.specs.Inputs.{facts_of}
 use Rattle.given_objects.specs.Gifts.{Gifts}
 use Rattle.net_gifts.specs.Giving.{HavePlaces}
-use Rattle.net_states.specs.Counted.{needs_no_answer}
+use Rattle.net_follow.specs.Counted.{needs_no_answer}
 
 -- on each device the options of a row, and an answer, give few
 pub record GivesFew (row : InterfaceRow) (answer : Option Answer) : Type 0 where

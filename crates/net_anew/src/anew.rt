@@ -1,7 +1,7 @@
 ghost use Rattle.std.specs.Prelude.{◌≡◌, None, IfOk};
 ghost use Rattle.net_rules.specs.Refusal.{refusal};
 ghost use Rattle.net_rules.specs.After.{changed};
-ghost use Rattle.graph_settle.specs.Course.{held_of};
+ghost use Rattle.net_follow.specs.Course.{held_of};
 ghost use Rattle.net_follow.specs.InStep.{inputs_of, IsInStep};
 ghost use Rattle.net_anew.specs.Anew.{AreFewRows, IsAnewOf};
 
@@ -13,9 +13,8 @@ use kern_model::DevName;
 use known_inputs::KnownInputs;
 use load_parts::{further_names, graph_ports};
 use net_after::{notices_between, numbers_of};
-use net_follow::Follower;
+use net_follow::{Follower, States};
 use net_rules::{Event, Notice};
-use net_states::States;
 use net_view::Levels;
 use plane_io::Memory;
 use std::alloc::Global;

@@ -4,21 +4,19 @@ ghost use Rattle.net_rules.specs.declared.inputs.Inputs.{Inputs};
 ghost use Rattle.net_rules.specs.declared.event.Event.{Event};
 ghost use Rattle.net_rules.specs.Moment.{IsHistory};
 ghost use Rattle.graph_rules.specs.State.{claims_in};
-ghost use Rattle.graph_settle.specs.Course.{held_of, IsReady};
+ghost use Rattle.net_follow.specs.Course.{held_of, IsReady};
 ghost use Rattle.net_claims.specs.declared.state.InterfaceState.{InterfaceState};
 ghost use Rattle.net_claims.specs.Claims.{claims_of};
-ghost use Rattle.course_laws.specs.Beside.{HoldsLower};
-ghost use Rattle.net_states.specs.declared.states.States.{States};
-ghost use Rattle.net_states.specs.Kept.{AreStatesOf};
-ghost use Rattle.net_states.specs.Counted.{AgreesWith, IsCountedBy};
+ghost use Rattle.net_follow.specs.Beside.{HoldsLower};
+ghost use Rattle.net_follow.specs.States.{States};
+ghost use Rattle.net_follow.specs.Kept.{AreStatesOf};
+ghost use Rattle.net_follow.specs.Counted.{AgreesWith, IsCountedBy};
 ghost use Rattle.net_follow.specs.declared.follower.Follower as the_follower;
 ghost use Rattle.net_follow.specs.InStep.{inputs_of, IsInStep};
 ghost use Rattle.net_anew.specs.Anew.{IsAnewOf};
 
 use crate::anew::Anew;
-use claim_moves::forget_claims;
-use graph_settle::GraphSettling;
-use net_follow::Follower;
+use net_follow::{Follower, GraphSettling, forget_claims};
 use std::sync::ledger::{Blank, Ledger};
 use use_counts::Steps;
 

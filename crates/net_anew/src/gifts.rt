@@ -11,8 +11,8 @@ ghost use Rattle.net_reach.specs.Reach.{IsReachOf};
 ghost use Rattle.given_objects.specs.Gifts.{givers_of, held_of};
 ghost use Rattle.gift_places.specs.Expecting.{HasMorePlaces};
 ghost use Rattle.net_gifts.specs.Giving.{HavePlaces};
-ghost use Rattle.net_states.specs.Counted.{HasGiftRoom};
-ghost use Rattle.net_states.specs.Counted as counted;
+ghost use Rattle.net_follow.specs.Counted.{HasGiftRoom};
+ghost use Rattle.net_follow.specs.Counted as counted;
 ghost use Rattle.net_anew.specs.Anew.{AreFewRows};
 ghost use Rattle.net_anew.specs.Room.{GivesFew, HasRowRoom};
 

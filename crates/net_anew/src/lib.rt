@@ -10,5 +10,7 @@ mod next;
 mod radios;
 
 pub use anew::Anew;
+pub use dev_graph::Graph;
 pub use loads::load;
+pub use net_follow::{Follower, GraphSettling, States};
 pub use radios::join_ports;

@@ -52,7 +52,7 @@ pub fn answer_operator(
         result }
     ensures kernel { HasSameKernel net.old net.new }
 {
-    let ended = net.operator(alloc, interface, up);
+    let ended = net.operator(interface, up);
     answer(alloc, net, ended)
 }
 

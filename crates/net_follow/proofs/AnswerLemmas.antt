@@ -32,7 +32,7 @@ use Rattle.known_inputs.specs.Known.{StandOnce}
 use Rattle.known_inputs.specs.Steps.{place_of, ask_of}
 use Rattle.known_inputs.proofs.FoundLemmas.{found_numbered}
 use Rattle.given_objects.specs.Gifts.{Gifts}
-use Rattle.graph_settle.specs.Course.{Course}
+use Rattle.state_asks.specs.Course.{Course}
 use Rattle.net_claims.specs.declared.state.InterfaceState.{InterfaceState}
 use Rattle.net_claims.specs.States.{is_first, IsStateAs}
 use Rattle.net_claims.proofs.AnswerLemmas.{state_same}

@@ -13,7 +13,7 @@ use Rattle.net_rules.specs.Want.{given_by}
 use Rattle.net_rules.specs.Inputs.{facts_of}
 use Rattle.net_rules.specs.After.{changed}
 use Rattle.net_rules.specs.Refusal.{refusal}
-use Rattle.graph_settle.specs.Course.{Course, held_of}
+use Rattle.state_asks.specs.Course.{Course, held_of}
 use Rattle.known_inputs.specs.Known.{StandOnce}
 use Rattle.known_inputs.specs.Steps.{ask_of}
 use Rattle.net_claims.specs.declared.state.InterfaceState.{InterfaceState}

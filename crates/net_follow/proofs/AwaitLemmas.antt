@@ -12,7 +12,7 @@ use Rattle.net_rules.specs.Inputs.{facts_of}
 use Rattle.net_rules.specs.After.{changed}
 use Rattle.net_rules.specs.Refusal.{refusal}
 use Rattle.given_objects.specs.Gifts.{Gifts}
-use Rattle.graph_settle.specs.Course.{held_of}
+use Rattle.state_asks.specs.Course.{held_of}
 use Rattle.net_claims.specs.declared.state.InterfaceState.{InterfaceState}
 use Rattle.net_claims.specs.States.{is_first}
 use Rattle.net_claims.proofs.MoveLemmas.{some_is}

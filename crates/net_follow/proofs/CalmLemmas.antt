@@ -18,12 +18,12 @@ use Rattle.graph_laws.specs.Links.{HoldsLinksOfRows}
 use Rattle.graph_laws.proofs.FallLemmas.{links_stay}
 use Rattle.given_objects.specs.Gifts as gift
 use Rattle.given_objects.specs.Gifts.{Gifts, AreGifts, has_place, givers_of}
-use Rattle.graph_settle.specs.Course.{Course, held_of, IsReady}
-use Rattle.graph_settle.specs.Leaving.{all_looked_at}
+use Rattle.state_asks.specs.Course.{Course, held_of, IsReady}
+use Rattle.state_asks.specs.Leaving.{all_looked_at}
 use Rattle.course_laws.specs.Beside.{IsCourseOf, HoldsLower, AreQuiet}
 use Rattle.course_laws.proofs.CountedLemmas.{counted_beside}
 use Rattle.course_laws.proofs.CourseLemmas.{looked_ready, quiet_ready}
-use Rattle.claim_moves.specs.Claiming.{HasClaims, DiffersInClaims}
+use Rattle.state_asks.specs.Claiming.{HasClaims, DiffersInClaims}
 use Rattle.net_claims.specs.declared.state.InterfaceState.{InterfaceState}
 use Rattle.net_gifts.proofs.BareLemmas.{held_stays}
 use Rattle.state_asks.specs.States.{States}

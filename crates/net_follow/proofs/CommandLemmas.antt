@@ -9,7 +9,7 @@ use Rattle.net_rules.specs.declared.event.Event.TheVariants as event
 use Rattle.net_rules.specs.Rows.{interface_named}
 use Rattle.net_rules.specs.Inputs.{facts_of}
 use Rattle.net_rules.specs.After.{changed, commands_after}
-use Rattle.graph_settle.specs.Course.{Course, IsReady}
+use Rattle.state_asks.specs.Course.{Course, IsReady}
 use Rattle.known_inputs.specs.Known.{IsNamed}
 use Rattle.net_claims.specs.declared.state.InterfaceState.{InterfaceState}
 use Rattle.net_claims.specs.States.{is_first, IsStateAs}

@@ -9,13 +9,13 @@ use Rattle.net_rules.specs.Interfaces.{layer_of}
 use Rattle.net_rules.specs.Want.{given_by}
 use Rattle.net_rules.specs.Inputs.{facts_of}
 use Rattle.given_objects.specs.Gifts.{Gifts}
-use Rattle.graph_settle.specs.Course.{Course}
+use Rattle.state_asks.specs.Course.{Course}
 use Rattle.net_claims.specs.declared.state.InterfaceState.{InterfaceState}
 use Rattle.net_gifts.specs.Giving.{times_in, gives, HasGivers, HavePlaces}
 use Rattle.net_gifts.proofs.TimesLemmas.{gives_agree}
 use Rattle.net_reach.specs.declared.reach.Reach.{Reach}
 use Rattle.net_reach.specs.Reach.{IsReachOf}
-use Rattle.claim_moves.specs.Claiming.{HasClaims}
+use Rattle.state_asks.specs.Claiming.{HasClaims}
 use Rattle.state_asks.specs.States.{States}
 use Rattle.state_asks.specs.Kept.{IsNotedAs, IsTied}
 use Rattle.state_asks.specs.Counted.{AgreesWith, HasGiftRoom, IsCountedBy}

@@ -10,7 +10,7 @@ use Rattle.net_rules.specs.Inputs.{facts_of}
 use Rattle.net_rules.specs.Numbers.{AreRising}
 use Rattle.net_rules.specs.After.{devices_after, changed}
 use Rattle.net_apart.specs.Reach as apart
-use Rattle.graph_settle.specs.Course.{Course}
+use Rattle.state_asks.specs.Course.{Course}
 use Rattle.known_inputs.specs.Steps as steps
 use Rattle.net_claims.specs.declared.state.InterfaceState.{InterfaceState}
 use Rattle.net_claims.specs.States.{is_first, IsStateAs}

@@ -9,7 +9,7 @@ use Rattle.kern_model.proofs.MemberLemmas.{map_member, member_of_map}
 use Rattle.graph_rules.specs.State.{State}
 use Rattle.given_objects.specs.declared.gift.Gift.{Gift}
 use Rattle.given_objects.specs.Gifts.{Gifts, is_of, gift_of, has_place, givers_of, held_of}
-use Rattle.graph_settle.specs.Leaving.{looked_at, all_looked_at, is_left, left_gift, left_gifts}
+use Rattle.state_asks.specs.Leaving.{looked_at, all_looked_at, is_left, left_gift, left_gifts}
 use Rattle.course_laws.specs.Beside.{AreQuiet}
 use Rattle.net_gifts.specs.Giving.{without_givers, DiffersInGivers}
 

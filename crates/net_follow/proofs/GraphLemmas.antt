@@ -20,12 +20,12 @@ use Rattle.graph_laws.specs.Below.{AgreesBelow}
 use Rattle.graph_laws.specs.Knowing.{KnowsRows}
 use Rattle.graph_laws.specs.Links.{HoldsLinksOfRows}
 use Rattle.graph_laws.proofs.FallLemmas.{links_stay}
-use Rattle.graph_settle.specs.Course.{Course, IsReady}
-use Rattle.graph_settle.specs.Leaving.{left_gifts}
+use Rattle.state_asks.specs.Course.{Course, IsReady}
+use Rattle.state_asks.specs.Leaving.{left_gifts}
 use Rattle.course_laws.specs.Beside.{HoldsLower, AreQuiet}
 use Rattle.course_laws.proofs.DeviceLemmas.{at_place}
 use Rattle.course_laws.proofs.QuietLemmas.{quiet_left}
-use Rattle.claim_moves.specs.Claiming.{HasClaims}
+use Rattle.state_asks.specs.Claiming.{HasClaims}
 use Rattle.net_claims.specs.declared.state.InterfaceState.{InterfaceState}
 use Rattle.net_claims.proofs.MoveLemmas.{some_is}
 use Rattle.net_follow.specs.InStep.{IsCalm}

@@ -6,7 +6,7 @@ use Rattle.std.proofs.lemmas.Bool.Decides.{Decides-eqb}
 use Rattle.kern_model.proofs.TestLemmas.{of_any}
 use Rattle.net_rules.specs.declared.inputs.Inputs.{Inputs}
 use Rattle.net_rules.specs.Numbers.{AreRising}
-use Rattle.graph_settle.specs.Course.{Course}
+use Rattle.state_asks.specs.Course.{Course}
 use Rattle.asked_places.specs.Touched.{has}
 use Rattle.state_asks.specs.States.{States}
 use Rattle.state_asks.specs.Kept.{IsTied, FollowBut}

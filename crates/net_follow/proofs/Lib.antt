@@ -13,3 +13,12 @@ pub mod AnswerLemmas
 pub mod AnsweredLemmas
 pub mod MoreLemmas
 pub mod AwaitLemmas
+-- what is kept of interfaces, as its crate tells it
+pub use Rattle.state_asks.proofs.PlaceLemmas as StatePlaceLemmas
+pub use Rattle.state_asks.proofs.StateCountLemmas
+-- graphs with gifts beside inputs, as their crates tell them
+pub use Rattle.course_laws.proofs.CountedLemmas
+pub use Rattle.course_laws.proofs.CourseLemmas
+pub use Rattle.course_laws.proofs.FurtherLemmas
+pub use Rattle.course_laws.proofs.LentLemmas
+pub use Rattle.course_laws.proofs.LoadLemmas as CourseLoadLemmas

@@ -20,7 +20,7 @@ use Rattle.net_wants.proofs.GroupLemmas.{items_are}
 use Rattle.given_objects.specs.declared.gift.Gift.{Gift}
 use Rattle.given_objects.specs.Gifts.{Gifts}
 use Rattle.graph_rules.specs.Wanted.{want_in}
-use Rattle.graph_settle.specs.Course.{Course, held_of, wanted_of, devices_of, IsReady}
+use Rattle.state_asks.specs.Course.{Course, held_of, wanted_of, devices_of, IsReady}
 use Rattle.gift_places.specs.Expecting.{listed_given, with_places, HasMorePlaces}
 use Rattle.gift_places.proofs.LawLemmas.{same_held, same_given, same_givers, still_place, all_places, all_old_or_empty}
 use Rattle.net_claims.specs.declared.state.InterfaceState.{InterfaceState}

@@ -8,7 +8,7 @@ use Rattle.net_rules.proofs.HistoryLemmas.{orderly}
 use Rattle.graph_rules.specs.State.{State, place_among}
 use Rattle.graph_rules.specs.After.{added_after}
 use Rattle.graph_tables.specs.Whole.{IsWhole}
-use Rattle.graph_settle.specs.Course.{Course, held_of, IsReady}
+use Rattle.state_asks.specs.Course.{Course, held_of, IsReady}
 use Rattle.course_laws.specs.Beside.{IsCourseOf}
 use Rattle.course_laws.proofs.CountedLemmas.{counted_beside}
 use Rattle.course_laws.proofs.FurtherLemmas.{ready_grown, below_grown, same_claims, more_names}

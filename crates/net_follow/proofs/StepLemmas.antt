@@ -9,7 +9,7 @@ use Rattle.net_rules.specs.Notices.{notices}
 use Rattle.net_asked.specs.Touched.{asked_of}
 use Rattle.touch_laws.specs.Staying.{told_of, FollowTouched}
 use Rattle.known_inputs.specs.Known.{Known}
-use Rattle.graph_settle.specs.Course.{held_of, IsReady}
+use Rattle.state_asks.specs.Course.{held_of, IsReady}
 use Rattle.asked_places.specs.Touched.{is_touched}
 use Rattle.state_asks.specs.Kept.{AreStatesOf}
 use Rattle.state_asks.specs.Counted.{IsCountedBy}

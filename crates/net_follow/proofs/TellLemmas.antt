@@ -16,10 +16,10 @@ use Rattle.graph_rules.specs.After.{name_at, with_device, with_names, left_by, p
 use Rattle.graph_laws.specs.Below.{AgreesBelow}
 use Rattle.given_objects.specs.Gifts as gift
 use Rattle.given_objects.specs.Gifts.{Gifts}
-use Rattle.graph_settle.specs.Course.{Course, held_of, IsReady}
-use Rattle.graph_settle.specs.Leaving.{left_gifts}
+use Rattle.state_asks.specs.Course.{Course, held_of, IsReady}
+use Rattle.state_asks.specs.Leaving.{left_gifts}
 use Rattle.course_laws.proofs.DeviceLemmas.{comes_below, leaves_below, carrier_below}
-use Rattle.claim_moves.specs.Claiming.{HasClaims}
+use Rattle.state_asks.specs.Claiming.{HasClaims}
 use Rattle.known_inputs.specs.Steps.{name_of}
 use Rattle.net_claims.specs.declared.state.InterfaceState.{InterfaceState}
 use Rattle.net_gifts.specs.Giving.{HasGivers}

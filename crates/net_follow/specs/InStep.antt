@@ -8,7 +8,7 @@ use Rattle.net_rules.specs.Moment.{held_after, IsHistory}
 use Rattle.net_rules.specs.Notices.{notices}
 use Rattle.net_rules.specs.Numbers.{AreRising}
 use Rattle.graph_laws.specs.Links.{HoldsLinksOfRows}
-use Rattle.graph_settle.specs.Course.{Course, held_of, IsReady}
+use Rattle.state_asks.specs.Course.{Course, held_of, IsReady}
 use Rattle.course_laws.specs.Beside.{HoldsLower, AreQuiet}
 use Rattle.asked_places.specs.Touched.{is_touched}
 use Rattle.state_asks.specs.Kept.{IsTied, AreStatesOf, FollowBut}

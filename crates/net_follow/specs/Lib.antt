@@ -6,3 +6,13 @@ pub mod InStep
 pub mod Answering
 -- what is ready for something that happens to a device
 pub mod Awaiting
+-- what is kept of interfaces, as its crate tells it
+pub use Rattle.state_asks.specs.Counted
+pub use Rattle.state_asks.specs.Kept
+pub use Rattle.state_asks.specs.Load
+pub use Rattle.state_asks.specs.States
+-- graphs with gifts beside inputs, as their crates tell them
+pub use Rattle.course_laws.specs.Beside
+pub use Rattle.state_asks.specs.Claiming
+pub use Rattle.state_asks.specs.Course
+pub use Rattle.state_asks.specs.Leaving

@@ -4,7 +4,7 @@ ghost use Rattle.std.specs.Option.{option_and_then};
 ghost use Rattle.net_rows.specs.declared.rows.InterfaceRow.{InterfaceRow};
 ghost use Rattle.net_rules.specs.declared.event.Event.TheVariants as event;
 ghost use Rattle.net_rules.specs.Refusal.{refusal};
-ghost use Rattle.graph_settle.specs.Course.{held_of};
+ghost use Rattle.state_asks.specs.Course.{held_of};
 ghost use Rattle.known_inputs.specs.Steps.{ask_of};
 ghost use Rattle.net_reach.specs.Reach.{interface_place};
 ghost use Rattle.net_follow.specs.InStep.{inputs_of, IsInStep, HasFollowed};

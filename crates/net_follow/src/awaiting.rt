@@ -10,7 +10,7 @@ ghost use Rattle.net_rules.specs.Refusal.{refusal};
 ghost use Rattle.net_claims.specs.declared.state.InterfaceState.{InterfaceState};
 ghost use Rattle.net_gifts.specs.Giving.{HavePlaces};
 ghost use Rattle.gift_places.specs.Expecting.{HasMorePlaces};
-ghost use Rattle.graph_settle.specs.Course.{held_of};
+ghost use Rattle.state_asks.specs.Course.{held_of};
 ghost use Rattle.net_reach.specs.Groups.{HasRoomAt};
 ghost use Rattle.net_reach.specs.Reach.{IsReachOf, interface_place};
 ghost use Rattle.state_asks.specs.Kept.{IsTied};

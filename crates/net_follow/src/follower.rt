@@ -1,7 +1,6 @@
-use graph_settle::GraphSettling;
 use known_inputs::KnownInputs;
 use net_rules::Notice;
-use state_asks::States;
+use state_asks::{GraphSettling, States};
 use std::collections::VecDeque;
 
 /// What is kept of a network, in step with its inputs.

@@ -6,18 +6,17 @@ ghost use Rattle.net_asked.specs.Touched.{asked_of};
 ghost use Rattle.touch_laws.specs.Staying.{told_of};
 ghost use Rattle.net_claims.specs.declared.state.InterfaceState.{InterfaceState};
 ghost use Rattle.net_reach.specs.Reach.{IsReachOf, AreTouched};
-ghost use Rattle.graph_settle.specs.Course.{held_of, IsReady};
-ghost use Rattle.graph_settle.specs.Leaving.{all_looked_at};
+ghost use Rattle.state_asks.specs.Course.{held_of, IsReady};
+ghost use Rattle.state_asks.specs.Leaving.{all_looked_at};
 ghost use Rattle.state_asks.specs.States.{States};
 ghost use Rattle.state_asks.specs.Kept.{AreStatesOf};
 ghost use Rattle.state_asks.specs.Counted.{IsCountedBy};
 ghost use Rattle.net_follow.specs.InStep.{inputs_of, touched_by, HasRoom, IsCalm, IsMoving};
 
 use crate::follower::Follower;
-use graph_settle::GraphSettling;
 use kern_model::DevName;
 use net_reach::Reach;
-use state_asks::renew;
+use state_asks::{GraphSettling, renew};
 use std::sync::ledger::Ledger;
 use use_counts::Steps;
 

@@ -10,3 +10,4 @@ mod follower;
 mod following;
 
 pub use follower::Follower;
+pub use state_asks::{GraphSettling, States, forget_claims};

@@ -1,5 +1,5 @@
 -- How events that are refused are told, and others.
-use Rattle.std.proofs.Common.{◌≡◌, ℕ, List, Option, Some, None, Result, Ok, Err, OnOk, refl, ap, sym, subst}
+use Rattle.std.proofs.Common.{◌≡◌, ℕ, List, Option, Some, None, Result, Ok, Err, OnOk, OnErr, refl, ap, sym, subst}
 use Rattle.kern_model.specs.declared.object.DevEvent.{DevEvent}
 use Rattle.kern_model.specs.declared.kernel.Asked.{Asked}
 use Rattle.net_rules.specs.declared.refusal.Refusal.{Refusal}
@@ -41,3 +41,8 @@ module _ (X : Type 0) where
   pub always : {P : Type 0} (result : Result X NetError) → P → OnOk result P
   always (Ok x) p = p
   always (Err e) p = tt
+
+  -- what holds of a failure
+  pub at_error : {P : Type 0} (result : Result X NetError) (e : NetError) → result ≡ Err e → OnErr result P → P
+  at_error (Ok x) e is p = absurd (cc is)
+  at_error (Err f) e is p = p

@@ -1,11 +1,12 @@
 pub mod MomentLemmas
-pub mod TakenLemmas
+pub mod SeenLemmas
+pub mod EventLemmas
 pub mod DeviceLemmas
 pub mod SettledLemmas
+pub mod LentLemmas
+pub mod NewLemmas
 pub mod HistoryLemmas
 pub mod AnswerLemmas
 pub mod LoadLemmas
+pub mod NamedLemmas
 pub mod StatusLemmas
-pub mod ApartLemmas
-pub mod PresentLemmas
-pub mod ReachedLemmas

@@ -1,22 +1,16 @@
 -- Moments of histories.
-use Rattle.std.proofs.Common.{◌≡◌, None, refl, ap, sym, subst, ◌∙◌}
-use Rattle.std.specs.FinSet as set
-use Rattle.kern_model.specs.ObjectOrder.{Objects, set_of}
-use Rattle.kern_model.specs.Kernel.{map_of}
+use Rattle.std.proofs.Common.{◌≡◌, None, ap, sym, ◌∙◌}
+use Rattle.kern_model.specs.ObjectOrder.{Objects}
 use Rattle.kern_calls.specs.Calls.{calls}
 use Rattle.kern_calls.proofs.CallsLemmas.{are_the_calls}
 use Rattle.net_rules.specs.declared.inputs.Inputs.{Inputs}
 use Rattle.net_rules.specs.declared.event.Event.{Event}
 use Rattle.net_rules.specs.declared.event.Event.TheVariants as event
-use Rattle.net_rules.specs.Inputs.{no_inputs}
-use Rattle.net_rules.specs.Want.{want}
 use Rattle.net_rules.specs.Fresh.{fresh_start}
 use Rattle.net_rules.specs.Moment.{Moment, devices_of, want_of, MayCome, IsHistory}
 use Rattle.net_rules.specs.Refusal.{refusal}
 use Rattle.net_rules.proofs.RefusalLemmas.{device_may}
 use Rattle.net_rules.proofs.HistoryLemmas.{history_reaches, history_as_fresh}
-use Rattle.net_settle.specs.Course.{Course, IsBare}
-use Rattle.net_plane.specs.Kept.{IsKept}
 use Rattle.net_plane.specs.Taken.{HasSoundRows}
 
 abbrev moment_of : Inputs → Objects → Moment
@@ -42,15 +36,3 @@ fresh_same moment history =
     let all = calls (devices_of moment.inputs) moment.held (want_of moment.inputs) in
     let are = are_the_calls (devices_of moment.inputs) moment.held (want_of moment.inputs) in
     sym (history_reaches moment all history are) ∙ history_as_fresh moment all history are
-
--- nothing is wanted of nothing
-nothing_wanted : want_of no_inputs ≡ set.empty
-unfolding want
-nothing_wanted = refl
-
-pub bare_kept : (inputs : Inputs) (now : Course) → inputs ≡ no_inputs → IsBare now → IsKept inputs now
-bare_kept inputs now none bare = record {
-  history = subst IsHistory (sym (same_moment none (ap set_of bare.held))) IsHistory.nothing;
-  devices = ap map_of bare.devices ∙ sym (ap devices_of none);
-  wanted = ap set_of bare.wanted ∙ sym (ap want_of none ∙ nothing_wanted);
-}

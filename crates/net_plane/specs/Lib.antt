@@ -2,12 +2,14 @@
 
 -- what the plane keeps
 pub mod Network
--- what every plane keeps
-pub mod Kept
+-- the plane, by what it follows
+pub mod Seen
+-- the graph that is lent
+pub mod Lent
+-- rows that were read
+pub mod Read
 -- which events are taken, and how others are told
 pub mod Taken
--- which events of devices change the present devices alone
-pub mod Apart
 -- how far a settling came
 pub mod Settled
 -- what planes come to by events and settlings

@@ -1,5 +1,5 @@
 -- What the plane of interfaces keeps.
-use Rattle.std.specs.Prelude.{◌≡◌, List, []}
+use Rattle.std.specs.Prelude.{ℕ, ◌≡◌, List, []}
 use Rattle.kern_model.specs.declared.object.Object.{Object}
 use Rattle.kern_model.specs.declared.object.Call.{Call}
 use Rattle.kern_model.specs.declared.kernel.Kernel.{Ghosts as KernelMembers}
@@ -10,11 +10,13 @@ use Rattle.net_rules.specs.declared.event.Notice.{Notice}
 use Rattle.net_rules.specs.Inputs.{no_inputs}
 use Rattle.net_rules.specs.Moment.{Moment, devices_of, want_of}
 
--- the inputs, what the kernel holds, and the notices that are still to be handed out
+-- the inputs, what the kernel holds, the notices that are still to be handed out, and how many loads
+-- were taken
 pub record Network : Type 0 where
   pub inputs : Inputs
   pub held : List Object
   pub notices : List Notice
+  pub loads : ℕ
 
 -- nothing was loaded, no device is present, nothing is held, and there is nothing to tell
 pub record IsNew (network : Network) : Type 0 where

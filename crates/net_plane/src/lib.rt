@@ -2,18 +2,16 @@
 //! holds exactly what a fresh start would give.
 #![tactic(auto)]
 
-mod apart;
+mod answer;
 mod device;
-mod events;
 mod laws;
 mod load;
 mod net;
 mod net_error;
 mod next;
-mod present;
-mod reached;
+mod operator;
+mod radio;
 mod status;
-mod take;
 
 pub use laws::{no_call_names_what_stayed, settled_planes_are_as_fresh_ones};
 pub use net::Net;

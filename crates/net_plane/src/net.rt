@@ -3,62 +3,63 @@ ghost use Rattle.plane_words.specs.Growth.{Grows};
 ghost use Rattle.kern_model.specs.declared.object.Call.{Call};
 ghost use Rattle.kern_model.specs.ObjectOrder.{set_of};
 ghost use Rattle.kern_calls.specs.Due.{due_count};
-ghost use Rattle.net_rules.specs.Inputs as spec;
 ghost use Rattle.net_rules.specs.Moment.{want_of};
 ghost use Rattle.net_rules.specs.Fresh.{fresh_start};
 ghost use Rattle.net_settle.specs.Outside.{outside_of};
+ghost use Rattle.given_objects.specs.Gifts.{AreGifts};
+ghost use Rattle.net_anew.specs.Beside.{IsCourseOf};
+ghost use Rattle.net_anew.specs.InStep.{inputs_of, IsInStep};
 ghost use Rattle.net_plane.specs.Network.{IsNew, IsOf, calls_of};
+ghost use Rattle.net_plane.specs.Lent.{Lends};
 ghost use Rattle.net_plane.specs.Settled.{Settles, HasMade, told_end};
 
 use crate::net_error::NetError;
-use kern_model::{DevName, Kernel};
+use given_objects::GivenObjects;
+use kern_model::Kernel;
+use known_inputs::KnownInputs;
+use net_anew::{Follower, Graph, GraphSettling, States};
 use net_rows::Conf;
-use net_rules::{Inputs, Notice};
-use net_settle::{SettleError, Settling};
-use plane_io::{Items, Sink};
+use net_rules::Notice;
+use net_settle::SettleError;
+use plane_io::Sink;
 use std::alloc::Global;
-use std::collections::{BTreeSet, VecDeque};
+use std::collections::VecDeque;
 use std::marker::Model;
 
 /// The plane of interfaces: the rows of the loaded files, the present devices, commands and answers, what the kernel holds, and what is
-/// still to be told of asks. After every list of events, once settled, the kernel holds exactly what a fresh start would give.
-#[derive(Debug, Drop)]
+/// still to be told of asks. After every list of events, once settled, the kernel holds exactly what a fresh start would give. Devices
+/// stand in a graph, so that an event costs what it changes.
+#[derive(Drop)]
 pub struct Net {
-    pub(crate) inputs: Inputs,
-    pub(crate) settling: Settling,
-    pub(crate) notices: VecDeque<Notice>,
-    /// The names that rows reach.
-    pub(crate) reached: BTreeSet<DevName>,
+    pub(crate) follower: Follower,
 }
 
 impl Model for Net {
+    ghost use Rattle.net_anew.specs.InStep.{IsInStep};
     ghost use Rattle.net_plane.specs.Network.{Network};
-    ghost use Rattle.net_view.specs.Names.{HasNames};
-    ghost use Rattle.net_apart.specs.Reach.{is_reached};
-    ghost use Rattle.net_plane.specs.Kept.{IsKept};
+    ghost use Rattle.net_plane.specs.Seen.{network_of};
 
     ghost Value = { Network };
 
-    ghost view = { λ n. record {
-      inputs = n.inputs;
-      held = n.settling.held;
-      notices = n.notices.items;
-    } };
+    ghost view = { λ n. network_of n.follower };
 
-    ghost invariant = { λ n. IsKept n.inputs n.settling
-        × HasNames n.reached (is_reached n.inputs) };
+    ghost invariant = { λ n. IsInStep n.follower };
 }
 
 impl Net {
     /// Nothing was loaded, no device is present, and nothing is held. It takes no memory.
     pub fn new(alloc: Global) -> Net
-        ensures { IsNew result }
+        ensures new { IsNew result }
+        ensures loads { result.loads ≡ 0 }
     {
         Net {
-            inputs: no_inputs(alloc),
-            settling: Settling::new(alloc),
-            notices: VecDeque::new(alloc),
-            reached: BTreeSet::new(alloc),
+            follower: Follower {
+                inputs: KnownInputs::new(alloc),
+                settling: GraphSettling::new(alloc),
+                states: States::new(alloc),
+                touched: Vec::new(alloc),
+                notices: VecDeque::new(alloc),
+            },
         }
     }
 
@@ -66,14 +67,23 @@ impl Net {
     pub fn conf(&self) -> &Conf
         ensures { result.now ≡ self.now.inputs.conf }
     {
-        &self.inputs.conf
+        self.follower.inputs.conf()
+    }
+
+    /// The graph of the devices. A load makes it anew, and everything else changes it in its place.
+    pub fn graph(&self) -> &Graph
+        ensures { Lends self.now result.now }
+    {
+        are_beside(&self.follower);
+        self.follower.settling.graph()
     }
 
     /// The number of objects in one of what is held and what is wanted, and not in the other. It takes no memory.
     pub fn due(&self) -> usize
         ensures { result ≡ due_count (set_of self.now.held) (want_of self.now.inputs) }
     {
-        self.settling.due()
+        are_beside(&self.follower);
+        self.follower.settling.due() as usize
     }
 
     /// What is still to be told of the last event: the asks that were lost, by number, and then those that were opened. It takes no memory.
@@ -81,8 +91,9 @@ impl Net {
         ensures told { self.old.notices ≡ option_to_list result ++ self.new.notices }
         ensures none { IfNone result (self.old.notices ≡ []) }
         ensures stays { (self.new.inputs ≡ self.old.inputs) × (self.new.held ≡ self.old.held) }
+        ensures loads { self.new.loads ≡ self.old.loads }
     {
-        self.notices.pop_front()
+        self.follower.notices.pop_front()
     }
 
     /// Makes the calls from what is held to what is wanted, in their order, and writes the line of each after it. Behind `Ok` the kernel
@@ -107,12 +118,31 @@ impl Net {
         ensures fresh { OnOk result
             (K.objects kernel.new ≡ want_of (fresh_start self.new.inputs)) }
         ensures of { IsOf K.Kernel kernel.new self.new }
+        ensures loads { self.new.loads ≡ self.old.loads }
         ensures later { (K.faults kernel.old ≤ K.faults kernel.new)
             × (O.faults out.old ≤ O.faults out.new) }
     {
-        let ended = self.settling.settle(kernel, out);
+        are_beside(&self.follower);
+        let ended = self.follower.settling.settle(kernel, out);
+        are_gifts(&self.follower.settling.gifts);
         told(ended)
     }
+}
+
+/// What is held and wanted is beside the inputs, and its gifts are gifts.
+pub(crate) fn are_beside(follower: &Follower)
+    requires { IsInStep follower.now }
+    ensures beside { IsCourseOf (inputs_of follower.now) follower.now.settling }
+    ensures gifts { AreGifts follower.now.settling.gifts }
+{
+    follower.settling.graph.is_kept();
+    are_gifts(&follower.settling.gifts);
+}
+
+fn are_gifts(gifts: &GivenObjects)
+    ensures { AreGifts gifts.now }
+{
+    let _count = gifts.len();
 }
 
 fn told(ended: Result<(), SettleError>) -> Result<(), NetError>
@@ -122,25 +152,5 @@ fn told(ended: Result<(), SettleError>) -> Result<(), NetError>
         Ok(()) => Ok(()),
         Err(SettleError::KernelFailed) => Err(NetError::KernelFailed),
         Err(SettleError::WriteFailed) => Err(NetError::WriteFailed),
-    }
-}
-
-fn no_inputs(alloc: Global) -> Inputs
-    ensures { result ≡ spec.no_inputs }
-{
-    Inputs {
-        conf: Conf {
-            interfaces: Items::new(alloc),
-            devices: Items::new(alloc),
-            routes: Items::new(alloc),
-            radios: Items::new(alloc),
-            names: Items::new(alloc),
-            vlans: Items::new(alloc),
-        },
-        devices: Items::new(alloc),
-        commands: Items::new(alloc),
-        interfaces: Items::new(alloc),
-        radios: Items::new(alloc),
-        next: 1,
     }
 }

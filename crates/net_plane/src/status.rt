@@ -23,7 +23,10 @@ impl Net {
         ensures { Shows view (of_interfaces.interface_status self.now.inputs name.now)
             error.NoInterface result }
     {
-        let shown = net_status::interface_status(alloc, &self.inputs, name);
+        let Ok(inputs) = self.follower.inputs.copy(alloc) else {
+            return Err(NetError::Memory);
+        };
+        let shown = net_status::interface_status(alloc, &inputs, name);
         shown_or(shown, NetError::NoInterface)
     }
 
@@ -36,7 +39,10 @@ impl Net {
         ensures { Shows view (of_devices.device_status self.now.inputs name.now)
             error.NoDevice result }
     {
-        let shown = net_status::device_status(alloc, &self.inputs, name);
+        let Ok(inputs) = self.follower.inputs.copy(alloc) else {
+            return Err(NetError::Memory);
+        };
+        let shown = net_status::device_status(alloc, &inputs, name);
         shown_or(shown, NetError::NoDevice)
     }
 
@@ -49,7 +55,10 @@ impl Net {
         ensures { Shows view (of_radios.radio_status self.now.inputs name.now)
             error.NoRadio result }
     {
-        let shown = net_status::radio_status(alloc, &self.inputs, name);
+        let Ok(inputs) = self.follower.inputs.copy(alloc) else {
+            return Err(NetError::Memory);
+        };
+        let shown = net_status::radio_status(alloc, &inputs, name);
         shown_or(shown, NetError::NoRadio)
     }
 
@@ -61,7 +70,8 @@ impl Net {
     pub fn dump(&self, alloc: Global) -> Result<Value, Memory>
         ensures { IfOk result (λ shown. view shown ≡ of_interfaces.dump self.now.inputs) }
     {
-        net_status::dump(alloc, &self.inputs)
+        let inputs = self.follower.inputs.copy(alloc)?;
+        net_status::dump(alloc, &inputs)
     }
 }
 

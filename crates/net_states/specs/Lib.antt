@@ -10,3 +10,6 @@ pub mod Becoming
 pub mod Load
 -- the course of a settling
 pub use Rattle.graph_settle.specs.Course
+pub use Rattle.graph_settle.specs.Leaving
+-- which places claim, as its crate tells it
+pub use Rattle.claim_moves.specs.Claiming

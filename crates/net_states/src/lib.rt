@@ -6,6 +6,7 @@ mod becoming;
 mod load;
 mod states;
 
+pub use claim_moves::forget_claims;
 pub use graph_settle::GraphSettling;
 pub use net_looks::Look;
 pub use states::States;

@@ -110,7 +110,7 @@ fn take(
 {
     match step {
         Step::Load(network, wireless) => load(rt, alloc, net, network, wireless),
-        Step::Operator(interface, up) => Ok(net.operator(alloc, text(alloc, interface)?, up)),
+        Step::Operator(interface, up) => Ok(net.operator(text(alloc, interface)?, up)),
         Step::Answer(interface, number, addresses) => {
             let answer = answer(rt, alloc, addresses)?;
             Ok(net.answer(alloc, text(alloc, interface)?, number, answer))

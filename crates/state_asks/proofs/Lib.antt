@@ -9,4 +9,5 @@ pub mod LosingLemmas
 pub mod OpeningLemmas
 -- what is kept of interfaces, as its crate tells it
 pub use Rattle.net_states.proofs.BecomeLemmas
+pub use Rattle.net_states.proofs.CountLemmas as StateCountLemmas
 pub use Rattle.net_states.proofs.PlaceLemmas

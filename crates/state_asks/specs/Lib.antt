@@ -8,4 +8,9 @@ pub mod Telling
 pub use Rattle.net_states.specs.Becoming
 pub use Rattle.net_states.specs.Counted
 pub use Rattle.net_states.specs.Kept
+pub use Rattle.net_states.specs.Load
 pub use Rattle.net_states.specs.declared.states.States
+-- graphs with gifts beside inputs, as their crates tell them
+pub use Rattle.net_states.specs.Claiming
+pub use Rattle.net_states.specs.Course
+pub use Rattle.net_states.specs.Leaving

@@ -7,5 +7,5 @@ mod opening;
 mod renewing;
 mod telling;
 
-pub use net_states::States;
+pub use net_states::{GraphSettling, States, forget_claims};
 pub use renewing::renew;

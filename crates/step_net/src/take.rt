@@ -53,7 +53,7 @@ pub fn take_operator(
         result }
     ensures kernel { HasSameKernel net.old net.new }
 {
-    let ended = net.operator(alloc, interface, up);
+    let ended = net.operator(interface, up);
     tell(alloc, net, ended)
 }
 

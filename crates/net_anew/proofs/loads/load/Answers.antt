@@ -2,10 +2,10 @@ use Rattle.std.proofs.Common.{◌≤◌, refl, ap, sym, subst, ◌∙◌}
 use Rattle.net_rules.specs.declared.event.Event.TheVariants as event
 use Rattle.net_rules.specs.Moment.{IsHistory}
 use Rattle.graph_rules.specs.State.{State, claims_in}
-use Rattle.graph_settle.specs.Course.{held_of}
+use Rattle.net_follow.specs.Course.{held_of}
 use Rattle.net_claims.specs.Claims.{claims_of}
-use Rattle.course_laws.specs.Beside.{HoldsLower}
-use Rattle.net_states.specs.Counted.{AgreesWith}
+use Rattle.net_follow.specs.Beside.{HoldsLower}
+use Rattle.net_follow.specs.Counted.{AgreesWith}
 use Rattle.net_follow.specs.InStep.{IsInStep}
 use Rattle.net_anew.proofs.LoadLemmas.{loaded_agrees, loaded_few_claims, load_history, has_loaded}
 use Rattle.net_anew.proofs.loads.load.Goals as goal

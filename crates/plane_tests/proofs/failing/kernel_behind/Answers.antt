@@ -7,7 +7,7 @@ use Rattle.plane_tests.proofs.failing.kernel_behind.Goals as goal
 pub run-requires-clause-of : goal.run-requires-clause-of
 run-requires-clause-of g c =
     let empty = c.new-kernel.ensures.empty in
-    let new = c.new-net.ensures in
+    let new = c.new-net.ensures.new in
     record {
       devices = ap map_of empty.1 ∙ sym (ap devices_of new.inputs);
       objects = ap set_of empty.0 ∙ sym (ap set_of new.held);

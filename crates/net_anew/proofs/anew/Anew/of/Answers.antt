@@ -5,7 +5,7 @@ use Rattle.net_rules.specs.declared.inputs.Inputs.{Inputs}
 use Rattle.net_rules.specs.After.{after}
 use Rattle.net_rules.specs.Notices.{numbers_of}
 use Rattle.net_rules.specs.Moment.{Moment}
-use Rattle.graph_settle.specs.Course.{held_of}
+use Rattle.net_follow.specs.Course.{held_of}
 use Rattle.net_follow.specs.InStep.{inputs_of}
 use Rattle.net_anew.specs.declared.anew.Anew.{Anew}
 use Rattle.net_anew.proofs.AnewLemmas.{own_now, few_now, once_now, is_anew}

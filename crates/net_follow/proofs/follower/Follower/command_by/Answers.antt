@@ -2,7 +2,7 @@ use Rattle.std.proofs.Common.{arith, ◌≤◌, ◌<◌, [], ◌∷◌, length, 
 use Rattle.net_rules.specs.declared.event.Event.TheVariants as event
 use Rattle.net_rules.specs.After.{changed}
 use Rattle.net_apart.proofs.EventLemmas.{history_reached}
-use Rattle.graph_settle.specs.Course.{held_of}
+use Rattle.state_asks.specs.Course.{held_of}
 use Rattle.known_inputs.specs.Known.{Known}
 use Rattle.touch_laws.proofs.CommandLemmas.{follows}
 use Rattle.net_follow.specs.declared.follower.Follower.{Follower}

@@ -1,6 +1,18 @@
-use Rattle.net_plane.proofs.MomentLemmas.{bare_kept}
-use Rattle.net_plane.proofs.ReachedLemmas.{none_reached}
+use Rattle.std.proofs.Common.{ap}
+use Rattle.net_anew.specs.Course.{Course}
+use Rattle.net_anew.specs.Follower.{Follower}
+use Rattle.net_plane.proofs.NewLemmas.{new_in_step, new_seen}
 use Rattle.net_plane.proofs.net.Net.new.Goals as goal
 
 pub invariant_of-result : goal.invariant_of-result
-invariant_of-result c = (bare_kept c.no_inputs.result c.new.result c.no_inputs.ensures c.new.ensures, none_reached c.no_inputs.result c.new-3.result c.no_inputs.ensures c.new-3.ensures.empty)
+invariant_of-result c =
+    let f : Follower = record { inputs = c.new.result; settling = c.new-2.result; states = c.new-3.result; touched = c.new-4.result; notices = c.new-5.result } in
+    new_in_step f c.new.ensures c.new-2.ensures.bare c.new-3.ensures c.new-2.ensures.ready
+
+pub returns-clause-new : goal.returns-clause-new
+returns-clause-new c =
+    let f : Follower = record { inputs = c.new.result; settling = c.new-2.result; states = c.new-3.result; touched = c.new-4.result; notices = c.new-5.result } in
+    new_seen f c.new.ensures c.new-2.ensures.bare c.new-3.ensures c.new-5.ensures.items
+
+pub returns-clause-loads : goal.returns-clause-loads
+returns-clause-loads c = ap (λ (course : Course). course.graph.loads) c.new-2.ensures.bare

@@ -1,0 +1,14 @@
+use Rattle.std.proofs.Common.{◌≡◌, IfOk, subst}
+use Rattle.std.specs.Option.{option_map}
+use Rattle.serde_json.specs.View.{view}
+use Rattle.net_status.specs.Radios as spec
+use Rattle.net_plane.specs.Network.{Network}
+use Rattle.net_plane.specs.declared.net_error.NetError.TheVariants as error
+use Rattle.net_plane.proofs.StatusLemmas.{shows}
+use Rattle.net_whole.proofs.whole.WholeNet.radio_status.Goals as goal
+
+pub returns : goal.returns
+returns c =
+    let name = c.args.name.now in
+    shows view (spec.radio_status c.args.self.now.inputs name) error.NoRadio c.radio_status-shown.result c.shown_or.result c.shown_or.ensures
+    (subst (λ (n : Network). IfOk c.radio_status-shown.result (λ s. option_map view s ≡ spec.radio_status n.inputs name)) c.self.view_is c.radio_status-shown.ensures)

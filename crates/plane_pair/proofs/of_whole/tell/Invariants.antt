@@ -1,0 +1,10 @@
+use Rattle.std.proofs.Common.{length}
+use Rattle.net_plane.specs.Network.{HasSameKernel}
+use Rattle.plane_pair.proofs.of_whole.tell.Given as goal
+
+-- only notices were handed out
+abbrev pub invariant-loop-notice : goal.invariant-loop-notice
+invariant-loop-notice g l = HasSameKernel l.fn.net l.net
+
+abbrev pub decreases-loop-notice : goal.decreases-loop-notice
+decreases-loop-notice g l = length l.net.notices

@@ -1,0 +1,23 @@
+use Rattle.std.proofs.Common.{ap, sym, ◌∙◌}
+use Rattle.kern_model.specs.ObjectOrder.{set_of}
+use Rattle.kern_model.specs.Kernel.{map_of}
+use Rattle.net_rules.specs.Moment.{devices_of}
+use Rattle.plane_pair.proofs.pairs.assert_pair.Goals as goal
+
+pub assert_steps-requires-clause-of : goal.assert_steps-requires-clause-of
+assert_steps-requires-clause-of g c =
+    let empty = c.new-kernel.ensures.empty in
+    let new = c.new-net.ensures.new in
+    record {
+      devices = ap map_of empty.1 ∙ sym (ap devices_of new.inputs);
+      objects = ap set_of empty.0 ∙ sym (ap set_of new.held);
+    }
+
+pub assert_steps-requires-clause-whole_of : goal.assert_steps-requires-clause-whole_of
+assert_steps-requires-clause-whole_of g c =
+    let empty = c.new-other.ensures.empty in
+    let new = c.new-whole.ensures in
+    record {
+      devices = ap map_of empty.1 ∙ sym (ap devices_of new.inputs);
+      objects = ap set_of empty.0 ∙ sym (ap set_of new.held);
+    }
