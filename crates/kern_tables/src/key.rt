@@ -1,0 +1,33 @@
+ghost use Rattle.std.specs.Cmp.{partial_equiv_from_equiv};
+ghost use Rattle.kern_tables.specs.Keys as spec;
+
+use kern_model::Object;
+use std::hash::{Hash, Hasher};
+
+/// The key of a held object, which is the object.
+#[derive(Clone, Copy, Debug)]
+pub(crate) struct ObjectKey(pub(crate) Object);
+
+impl PartialEq for ObjectKey {
+    ghost eq = { spec.key_eq };
+
+    ghost laws = { partial_equiv_from_equiv spec.keys_alike };
+
+    fn eq(&self, other: &ObjectKey) -> bool {
+        self.0.is(&other.0)
+    }
+}
+
+impl Eq for ObjectKey {
+    ghost laws = { spec.keys_alike };
+}
+
+impl Hash for ObjectKey {
+    ghost hash_input = { spec.key_input };
+
+    ghost respects_eq = { spec.one_input };
+
+    fn hash<H: Hasher>(&self, state: &mut H) {
+        self.0.hash(state);
+    }
+}

@@ -1,0 +1,79 @@
+//! How the table of the objects that a kernel holds changes.
+ghost use Rattle.std.specs.Prelude.{◌≡◌, ◌≤◌, true, position, length, OnOk, OnErr};
+ghost use Rattle.kern_model.specs.declared.object.Call.TheVariants.{Put, Take};
+ghost use Rattle.kern_model.specs.AdmissionTest.{is_vlan_over};
+ghost use Rattle.kern_model.specs.Kernel.{after_call};
+ghost use Rattle.kern_model.specs.Standing.{gone};
+ghost use Rattle.indexmap.specs.IndexSet.{spare};
+ghost use Rattle.kern_memory.specs.KernelState.{left_standing, is_put};
+ghost use Rattle.kern_tables.specs.Tables.{listed, objects_in};
+
+use crate::key::ObjectKey;
+use indexmap::IndexSet;
+use kern_model::{Call, DevName, LinkKind, Object};
+use plane_io::Memory;
+
+/// Puts an object: what it takes the place of leaves. Where memory lacks, all stays.
+fn put(objects: &mut IndexSet<ObjectKey>, object: &Object) -> Result<(), Memory>
+    ensures ok { OnOk result (objects_in objects.new.keys
+        ≡ after_call (objects_in objects.old.keys) (Put object.now)) }
+    ensures err { OnErr result (objects.new.keys ≡ objects.old.keys) }
+    ensures full { OnErr result (spare objects.old ≡ 0) }
+{
+    // An insertion is proved only where a local names the enums within.
+    let _named: Option<LinkKind> = None;
+    let _added = objects.insert(ObjectKey(*object))?;
+    if object.is_value() {
+        objects.retain(|held| !object.replaces(&held.0) || object.is(&held.0));
+    }
+    Ok(())
+}
+
+/// Does what a call does. Where memory lacks, all stays.
+pub(crate) fn change(objects: &mut IndexSet<ObjectKey>, call: &Call) -> Result<(), Memory>
+    ensures did { OnOk result (objects_in objects.new.keys
+        ≡ after_call (objects_in objects.old.keys) call.now) }
+    ensures err { OnErr result (objects.new.keys ≡ objects.old.keys) }
+    ensures full { OnErr result ((is_put call.now ≡ true) × (spare objects.old ≡ 0)) }
+{
+    match call {
+        Call::Put(object) => put(objects, object),
+        Call::Take { object, .. } => {
+            objects.swap_remove(&ObjectKey(*object));
+            Ok(())
+        }
+    }
+}
+
+fn find_vlan_over(objects: &IndexSet<ObjectKey>, name: &DevName) -> Option<usize>
+    ensures { result ≡ position (λ held. is_vlan_over name.now held.0) objects.now.keys }
+{
+    objects
+        .as_slice()
+        .iter()
+        .position(|held| held.0.is_vlan_over(name))
+}
+
+/// Removes what stands on the name: with each VLAN over it what stands on that, and then the
+/// objects at the name.
+fn remove_standing_on(objects: &mut IndexSet<ObjectKey>, name: &DevName)
+    ensures items { listed objects.new.keys ≡ left_standing (listed objects.old.keys) name.now }
+    ensures fewer { length objects.new.keys ≤ length objects.old.keys }
+{
+    let Some(index) = find_vlan_over(objects, name) else {
+        objects.retain(|held| !held.0.is_at(name));
+        return;
+    };
+    let Some(vlan) = objects.shift_remove_index(index) else {
+        return;
+    };
+    remove_standing_on(objects, &vlan.0.name());
+    remove_standing_on(objects, name);
+}
+
+/// Removes what goes with a device of that name.
+pub(crate) fn remove_gone(objects: &mut IndexSet<ObjectKey>, name: &DevName)
+    ensures { objects_in objects.new.keys ≡ gone (objects_in objects.old.keys) name.now }
+{
+    remove_standing_on(objects, name);
+}
