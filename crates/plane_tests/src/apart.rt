@@ -1,8 +1,7 @@
 use crate::files::{ONE_WAN, TWO_ADDRESSES, WITH_ROUTES};
-use crate::histories::net_behind;
-use crate::shown::assert_text;
+use crate::histories::assert_shown;
+use crate::shown::Look;
 use crate::steps::Step::{Add, Answer, Carrier, Load, Remove};
-use kern_model::read_name;
 use std::test::Fail;
 
 #[test]
@@ -50,8 +49,7 @@ ok
 ",
         ),
     ];
-    let _net = net_behind(&rt, rt.alloc(), &[], &steps)?;
-    Ok(())
+    assert_shown(&rt, rt.alloc(), &[], &steps, &[])
 }
 
 #[test]
@@ -69,9 +67,7 @@ ok
         (Load("", ""), "error 93 kernel\n"),
         (Remove("eth0"), "ok\n"),
     ];
-    let net = net_behind(&rt, rt.alloc(), &[4], &steps)?;
-    assert_eq!(rt; net.due(), 0);
-    Ok(())
+    assert_shown(&rt, rt.alloc(), &[4], &steps, &[Look::NothingDue])
 }
 
 #[test]
@@ -90,9 +86,8 @@ ok
 ",
         ),
     ];
-    let net = net_behind(&rt, rt.alloc(), &[], &steps)?;
-    let name = read_name(b"eth1").expect(&rt, "a device name");
     let text =
         "{\"available\":true,\"carrier\":false,\"errors\":[],\"name\":\"eth1\",\"type\":\"Network device\",\"up\":false,\"users\":0}";
-    assert_text(&rt, rt.alloc(), net.device_status(rt.alloc(), &name), text)
+    let looks = [Look::Device("eth1", Ok(text))];
+    assert_shown(&rt, rt.alloc(), &[], &steps, &looks)
 }

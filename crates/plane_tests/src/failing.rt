@@ -112,11 +112,14 @@ fn kernel_behind(
     failing_apply: u64,
     failing_environment: u64,
 ) -> Result<MemKernel, Fail> {
-    let mut net = Net::new(alloc);
     let failing_apply = Vec::from_slice(alloc, &[failing_apply])?;
     let failing_environment = Vec::from_slice(alloc, &[failing_environment])?;
     let mut kernel = MemKernel::new(alloc, failing_apply, failing_environment);
-    run(rt, alloc, &mut net, &mut kernel)?;
+    let ran = {
+        let mut net = Net::new(alloc);
+        run(rt, alloc, &mut net, &mut kernel)
+    };
+    ran?;
     Ok(kernel)
 }
 

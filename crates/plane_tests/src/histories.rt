@@ -1,27 +1,50 @@
+ghost use Rattle.std.specs.Prelude.{◌≡◌, []};
+ghost use Rattle.net_plane.specs.Network.{IsOf};
+
 use crate::files::{
     BRIDGE_BECAME_VLAN, BRIDGED, BY_HAND, FILTERING, ON_VLAN, ONE_PORT, ONE_WAN, RADIO, ROUND,
     ROUTER, SHARED, TWICE, TWO_ADDRESSES, TWO_PORTS, UNSHARED, UNTAGGED, WITH_ROUTES,
 };
+use crate::shown::{Look, assert_look};
 use crate::steps::Step::{Add, Answer, Carrier, Load, Operator, Ports, Remove, Settle};
 use crate::steps::{Step, assert_history};
 use kern_memory::MemKernel;
+use kern_model::Kernel;
 use net_plane::Net;
 use std::alloc::Global;
 use std::process::Abort;
 use std::test::Fail;
 
-/// A new plane behind these steps, over a kernel whose calls with these numbers fail. Each step gives its lines.
-pub(crate) fn net_behind(
+/// A new plane comes to these steps, over a kernel whose calls with these numbers fail, each with its lines. Behind them it is looked at.
+pub(crate) fn assert_shown(
     rt: &impl Abort,
     alloc: Global,
     failing: &[u64],
     steps: &[(Step, &str)],
-) -> Result<Net, Fail> {
-    let mut net = Net::new(alloc);
+    looks: &[Look],
+) -> Result<(), Fail> {
     let failing = Vec::from_slice(alloc, failing)?;
     let mut kernel = MemKernel::new(alloc, failing, Vec::new(alloc));
-    assert_history(rt, alloc, &mut net, &mut kernel, steps)?;
-    Ok(net)
+    let mut net = Net::new(alloc);
+    assert_at(rt, alloc, &mut net, &mut kernel, steps, looks)
+}
+
+fn assert_at<K: Kernel>(
+    rt: &impl Abort,
+    alloc: Global,
+    net: &mut Net,
+    kernel: &mut K,
+    steps: &[(Step, &str)],
+    looks: &[Look],
+) -> Result<(), Fail>
+    requires told { net.old.notices ≡ [] }
+    requires of { IsOf K.Kernel kernel.old net.old }
+{
+    assert_history(rt, alloc, net, kernel, steps)?;
+    for look in looks {
+        assert_look(rt, alloc, net, look)?;
+    }
+    Ok(())
 }
 
 fn assert_from_new(
@@ -30,8 +53,7 @@ fn assert_from_new(
     failing: &[u64],
     steps: &[(Step, &str)],
 ) -> Result<(), Fail> {
-    let _net = net_behind(rt, alloc, failing, steps)?;
-    Ok(())
+    assert_shown(rt, alloc, failing, steps, &[])
 }
 
 #[test]

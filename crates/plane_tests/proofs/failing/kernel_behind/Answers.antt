@@ -4,8 +4,8 @@ use Rattle.kern_model.specs.Kernel.{map_of}
 use Rattle.net_rules.specs.Moment.{devices_of}
 use Rattle.plane_tests.proofs.failing.kernel_behind.Goals as goal
 
-pub run-requires-clause-of : goal.run-requires-clause-of
-run-requires-clause-of g c =
+pub run-ran-requires-clause-of : goal.run-ran-requires-clause-of
+run-ran-requires-clause-of g c =
     let empty = c.new-kernel.ensures.empty in
     let new = c.new-net.ensures.new in
     record {
