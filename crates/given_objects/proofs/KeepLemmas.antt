@@ -1,4 +1,5 @@
 -- Gifts stay gifts, and keep places and givers.
+use mathlib.Core.Bool.{beq}
 use Rattle.std.proofs.Common.{arith, ℕ, zero, suc, ◌≡◌, ◌≢◌, ◌⊎◌, ◌+◌, ◌-◌, ◌<◌, inl, inr, List, [], ◌∷◌, ◌++◌, map, filter, slice_get, slice_set, Contains, Option, Some, None, true, false, Bool, cond, refl, ap, sym, subst, ◌∙◌}
 use Rattle.std.specs.Prelude.{is_some, if◌then◌else◌, nat_lt, not}
 use Rattle.std.specs.Option.{option_map, option_map_or}
@@ -88,6 +89,21 @@ told_at gs place falls g at = ap (λ r. option_map_or (λ (g : Gift). slice_set 
 
 not_told : (gs : Gifts) (place : ℕ) (falls : Bool) → slice_get gs place ≡ None → with_falls gs place falls ≡ gs
 not_told gs place falls at = ap (λ r. option_map_or (λ (g : Gift). slice_set gs place (record g { falls = falls })) r gs) at
+
+-- what is told that was known
+set_same : (gs : Gifts) (place : ℕ) (g : Gift) → slice_get gs place ≡ Some g → slice_set gs place g ≡ gs
+set_same [] place g at = cc at
+set_same (x ∷ xs) zero g at = let same : x ≡ g = cc at in ap (λ (y : Gift). y ∷ xs) (sym same)
+set_same (x ∷ xs) (suc i) g at = ap (λ (ys : Gifts). x ∷ ys) (set_same xs i g at)
+
+pub same_flag : (a b : Bool) → beq a b ≡ true → a ≡ b
+same_flag true true is = refl
+same_flag true false is = cc is
+same_flag false true is = cc is
+same_flag false false is = refl
+
+pub told_again : (gs : Gifts) (place : ℕ) (falls : Bool) (g : Gift) → slice_get gs place ≡ Some g → g.falls ≡ falls → gs ≡ with_falls gs place falls
+told_again gs place falls g at is = sym (told_at gs place falls g at ∙ ap (λ (b : Bool). slice_set gs place (record g { falls = b })) (sym is) ∙ set_same gs place g at)
 
 -- one gift in another's place, with the same of all that a test or a map sees
 module _ {Y : Type 0} (f : Gift → Y) where

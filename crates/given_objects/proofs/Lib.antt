@@ -9,3 +9,4 @@ pub mod CallLemmas
 pub mod DueLemmas
 pub mod KeptLemmas
 pub mod OrderedLemmas
+pub mod PlacesLemmas

@@ -1,5 +1,5 @@
 -- Lists of what comes, in order: filled and sorted, read from the end, and kept while calls are made.
-use Rattle.std.proofs.Common.{arith, ℕ, zero, suc, ◌≡◌, ◌≤◌, ◌<◌, ◌+◌, ◌-◌, inl, inr, List, [], ◌∷◌, ◌++◌, map, filter, take, length, get_or, position, Contains, Option, Some, None, true, false, Bool, cond, refl, ap, sym, subst, ◌∙◌}
+use Rattle.std.proofs.Common.{arith, ℕ, zero, suc, ◌≡◌, ◌≤◌, ◌<◌, ◌+◌, ◌-◌, inl, inr, List, [], ◌∷◌, ◌++◌, take, length, get_or, position, Contains, Option, Some, None, true, false, Bool, refl, ap, sym, subst, ◌∙◌}
 use Rattle.std.specs.Prelude.{slice_get, slice_index_or, is_some, ◌&&◌, ◌||◌, not, if◌then◌else◌}
 use Rattle.std.specs.Option.{option_map_or, option_to_list}
 use Rattle.std.specs.Map.{keys_of, lookup}
@@ -10,15 +10,15 @@ use Rattle.std.specs.Cmp.Lexicographic.{nat_list_cmp_total}
 use Rattle.std.specs.List.Sorted.{IsPermutation, IsSortedBy}
 use Rattle.std.proofs.lemmas.Cmp.{on_total, then_total}
 use Rattle.std.proofs.lemmas.Bool.{cases_eq, cases_lt}
-use Rattle.std.proofs.lemmas.List.{length-map, length-set}
+use Rattle.std.proofs.lemmas.List.{append-nil, length-map, length-set}
 use Rattle.std.proofs.lemmas.List.Quantifiers.{position-Some}
-use Rattle.std.proofs.lemmas.List.Elements.{Contains-append_cases, Contains-append_left}
+use Rattle.std.proofs.lemmas.List.Elements.{Contains-append_cases, Contains-append_left, Contains-push}
 use Rattle.std.proofs.lemmas.List.Sorted.{IsPermutation-sym, Contains-permutation, ranks_by, IsStrictWeakOrder-flip, sorted_far}
 use Rattle.std.proofs.lemmas.Option.{slice_get_within, get_or_from_slice_get}
 use Rattle.kern_model.specs.declared.object.Object.{Object}
 use Rattle.kern_model.specs.Line.{IsPrintable}
 use Rattle.calls_parts.specs.Upper.{is_upper}
-use Rattle.kern_model.proofs.MemberLemmas.{first_or_later, none_in_nil, map_member, member_of_map}
+use Rattle.kern_model.proofs.MemberLemmas.{first_or_later, none_in_nil}
 use Rattle.given_objects.specs.declared.key.GiftKey.{GiftKey}
 use Rattle.given_objects.specs.declared.gift.Gift.{Gift}
 use Rattle.given_objects.specs.declared.first.Turn.{Turn}
@@ -30,12 +30,12 @@ use Rattle.given_objects.specs.Keys.{key_eq}
 use Rattle.given_objects.specs.Inside.{Entries, gift_in, listed}
 use Rattle.given_objects.specs.First.{IsFirstGift, NoneDue}
 use Rattle.given_objects.specs.Turns.{is_due, call_of}
-use Rattle.given_objects.specs.Ordered.{is_coming, turn_of, of_object, placed, place_cmp, with_coming, coming_in, ComeDown, ListsComing}
+use Rattle.given_objects.specs.Ordered.{is_coming, turn_of, of_object, placed, place_cmp, with_coming, HasComing, ComeDown, ListsComing}
 use Rattle.given_objects.proofs.KeyLemmas.{key_same}
 use Rattle.given_objects.proofs.TableLemmas.{looked}
 use Rattle.given_objects.proofs.OrderLemmas.{turns_in_order}
 use Rattle.given_objects.proofs.FirstLemmas.{taken_member}
-use Rattle.given_objects.proofs.ChangeLemmas.{in_filter, one_gift, found_gift, was_gift}
+use Rattle.given_objects.proofs.ChangeLemmas.{one_gift, found_gift, was_gift}
 use Rattle.given_objects.proofs.KeepLemmas.{no_gift, by_place}
 
 pub places_total : IsTotalOrder place_cmp
@@ -94,28 +94,7 @@ module _ (k : GiftKey) (es : Entries) where
       by None is = refl
       by (Some g) is = absurd (cc is)
 
--- what comes of gifts
-pub none_coming : (turn : Turn) (gs : Gifts) → coming_in turn (take 0 gs) ≡ []
-none_coming turn [] = refl
-none_coming turn (g ∷ gs) = refl
-
-coming_with : (turn : Turn) (gs : Gifts) (g : Gift) → coming_in turn (gs ++ g ∷ []) ≡ with_coming turn (coming_in turn gs) g
-coming_with turn [] g = by (is_coming turn g)
-  where
-    by : (b : Bool) → map (λ (x : Gift). placed turn x.object) (cond b (g ∷ []) []) ≡ [] ++ (if b then placed turn g.object ∷ [] else [])
-    by true = refl
-    by false = refl
-coming_with turn (x ∷ xs) g = by (is_coming turn x) (coming_with turn xs g)
-  where
-    by : (b : Bool) → coming_in turn (xs ++ g ∷ []) ≡ with_coming turn (coming_in turn xs) g
-        → map (λ (y : Gift). placed turn y.object) (cond b (x ∷ filter (is_coming turn) (xs ++ g ∷ [])) (filter (is_coming turn) (xs ++ g ∷ [])))
-        ≡ with_coming turn (map (λ (y : Gift). placed turn y.object) (cond b (x ∷ filter (is_coming turn) xs) (filter (is_coming turn) xs))) g
-    by true rest = ap (λ (ps : List Placed). placed turn x.object ∷ ps) rest
-    by false rest = rest
-
-pub coming_more : (turn : Turn) (gs : Gifts) (i : ℕ) (g : Gift) (more : Gifts) → more ≡ take i gs ++ g ∷ [] → coming_in turn more ≡ with_coming turn (coming_in turn (take i gs)) g
-coming_more turn gs i g more is = ap (coming_in turn) is ∙ coming_with turn (take i gs) g
-
+-- a list with what comes, and one more gift that does or does not
 pub comes_added : (turn : Turn) (ps : List Placed) (g : Gift) (b : Bool) → b ≡ is_coming turn g → b ≡ true → ps ++ placed turn g.object ∷ [] ≡ with_coming turn ps g
 comes_added turn ps g b is on = sym (ap (λ c. ps ++ (if c then placed turn g.object ∷ [] else [])) (sym is ∙ on))
 
@@ -126,18 +105,48 @@ comes_not_added turn ps g b is off = sym (append_none ps) ∙ sym (ap (λ c. ps 
     append_none [] = refl
     append_none (x ∷ xs) = ap (λ (ys : List Placed). x ∷ ys) (append_none xs)
 
--- a filled list is sorted
-pub listed_coming : (turn : Turn) (gs : Gifts) (ps qs : List Placed) → ps ≡ coming_in turn gs → IsPermutation ps qs → ComeDown qs → ListsComing turn gs qs
-listed_coming turn gs ps qs is same down = record {
-  at = λ p member.
-      let from = member_of_map (λ (g : Gift). placed turn g.object) (filter (is_coming turn) gs) p
-      (subst (λ (xs : List Placed). Contains xs p) is (Contains-permutation qs ps p (IsPermutation-sym ps qs same) member)) in
-      sym from.same ∙ ap (λ (x : Placed). placed turn x.object) from.same;
-  all = λ g member comes. Contains-permutation ps qs (placed turn g.object) same
-      (subst (λ (xs : List Placed). Contains xs (placed turn g.object)) (sym is)
-      (map_member (λ (x : Gift). placed turn x.object) (filter (is_coming turn) gs) g (in_filter (is_coming turn) gs g member comes)));
-  down = down;
+-- a list has what comes at the places so far
+pub has_none : (turn : Turn) (gs : Gifts) (places : List ℕ) (ps : List Placed) → ps ≡ [] → HasComing turn gs (take 0 places) ps
+has_none turn gs places ps none = record {
+  at = λ p member. absurd (none_in_nil p (subst (λ (xs : List Placed). Contains xs p) none member));
+  all = λ place g member at on. absurd (none_in_nil place (subst (λ (xs : List ℕ). Contains xs place) (nothing places) member));
 }
+  where
+    nothing : (xs : List ℕ) → take 0 xs ≡ []
+    nothing [] = refl
+    nothing (x ∷ xs) = refl
+
+module _ (turn : Turn) (gs : Gifts) (places : List ℕ) (place : ℕ) (ps : List Placed) (g : Gift) (there : slice_get gs place ≡ Some g) (has : HasComing turn gs places ps) where
+  same_gift : (other : ℕ) (x : Gift) → Contains (place ∷ []) other → slice_get gs other ≡ Some x → g ≡ x
+  same_gift other x member at = elim (first_or_later place [] other member) as (λ _. g ≡ x) [
+    | inl same ↦ let at_one : slice_get gs other ≡ Some g = ap (slice_get gs) (sym same) ∙ there in cc (at, at_one)
+    | inr none ↦ absurd (none_in_nil other none)
+  ]
+
+  has_grown : (b : Bool) → is_coming turn g ≡ b → HasComing turn gs (places ++ place ∷ []) (ps ++ (if b then placed turn g.object ∷ [] else []))
+  has_grown true is = record {
+    at = λ p member. elim (Contains-append_cases ps (placed turn g.object ∷ []) p member) as (λ _. p ≡ placed turn p.object) [
+      | inl old ↦ has.at p old
+      | inr new ↦ elim (first_or_later (placed turn g.object) [] p new) as (λ _. p ≡ placed turn p.object) [
+        | inl same ↦ sym same ∙ ap (λ (x : Placed). placed turn x.object) same
+        | inr none ↦ absurd (none_in_nil p none)
+      ]
+    ];
+    all = λ other x member at on. elim (Contains-append_cases places (place ∷ []) other member) as (λ _. Contains (ps ++ placed turn g.object ∷ []) (placed turn x.object)) [
+      | inl old ↦ Contains-append_left ps (placed turn g.object ∷ []) (placed turn x.object) (has.all other x old at on)
+      | inr new ↦ subst (λ (y : Gift). Contains (ps ++ placed turn g.object ∷ []) (placed turn y.object)) (same_gift other x new at) (Contains-push ps (placed turn g.object))
+    ];
+  }
+  has_grown false is = record {
+    at = λ p member. has.at p (subst (λ (xs : List Placed). Contains xs p) (append-nil ps) member);
+    all = λ other x member at on. elim (Contains-append_cases places (place ∷ []) other member) as (λ _. Contains (ps ++ []) (placed turn x.object)) [
+      | inl old ↦ Contains-append_left ps [] (placed turn x.object) (has.all other x old at on)
+      | inr new ↦ let told : is_coming turn g ≡ true = ap (is_coming turn) (same_gift other x new at) ∙ on in absurd (cc (is, told))
+    ];
+  }
+
+  pub has_more : (more : List ℕ) (qs : List Placed) → more ≡ places ++ place ∷ [] → qs ≡ with_coming turn ps g → HasComing turn gs more qs
+  has_more more qs longer is = subst (λ (xs : List ℕ). HasComing turn gs xs qs) (sym longer) (subst (λ (rs : List Placed). HasComing turn gs (places ++ place ∷ []) rs) (sym is) (has_grown (is_coming turn g) refl))
 
 -- sorted by a closure that compares the later with the earlier
 abbrev pub before : Placed → Placed → Bool
@@ -160,6 +169,17 @@ pub some_at : {X : Type 0} (xs : List X) (k : ℕ) (x : X) → k < length xs →
 some_at [] k x h is = absurd (omega arith)
 some_at (y ∷ ys) zero x h is = ap Some is
 some_at (y ∷ ys) (suc k) x h is = some_at ys k x (omega arith) is
+
+-- a filled list is sorted, where all that comes is at its places
+pub coming_sorted : (turn : Turn) (gs : Gifts) (places : List ℕ) (ps qs : List Placed) → HasComing turn gs places ps → ((place : ℕ) (g : Gift) → slice_get gs place ≡ Some g → is_coming turn g ≡ true → Contains places place)
+    → IsPermutation ps qs → ComeDown qs → ListsComing turn gs qs
+coming_sorted turn gs places ps qs has all same down = record {
+  at = λ p member. has.at p (Contains-permutation qs ps p (IsPermutation-sym ps qs same) member);
+  all = λ g member on.
+      let is = some_at gs member.0 g member.1 member.2 in
+      Contains-permutation ps qs (placed turn g.object) same (has.all member.0 g (all member.0 g is on) is on);
+  down = down;
+}
 
 module _ (turn : Turn) (gs : Gifts) where
   -- a list is read from the end: of none from an index on the gift is due

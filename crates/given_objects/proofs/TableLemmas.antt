@@ -126,10 +126,10 @@ read_at (x ∷ xs) zero e at = let same : x ≡ e = cc at in ap (λ (y : GiftKey
 read_at (x ∷ xs) (suc i) e at = read_at xs i e at
 
 -- what is written at a place
-some_key : GiftKey
+pub some_key : GiftKey
 some_key = key_of (object.Up [])
 
-set_at : (es : Entries) (i : ℕ) (c w : Counts) → slice_get (map (λ (e : GiftKey × Counts). e.1) es) i ≡ Some c → listed (set_value_at es i w) ≡ slice_set (listed es) i (gift_in (get_or (keys_of es) i some_key, w))
+pub set_at : (es : Entries) (i : ℕ) (c w : Counts) → slice_get (map (λ (e : GiftKey × Counts). e.1) es) i ≡ Some c → listed (set_value_at es i w) ≡ slice_set (listed es) i (gift_in (get_or (keys_of es) i some_key, w))
 set_at [] i c w at = cc at
 set_at (e ∷ es) zero c w at = refl
 set_at (e ∷ es) (suc i) c w at = ap (λ gs. gift_in e ∷ gs) (set_at es i c w at)
@@ -140,6 +140,9 @@ falls_at es i c falls at =
     let gs = listed es in
     set_at es i c (record c { falls = falls }) at
     ∙ sym (ap (λ r. option_map_or (λ (g : Gift). slice_set gs i (record g { falls = falls })) r gs) (read_at es i (get_or (keys_of es) i some_key, c) (pair_at es i c some_key at)))
+
+pub gift_told : (es : Entries) (i : ℕ) (c : Counts) → slice_get (map (λ (e : GiftKey × Counts). e.1) es) i ≡ Some c → slice_get (listed es) i ≡ Some (gift_in (get_or (keys_of es) i some_key, c))
+gift_told es i c at = read_at es i (get_or (keys_of es) i some_key, c) (pair_at es i c some_key at)
 
 -- a place or a giver tells that there is an entry
 pub not_lacking : (k : GiftKey) (es : Entries) (gs : Gifts) → listed es ≡ gs → false ≡ is_some (lookup (key_eq k) es) → has_place gs k.0 ≡ true → ⊥

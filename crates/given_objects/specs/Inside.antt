@@ -6,6 +6,7 @@ use Rattle.given_objects.specs.declared.gift.Counts.{Counts}
 use Rattle.given_objects.specs.declared.given.GivenObjects.TheInside.{Inside}
 use Rattle.given_objects.specs.Gifts.{Gifts, AreGifts}
 use Rattle.given_objects.specs.Ordered.{IsOrder, HasRoom}
+use Rattle.given_objects.specs.Places.{ArePlacesOf}
 
 abbrev pub Entries : Type 0
 Entries = List (GiftKey × Counts)
@@ -20,8 +21,10 @@ listed es = map gift_in es
 abbrev pub gifts_in : Inside → Gifts
 gifts_in given = listed given.table.entries
 
--- what is kept are gifts; the order, where it is kept, has what comes of them, and there is room in it for all of them
+-- What is kept are gifts. The order, where it is kept, has what comes of them; the places of what comes are listed, kept or
+-- not; and there is room in it for all of them.
 pub record IsKept (given : Inside) : Type 0 where
   pub gifts : AreGifts (gifts_in given)
   pub order : IsOrder given.order (gifts_in given)
+  pub places : ArePlacesOf (gifts_in given) given.order.places
   pub room : HasRoom given.order (length given.table.entries)

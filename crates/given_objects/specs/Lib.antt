@@ -12,6 +12,8 @@ pub mod Due
 pub mod Turns
 -- what comes of gifts, in the order of its calls
 pub mod Ordered
+-- places of gifts of which something may come
+pub mod Places
 -- keys of gifts
 pub mod Keys
 -- how gifts are kept

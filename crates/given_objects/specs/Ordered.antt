@@ -1,5 +1,5 @@
 -- What comes of gifts, in the order of its calls, the first at the end.
-use Rattle.std.specs.Prelude.{ℕ, ◌≡◌, ◌<◌, ◌≤◌, ◌&&◌, ◌||◌, not, List, [], ◌∷◌, ◌++◌, map, filter, Contains, slice_get, Some, Bool, true, false, if◌then◌else◌, vec_capacity}
+use Rattle.std.specs.Prelude.{ℕ, ◌≡◌, ◌<◌, ◌≤◌, ◌&&◌, ◌||◌, not, List, [], ◌∷◌, ◌++◌, Contains, slice_get, Some, Bool, true, false, if◌then◌else◌, vec_capacity}
 use Rattle.std.specs.Option.{option_map_or}
 use Rattle.std.specs.Ordering.{nat_cmp, ordering_then}
 use Rattle.std.specs.declared.cmp.Ordering.{Ordering}
@@ -44,9 +44,11 @@ place_cmp a b = ordering_then (nat_cmp a.rank b.rank) (slice_cmp nat_cmp a.line 
 abbrev pub with_coming : Turn → List Placed → Gift → List Placed
 with_coming turn ps g = ps ++ (if is_coming turn g then placed turn g.object ∷ [] else [])
 
--- what comes of gifts, in their order
-abbrev pub coming_in : Turn → Gifts → List Placed
-coming_in turn gs = map (λ g. placed turn g.object) (filter (is_coming turn) gs)
+-- a list has what comes in a turn of the gifts at places, and nothing else
+pub record HasComing (turn : Turn) (gs : Gifts) (places : List ℕ) (ps : List Placed) : Type 0 where
+  pub at : (p : Placed) → Contains ps p → p ≡ placed turn p.object
+  pub all : (place : ℕ) (g : Gift) → Contains places place → slice_get gs place ≡ Some g
+      → is_coming turn g ≡ true → Contains ps (placed turn g.object)
 
 -- none of a list comes before one that stands later in it
 abbrev pub ComeDown : List Placed → Type 0
@@ -60,10 +62,12 @@ pub record ListsComing (turn : Turn) (gs : Gifts) (ps : List Placed) : Type 0 wh
   pub all : (g : Gift) → Contains gs g → is_coming turn g ≡ true → Contains ps (placed turn g.object)
   pub down : ComeDown ps
 
--- there is room for so many calls of each turn
+-- there is room for so many calls of each turn, and for so many places
 pub record HasRoom (order : Order) (count : ℕ) : Type 0 where
   pub takes : count ≤ vec_capacity order.takes
   pub puts : count ≤ vec_capacity order.puts
+  pub list : count ≤ vec_capacity order.places.list
+  pub flags : count ≤ vec_capacity order.places.flags
 
 -- where the order is kept, both lists have what comes
 pub record IsOrder (order : Order) (gs : Gifts) : Type 0 where

@@ -12,6 +12,7 @@ use crate::form::has_form;
 use crate::gift::{Counts, Gift};
 use crate::key::GiftKey;
 use crate::order::{Order, gift_at, go_on, last_due, make_room, no_order, put_in_order, turn_of};
+use crate::places::{add_place, list_place};
 use indexmap::IndexMap;
 use kern_model::{LinkKind, Object};
 use plane_io::Memory;
@@ -23,7 +24,7 @@ use std::marker::Model;
 #[derive(Drop)]
 pub struct GivenObjects {
     table: IndexMap<GiftKey, Counts>,
-    /// What is to be taken and put, in the order of its calls, while that is kept.
+    /// What is to be taken and put, in the order of its calls, while that is kept, and the places at which something may come.
     order: Order,
 }
 
@@ -75,6 +76,7 @@ impl GivenObjects {
             falls: false,
         };
         let _none = self.table.insert(key, counts)?;
+        add_place(&mut self.order.places);
         Ok(())
     }
 
@@ -89,6 +91,7 @@ impl GivenObjects {
         };
         self.order.is_kept = false;
         self.table[place].givers += 1;
+        list_place(&mut self.order.places, place);
     }
 
     /// One less gives it.
@@ -101,6 +104,7 @@ impl GivenObjects {
         };
         self.order.is_kept = false;
         self.table[place].givers -= 1;
+        list_place(&mut self.order.places, place);
     }
 
     /// It was put and is held, or was taken and is not. Then its name does not fall. Where that was due, what is left stays in order.
@@ -121,6 +125,7 @@ impl GivenObjects {
         };
         self.order.is_kept &= was_due;
         go_on(&self.table, turn, &mut self.order);
+        list_place(&mut self.order.places, place);
     }
 
     /// Whether the name of the gift at a place falls.
@@ -128,8 +133,12 @@ impl GivenObjects {
         requires { place < length self.old }
         ensures { self.new ≡ with_falls self.old place falls }
     {
+        if self.table[place].falls == falls {
+            return;
+        }
         self.order.is_kept = false;
         self.table[place].falls = falls;
+        list_place(&mut self.order.places, place);
     }
 
     /// How many gifts there are.
@@ -150,7 +159,7 @@ impl GivenObjects {
     }
 
     /// What is to be taken and put is put in order, so that the first is found at once. Nothing else is seen of it, and it takes no
-    /// memory.
+    /// memory. It looks at what was touched since the last time, and at what came then.
     pub fn prepare(&mut self)
         ensures { self.new ≡ self.old }
     {
@@ -237,6 +246,7 @@ impl GivenObjects {
             falls: gift.falls,
         };
         let _none = self.table.insert(GiftKey(gift.object), counts)?;
+        add_place(&mut self.order.places);
         Ok(())
     }
 }

@@ -10,6 +10,7 @@ mod key;
 mod laws;
 mod line;
 mod order;
+mod places;
 
 pub use gift::Gift;
 pub use given::GivenObjects;

@@ -7,7 +7,8 @@ use Rattle.given_objects.specs.Inside.{listed}
 use Rattle.indexmap.specs.IndexMap.{set_value_at}
 use Rattle.given_objects.proofs.TableLemmas.{key_of, entry_at, written, givers_at, not_given}
 use Rattle.given_objects.proofs.KeepLemmas.{withdraw_gifts}
-use Rattle.given_objects.proofs.OrderedLemmas.{as_many_still}
+use Rattle.given_objects.proofs.OrderedLemmas.{as_many, as_many_still}
+use Rattle.given_objects.proofs.PlacesLemmas.{listed_written}
 use Rattle.given_objects.proofs.given.GivenObjects.withdraw.Goals as goal
 
 pub returns : goal.returns
@@ -30,7 +31,14 @@ invariant_of-self c =
     record {
       gifts = subst AreGifts (sym is) (withdraw_gifts (listed es) o c.self.invariant.gifts);
       order = record { takes = λ kept. absurd (cc kept); puts = λ kept. absurd (cc kept) };
-      room = record { takes = omega (arith, size, c.self.invariant.room.takes); puts = omega (arith, size, c.self.invariant.room.puts) };
+      places = listed_written es c.self.inside.order.places.list.items c.self.inside.order.places.flags.items c.self.invariant.places place counts (record counts { givers = counts.givers - 1 }) c.index_mut.ensures.value
+          c.list_place.new.places.list.items c.list_place.new.places.flags.items c.list_place.ensures.places c.list_place.ensures.flags;
+      room = record {
+        takes = omega (arith, size, c.self.invariant.room.takes);
+        puts = omega (arith, size, c.self.invariant.room.puts);
+        list = omega (arith, size, c.self.invariant.room.list, c.list_place.ensures.list_capacity);
+        flags = omega (arith, size, c.self.invariant.room.flags, c.list_place.ensures.flags_capacity);
+      };
     }
 
 pub returns-in_default : goal.returns-in_default
@@ -43,3 +51,12 @@ overflow_sub-index_mut c =
     let here = givers_at (key_of c.args.object.now) counts es c.in-Some.place c.get_index_of.ensures.unique (entry_at (key_of c.args.object.now) es c.in-Some.place counts (sym c.in-Some.ensures.index) c.index_mut.ensures.value) in
     let same = ap (λ gs. givers_of gs c.args.object.now) c.self.view_is in
     omega (arith, here, same, c.requires)
+
+pub list_place-requires-clause-places : goal.list_place-requires-clause-places
+list_place-requires-clause-places c = c.self.invariant.places.places
+
+pub list_place-requires-clause-within : goal.list_place-requires-clause-within
+list_place-requires-clause-within c = omega (arith, c.self.invariant.places.size, as_many c.self.inside.table.entries, c.in-Some.ensures.within)
+
+pub list_place-requires-clause-room : goal.list_place-requires-clause-room
+list_place-requires-clause-room c = omega (arith, c.self.invariant.places.size, as_many c.self.inside.table.entries, c.self.invariant.room.list)
