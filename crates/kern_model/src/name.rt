@@ -83,8 +83,12 @@ impl Ord for DevName {
 
     ghost matches_eq = { texts_ties };
 
+    // Most names differ in their first byte, which costs no call.
     fn cmp(&self, other: &DevName) -> Ordering {
-        self.text().cmp(other.text())
+        match self.bytes[0].cmp(&other.bytes[0]) {
+            Ordering::Equal => self.text().cmp(other.text()),
+            unequal => unequal,
+        }
     }
 }
 
