@@ -1,9 +1,10 @@
 -- Slots are judged one after another where ids decide their wishes.
-use Rattle.std.proofs.Common.{ℕ, suc, ◌≡◌, ◌+◌, ◌<◌, ◌⊎◌, inl, inr, List, [], ◌∷◌, ◌++◌, map, take, length, get_or, Contains, Option, Some, None, true, false, Bool, Vec, refl, ap, sym, subst, ◌∙◌}
-use Rattle.std.specs.Prelude.{slice_get, ◌||◌, if◌then◌else◌}
+use Rattle.std.proofs.Common.{arith, ℕ, suc, ◌≡◌, ◌+◌, ◌<◌, ◌⊎◌, inl, inr, List, [], ◌∷◌, ◌++◌, map, take, length, get_or, Contains, Option, Some, None, true, false, Bool, Vec, refl, ap, sym, subst, ◌∙◌}
+use Rattle.std.specs.Prelude.{slice_get, nat_eq, ◌||◌, if◌then◌else◌}
 use Rattle.std.specs.declared.alloc.Global.{Global}
 use Rattle.std.specs.Option.{option_map}
 use Rattle.std.proofs.lemmas.Bool.{cases_eq}
+use Rattle.std.proofs.lemmas.Bool.Decides.{nat_tests}
 use Rattle.std.proofs.lemmas.List.{take_more}
 use Rattle.std.proofs.lemmas.List.Elements.{Contains-append_cases}
 use Rattle.std.proofs.lemmas.Option.{slice_get-map}
@@ -81,6 +82,14 @@ module _ (used : List Bool) where
   pub each_none : (es : Entries) → each_slot (judged_slot_by used []) es ≡ es
   each_none [] = refl
   each_none (e ∷ es) = λ i. (e.0, record e.1 { wish = no_ids e.1.wish i }) ∷ each_none es i
+
+  none_judged : (ws : List Wish) → map (judged_by used []) ws ≡ ws
+  none_judged [] = refl
+  none_judged (w ∷ ws) = ap (λ (vs : List Wish). w ∷ vs) (none_judged ws)
+
+  pub by_no_id : (ids : List ℕ) (ws : List Wish) → nat_eq (length ids) 0 ≡ true → ws ≡ map (judged_by used ids) ws
+  by_no_id [] ws none = sym (none_judged ws)
+  by_no_id (id ∷ ids) ws none = let some : length (id ∷ ids) ≡ 0 = grind (arith, nat_tests) in absurd (omega (arith, some))
 
   pub each_next : (ids : List ℕ) (k : ℕ) (es : Entries) → k < length ids → each_slot (judged_slot_by used (get_or ids k 0 ∷ [])) (each_slot (judged_slot_by used (take k ids)) es) ≡ each_slot (judged_slot_by used (take (k + 1) ids)) es
   each_next ids k es inside = each_more (take k ids) (get_or ids k 0) es ∙ ap (λ (ns : List ℕ). each_slot (judged_slot_by used ns) es) (sym (take_more ids k 0 inside))

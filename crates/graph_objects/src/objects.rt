@@ -220,12 +220,15 @@ impl DeviceObjects {
     }
 
     /// An object that one of these ids decides is wanted where the names of its two ids are used; others stay as they are. The ids
-    /// come together, since what is then wanted has to stand on links that are wanted.
+    /// come together, since what is then wanted has to stand on links that are wanted. Where there is none, the order of calls is kept.
     pub fn judge_ids(&mut self, used: &[bool], ids: &[usize])
         requires { StandOnWanted (map (judged_by used.now ids.now) self.old.wishes) }
         ensures held { self.new.held ≡ self.old.held }
         ensures wishes { self.new.wishes ≡ map (judged_by used.now ids.now) self.old.wishes }
     {
+        if ids.is_empty() {
+            return;
+        }
         self.order.is_kept = false;
         judging::judge_ids(&mut self.slots, &mut self.marks, &self.by_id, used, ids);
     }

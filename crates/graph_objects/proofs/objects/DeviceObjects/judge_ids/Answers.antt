@@ -6,6 +6,7 @@ use Rattle.graph_objects.specs.Decided.{StandOnWanted, judged_by}
 use Rattle.graph_objects.specs.Deciders.{AreListed, deciders}
 use Rattle.graph_objects.proofs.EachLemmas.{decided_slots, decided_held, decided_wishes}
 use Rattle.graph_objects.proofs.DeciderLemmas.{as_many_slots, decided_deciders}
+use Rattle.graph_objects.proofs.JudgeLemmas.{by_no_id}
 use Rattle.graph_objects.proofs.objects.DeviceObjects.judge_ids.Goals as goal
 
 pub judge_ids-requires-clause-stand : goal.judge_ids-requires-clause-stand
@@ -29,3 +30,6 @@ returns-clause-held c = ap (listed Held) c.judge_ids.ensures.slots ∙ decided_h
 
 pub returns-clause-wishes : goal.returns-clause-wishes
 returns-clause-wishes c = ap wishes c.judge_ids.ensures.slots ∙ decided_wishes c.args.used.now c.args.ids.now c.self.inside.slots.entries ∙ ap (λ (m : Marks). map (judged_by c.args.used.now c.args.ids.now) m.wishes) c.self.view_is
+
+pub returns-then-is_empty-clause-wishes : goal.returns-then-is_empty-clause-wishes
+returns-then-is_empty-clause-wishes c = by_no_id c.args.used.now c.args.ids.now c.args.self.now.wishes (sym c.is_empty.ensures ∙ c.if-is_empty.true)
