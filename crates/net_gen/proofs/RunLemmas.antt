@@ -198,6 +198,7 @@ module _ (count : ℕ) (rows : Package) (net now : Moment) (before mid after : O
 
   -- all steps were taken, and then the last line ended
   module _ (s : IsThrough rows net now before mid) (same : after.objects ≡ now.held)
+      (present : after.devices ≡ devices_of now.inputs)
       (asked : after.asked ≡ mid.asked) (calls : after.calls ≡ mid.calls)
       (faults : after.kernel_faults ≡ mid.kernel_faults) (later : mid.out_faults ≤ after.out_faults) where
     abbrev end : Moment
@@ -229,6 +230,7 @@ module _ (count : ℕ) (rows : Package) (net now : Moment) (before mid after : O
       left = text_behind (objects_line end)
           (subst (λ (m : Moment). Grows mid.out after.out (objects_line m)) took_all.next written);
       objects = same ∙ ap (λ (m : Moment). m.held) took_all.next;
+      devices = present ∙ ap (λ (m : Moment). devices_of m.inputs) took_all.next;
       number = ap (λ (m : Moment). due_count m.held (want_of m.inputs)) (sym took_all.next) ∙ number;
     }
 
@@ -260,6 +262,7 @@ module _ (count : ℕ) (rows : Package) (net now : Moment) (before mid after : O
           line = ap objects_line (sym took_all.next) ∙ h.0.parts;
           left = text_behind h.0.front h.0.grows;
           objects = same ∙ ap (λ (m : Moment). m.held) took_all.next;
+          devices = present ∙ ap (λ (m : Moment). devices_of m.inputs) took_all.next;
           cause = let first = took_all.left.later in let rose = h.1 in omega (arith, first, rose);
         })
     run_ended (Err error.Memory) holds held h =

@@ -4,7 +4,7 @@ use Rattle.plane_words.specs.Causes.{Rose}
 use Rattle.plane_words.specs.Growth.{Grows, GrowsByFront}
 use Rattle.kern_calls.specs.Due.{due_count}
 use Rattle.uci_tree.specs.declared.package.Package.{Package}
-use Rattle.net_rules.specs.Moment.{Moment, want_of}
+use Rattle.net_rules.specs.Moment.{Moment, devices_of, want_of}
 use Rattle.net_settle.specs.Outside.{Outside}
 use Rattle.step_net.specs.Effects.{Effects, joined, Leaves}
 use Rattle.step_net.specs.Moved.{Luck, failures_of}
@@ -73,7 +73,8 @@ StepsEnd rows net now before after (Err (error.KernelFailed due)) = ⊥
 abbrev pub fewer : ℕ → Package
 fewer count = network standing.WithoutThirds count
 
--- all lines were written; the kernel holds what the steps made, and so many objects are due
+-- all lines were written; the kernel has the devices and holds what the steps made, and so many objects
+-- are due
 pub record IsFinished (count due : ℕ) (before after : Outside) : Type 0 where
   pub taken : List (Step × Luck)
   pub all : steps_in taken ≡ steps
@@ -81,6 +82,7 @@ pub record IsFinished (count due : ℕ) (before after : Outside) : Type 0 where
       ((walked count taken).effects.text ++ objects_line (walked count taken).net))
       (failures_in taken) before after
   pub objects : after.objects ≡ (walked count taken).net.held
+  pub devices : after.devices ≡ devices_of (walked count taken).net.inputs
   pub number : due_count (walked count taken).net.held (want_of (walked count taken).net.inputs)
       ≡ due
 
@@ -100,6 +102,7 @@ pub record IsCutAtEnd (count : ℕ) (before after : Outside) : Type 0 where
   pub left : Leaves (with_text (walked count taken).effects
       ((walked count taken).effects.text ++ front)) (failures_in taken) before after
   pub objects : after.objects ≡ (walked count taken).net.held
+  pub devices : after.devices ≡ devices_of (walked count taken).net.inputs
   pub cause : Rose before.out_faults after.out_faults
 
 -- a line was not written, or not wholly; the kernel holds what its step made

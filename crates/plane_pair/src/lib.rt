@@ -6,6 +6,8 @@ mod files;
 #[cfg(test)]
 mod histories;
 #[cfg(test)]
+mod lent;
+#[cfg(test)]
 mod of_net;
 #[cfg(test)]
 mod of_whole;

@@ -1,6 +1,7 @@
 ghost use Rattle.std.specs.Prelude.{◌≡◌, [], OnOk};
 ghost use Rattle.net_plane.specs.Network.{IsOf};
 
+use crate::lent::assert_lent;
 use crate::steps::Step;
 use crate::{of_net, of_whole};
 use kern_memory::MemKernel;
@@ -11,7 +12,7 @@ use std::alloc::Global;
 use std::process::Abort;
 use std::test::Fail;
 
-// A step of both planes: the same lines, and as much is due.
+// A step of both planes: the same lines, as much is due, and the lent graph tells what the other plane shows.
 fn assert_step<K: Kernel, L: Kernel>(
     rt: &impl Abort,
     alloc: Global,
@@ -34,7 +35,7 @@ fn assert_step<K: Kernel, L: Kernel>(
     let others = of_whole::lines(rt, alloc, whole, other, step)?;
     assert_eq!(rt; out.bytes(), others.bytes());
     assert_eq!(rt; net.due(), whole.due());
-    Ok(())
+    assert_lent(rt, alloc, net.graph(), whole)
 }
 
 fn assert_steps<K: Kernel, L: Kernel>(

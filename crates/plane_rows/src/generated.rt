@@ -7,11 +7,13 @@ fn calls_are_counted_step_by_step(rt: HostRuntime) -> Result<(), Fail> {
     let one = "add 7\ndel 3\nadd 7\nreload 0\nobjects 7\n";
     let three = "add 19\ndel 9\nadd 19\nreload 6\nobjects 13\n";
     let hundred = "add 601\ndel 300\nadd 601\nreload 198\nobjects 403\n";
+    let thousand = "add 6001\ndel 3000\nadd 6001\nreload 1998\nobjects 4003\n";
     for (words, text, calls, objects) in [
         ("gen 1", one, 17, 7),
         ("gen 3", three, 53, 13),
         ("gen 003", three, 53, 13),
         ("gen 100", hundred, 1700, 403),
+        ("gen 1000", thousand, 17000, 4003),
     ] {
         let ran = run(alloc, words, b"config", Failing::default())?;
         assert_eq!(rt; ran.status, 0, "{words}");

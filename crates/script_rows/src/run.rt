@@ -69,6 +69,47 @@ fn play_long(alloc: Global, size: usize) -> Result<Session, Fail> {
     Ok(run_over(alloc, words, &script, Failing::default(), &mut folder)?)
 }
 
+/// A text so many times.
+fn repeated(alloc: Global, text: &[u8], times: usize) -> Result<Vec<u8>, Fail> {
+    let mut all = Vec::new(alloc);
+    for _ in 0..times {
+        all.extend_from_slice(text)?;
+    }
+    Ok(all)
+}
+
+/// So many bridges, each of a port that is not there.
+fn bridges(alloc: Global, count: usize) -> Result<Vec<u8>, Fail> {
+    let mut text = Vec::new(alloc);
+    for number in 0..count {
+        let name = format!(in alloc; "config device\n\toption name b{number}\n")?;
+        let port = format!(in alloc; "\toption type bridge\n\tlist ports p{number}\n")?;
+        text.extend_from_slice(name.as_bytes())?;
+        text.extend_from_slice(port.as_bytes())?;
+    }
+    Ok(text)
+}
+
+#[test]
+fn a_device_that_nothing_uses_costs_little(rt: HostRuntime) -> Result<(), Fail> {
+    let alloc = rt.alloc();
+    let network = bridges(alloc, 1000)?;
+    let mut folder = Folder::new(alloc, &[("network", network.as_slice())])?;
+    let mut script = Vec::from_slice(alloc, b"dev add u\n")?;
+    let turns = repeated(alloc, b"carrier u 0\ncarrier u 1\n", 100_000)?;
+    script.extend_from_slice(&turns)?;
+    let ran = run_over(
+        alloc,
+        "run -c etc",
+        &script,
+        Failing::default(),
+        &mut folder,
+    )?;
+    assert_eq!(rt; ran.status, 0);
+    assert!(rt; ran.out.bytes() == repeated(alloc, b"ok\n", 200_001)?.as_slice());
+    Ok(())
+}
+
 /// A bridge of one port.
 const LONE: &str = "config device 'brlan'
 \toption name 'br-lan'

@@ -32,7 +32,8 @@ returns-in-Ok-take_steps g c =
       ends = run_ended c.args.count c.in-Ok.rows (moment_of c.in-Ok-load_all.net)
           (moment_of c.take_steps.new.net) before middle after c.in-Ok.ensures
           c.in-Ok-load_all.ensures.loaded c.in-Ok-take_steps.ensures.ends
-          c.take_steps.ensures.of.objects refl refl refl c.tell_held.ensures.later
+          c.take_steps.ensures.of.objects c.take_steps.ensures.of.devices refl refl refl
+          c.tell_held.ensures.later
           c.tell_held.result c.in-Ok-take_steps.ensures.holds c.take_steps.ensures.of.objects
           c.tell_held.ensures.ends;
     }
