@@ -1,2 +1,4 @@
 pub mod ObjectLemmas
+pub mod AtLemmas
+pub mod GoneLemmas
 pub mod DeviceLemmas

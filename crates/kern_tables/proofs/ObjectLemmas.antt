@@ -1,10 +1,9 @@
 -- What a table of objects is as a list and as a set.
-use Rattle.std.proofs.Common.{arith, ◌≡◌, ◌<◌, ℕ, zero, suc, ◌+◌, ◌++◌, List, [], ◌∷◌, map, filter, take, drop, position, slice_get, get_or, Option, Some, None, true, false, Bool, cond, inl, inr, length, refl, ap, sym, ◌∙◌}
-use Rattle.std.specs.Prelude.{not, ◌||◌, ◌&&◌, nat_lt, remove}
+use Rattle.std.proofs.Common.{◌≡◌, ℕ, zero, suc, ◌+◌, List, [], ◌∷◌, filter, position, slice_get, get_or, Option, Some, None, true, false, Bool, cond, inl, inr, refl, ap, sym, ◌∙◌}
+use Rattle.std.specs.Prelude.{not, ◌||◌, ◌&&◌, nat_lt}
 use Rattle.std.specs.Ordering.{eq_by_cmp}
 use Rattle.std.specs.List.{list_any, position_or_len}
 use Rattle.std.proofs.lemmas.List.{length-map}
-use Rattle.indexmap.proofs.SetLemmas.{map-remove}
 use Rattle.std.specs.Cmp.{eq_by_cmp_equiv}
 use Rattle.std.specs.FinSet as set
 use Rattle.kern_model.specs.declared.object.Object.{Object}
@@ -12,7 +11,7 @@ use Rattle.kern_model.specs.ObjectOrder.{Objects, Has, object_cmp, set_of}
 use Rattle.kern_model.specs.Kernel.{replaces}
 use Rattle.kern_model.proofs.OrderLemmas.{objects_total, objects_apart}
 use Rattle.kern_model.proofs.SetLemmas.{same_members, same_object, has_itself, has_before, new_or_before, has_retained, of_retained, test_of_same}
-use Rattle.kern_model.proofs.TestLemmas.{either, of_left, of_right, of_not, not_true}
+use Rattle.kern_model.proofs.TestLemmas.{either, of_left, of_right}
 use Rattle.kern_memory.proofs.StateLemmas.{set_of_filter}
 use Rattle.kern_tables.specs.declared.key.ObjectKey.{ObjectKey}
 use Rattle.kern_tables.specs.Keys.{key_eq}
@@ -118,9 +117,3 @@ pub got_listed : (ks : List ObjectKey) (i : ℕ) (k : ObjectKey) → slice_get k
 got_listed [] i k at = cc at
 got_listed (q ∷ qs) zero k at = let same : q ≡ k = cc at in ap (λ (x : ObjectKey). x.0) (sym same)
 got_listed (q ∷ qs) (suc i) k at = got_listed qs i k at
-
--- without what stands at a place
-pub without_place : (ks : List ObjectKey) (i : ℕ) → listed (remove ks i) ≡ take i (listed ks) ++ drop (i + 1) (listed ks)
-without_place ks i =
-    let one : suc i ≡ i + 1 = omega arith in
-    map-remove (λ (k : ObjectKey). k.0) ks i ∙ ap (λ n. take i (listed ks) ++ drop n (listed ks)) one

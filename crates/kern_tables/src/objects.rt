@@ -1,12 +1,13 @@
 //! How the table of the objects that a kernel holds changes.
-ghost use Rattle.std.specs.Prelude.{◌≡◌, ◌≤◌, true, position, length, OnOk, OnErr};
+ghost use Rattle.std.specs.Prelude.{◌≡◌, ◌≤◌, true, not, position, length, OnOk, OnErr};
+ghost use Rattle.std.specs.FinSet as set;
 ghost use Rattle.kern_model.specs.declared.object.Call.TheVariants.{Put, Take};
-ghost use Rattle.kern_model.specs.AdmissionTest.{is_vlan_over};
+ghost use Rattle.kern_model.specs.AdmissionTest.{is_at, is_vlan_over};
 ghost use Rattle.kern_model.specs.Kernel.{after_call};
 ghost use Rattle.kern_model.specs.Standing.{gone};
 ghost use Rattle.indexmap.specs.IndexSet.{spare};
-ghost use Rattle.kern_memory.specs.KernelState.{left_standing, is_put};
-ghost use Rattle.kern_tables.specs.Tables.{listed, objects_in};
+ghost use Rattle.kern_memory.specs.KernelState.{is_put};
+ghost use Rattle.kern_tables.specs.Tables.{objects_in};
 
 use crate::key::ObjectKey;
 use indexmap::IndexSet;
@@ -54,26 +55,32 @@ fn find_vlan_over(objects: &IndexSet<ObjectKey>, name: &DevName) -> Option<usize
         .position(|held| held.0.is_vlan_over(name))
 }
 
-/// Removes what stands on the name: with each VLAN over it what stands on that, and then the
-/// objects at the name.
-fn remove_standing_on(objects: &mut IndexSet<ObjectKey>, name: &DevName)
-    ensures items { listed objects.new.keys ≡ left_standing (listed objects.old.keys) name.now }
+/// Removes the objects at the name.
+fn remove_at(objects: &mut IndexSet<ObjectKey>, name: &DevName)
+    ensures items { objects_in objects.new.keys
+        ≡ set.retain (objects_in objects.old.keys) (λ o. not (is_at name.now o)) }
+    ensures fewer { length objects.new.keys ≤ length objects.old.keys }
+{
+    for index in (0..objects.len()).rev() {
+        if objects[index].0.is_at(name) {
+            objects.swap_remove_index(index);
+        }
+    }
+}
+
+/// Removes what goes with a device of that name: with each VLAN over it what stands on that, and
+/// then the objects at the name.
+pub(crate) fn remove_standing_on(objects: &mut IndexSet<ObjectKey>, name: &DevName)
+    ensures left { objects_in objects.new.keys ≡ gone (objects_in objects.old.keys) name.now }
     ensures fewer { length objects.new.keys ≤ length objects.old.keys }
 {
     let Some(index) = find_vlan_over(objects, name) else {
-        objects.retain(|held| !held.0.is_at(name));
+        remove_at(objects, name);
         return;
     };
-    let Some(vlan) = objects.shift_remove_index(index) else {
+    let Some(vlan) = objects.swap_remove_index(index) else {
         return;
     };
     remove_standing_on(objects, &vlan.0.name());
-    remove_standing_on(objects, name);
-}
-
-/// Removes what goes with a device of that name.
-pub(crate) fn remove_gone(objects: &mut IndexSet<ObjectKey>, name: &DevName)
-    ensures { objects_in objects.new.keys ≡ gone (objects_in objects.old.keys) name.now }
-{
     remove_standing_on(objects, name);
 }

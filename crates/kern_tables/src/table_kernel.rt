@@ -11,7 +11,7 @@ ghost use Rattle.kern_tables.specs.TableKernel.{no_calls, nothing_asked, IsFullF
 
 use crate::devices::{add_device, remove_device, set_carrier};
 use crate::key::ObjectKey;
-use crate::objects::{change, remove_gone};
+use crate::objects::{change, remove_standing_on};
 use indexmap::{IndexMap, IndexSet};
 use kern_model::{Asked, Call, DevEvent, DevName, Device, Kernel};
 use plane_io::{Failed, Memory};
@@ -84,7 +84,7 @@ impl TableKernel {
             } => add_device(&mut self.devices, &name, Device { carrier, mtu, mac }),
             DevEvent::Remove { name } => {
                 remove_device(&mut self.devices, &name);
-                remove_gone(&mut self.objects, &name);
+                remove_standing_on(&mut self.objects, &name);
                 Ok(())
             }
             DevEvent::Carrier { name, on } => {
