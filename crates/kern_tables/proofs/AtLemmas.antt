@@ -37,7 +37,7 @@ none_after name ks i o none k d from within = grind (arith, elements)
 -- where none is at the name, all stay
 pub all_stay : (name : List ℕ) (ks : List ObjectKey) → NoneFrom name ks 0 → objects_in ks ≡ set.retain (objects_in ks) (λ o. not (is_at name o))
 all_stay name ks none = same_members (objects_in ks) (set.retain (objects_in ks) (λ o. not (is_at name o)))
-    (λ x h. let at = member_of_set (listed ks) x h in 
+    (λ x h. let at = member_of_set (listed ks) x h in
     let inside : at.0 < length ks = subst (λ n. at.0 < n) (length-map ks (λ (k : ObjectKey). k.0)) at.1 in
     let is : x ≡ (get_or ks at.0 (key_of x)).0 = sym at.2 ∙ get_or-map (λ (k : ObjectKey). k.0) ks at.0 (key_of x) x inside in
     has_retained (objects_in ks) (λ o. not (is_at name o)) x h (ap (λ o. not (is_at name o)) is ∙ ap not (none at.0 (key_of x) (omega arith) inside)))

@@ -18,11 +18,10 @@ loop-index-preserved-then-is_at c =
     let took : c.swap_remove_index.result ≡ Some key = c.swap_remove_index.ensures.key ∙ c.index.ensures in
     let fewer : length fs + 1 ≡ length ks = subst (λ found. length fs + cond (is_some found) 1 0 ≡ length ks) took c.swap_remove_index.ensures.len in
     let before : c.loop-index.index ≡ i + 1 = omega (arith, c.loop-index-test.true) in
-    let kept = c.loop-index.invariant in
-    (
+    let kept = c.loop-index.invariant in (
       ap (λ s. set.retain s (λ o. not (is_at name o))) (without_key ks fs key.0 (some_of _ key took c.swap_remove_index.ensures.updates).0)
-      ∙ retained_without (objects_in ks) key.0 (λ o. not (is_at name o)) (ap not (sym c.is_at.ensures ∙ c.if-is_at.true))
-      ∙ kept.0,
+          ∙ retained_without (objects_in ks) key.0 (λ o. not (is_at name o)) (ap not (sym c.is_at.ensures ∙ c.if-is_at.true))
+          ∙ kept.0,
       subst (λ xs. NoneFrom name xs i) (sym (some_of _ key took c.swap_remove_index.ensures.keys)) (none_after name ks i key (subst (NoneFrom name ks) before kept.1)),
       omega (arith, fewer, kept.2),
       omega (arith, fewer, kept.3),
@@ -36,8 +35,7 @@ loop-index-preserved c =
     let key = c.index.result.now in
     let before : c.loop-index.index ≡ i + 1 = omega (arith, c.loop-index-test.true) in
     let kept = c.loop-index.invariant in
-    let inside : i < length ks = omega (arith, before, kept.2) in
-    (
+    let inside : i < length ks = omega (arith, before, kept.2) in (
       kept.0,
       one_more name ks i key (subst (NoneFrom name ks) before kept.1) inside (sym (get_or_from_slice_get ks i key key c.index.ensures)) (sym c.is_at.ensures ∙ c.if-is_at.false),
       omega (arith, inside),
