@@ -36,18 +36,33 @@ impl Texts {
             .map(|(_, bytes)| bytes.as_slice())
     }
 
+    /// Names a text with these bytes. Gives nothing where the name is taken.
+    pub(crate) fn add(&mut self, name: &str, bytes: &[u8]) -> anyhow::Result<Option<()>> {
+        let begun = self.begin(name)?;
+        if let (Some(()), Some((_, last))) = (begun, self.texts.last_mut()) {
+            last.extend_from_slice(bytes)?;
+        }
+        Ok(begun)
+    }
+
     /// Puts what a line of a body stands for behind the text that was named last.
-    pub(crate) fn extend_last(&mut self, line: &str) -> anyhow::Result<Option<()>> {
+    pub(crate) fn extend_last(&mut self, files: &Texts, line: &str) -> anyhow::Result<Option<()>> {
         let mut bytes = Vec::new(self.alloc);
-        let read = self.put_line(&mut bytes, line)?;
+        let read = self.put_line(files, &mut bytes, line)?;
         if let Some((_, last)) = self.texts.last_mut() {
             last.extend_from_slice(&bytes)?;
         }
         Ok(read)
     }
 
-    /// Puts what a line of a body, behind its mark, stands for behind these bytes. Gives nothing where it is no such line.
-    pub(crate) fn put_line(&self, bytes: &mut Vec<u8>, line: &str) -> anyhow::Result<Option<()>> {
+    /// Puts what a line of a body, behind its mark, stands for behind these bytes. A name is one of these texts or of a file.
+    /// Gives nothing where it is no such line.
+    pub(crate) fn put_line(
+        &self,
+        files: &Texts,
+        bytes: &mut Vec<u8>,
+        line: &str,
+    ) -> anyhow::Result<Option<()>> {
         let Some((kind, text)) = line.split_once(' ') else {
             return Ok(match line {
                 "" => Some(bytes.push(b'\n')?),
@@ -65,7 +80,7 @@ impl Texts {
                 Err(_) => return Ok(None),
             },
             "*" => return repeat(self.alloc, bytes, text),
-            "<" => match self.get(text) {
+            "<" => match self.get(text).or(files.get(text)) {
                 Some(named) => bytes.extend_from_slice(named)?,
                 None => return Ok(None),
             },

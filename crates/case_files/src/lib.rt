@@ -21,7 +21,7 @@
 //! - `. TEXT`: that text without a newline,
 //! - `x HEX`: these bytes,
 //! - `* N TEXT`: that text N times, in which `{}` is the number from 0 on and `\n` a newline,
-//! - `< NAME`: the bytes of a named text.
+//! - `< NAME`: the bytes of a named text, of this file or of a file that the command line names.
 #![tactic(auto)]
 
 mod body;
@@ -30,7 +30,5 @@ mod player;
 mod quoted;
 mod read;
 
-pub use case::{Case, Step};
-pub use player::{Player, Stage, play_files};
+pub use player::{Stage, play_files};
 pub use quoted::words;
-pub use read::{Fault, read_cases};

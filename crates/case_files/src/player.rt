@@ -1,3 +1,4 @@
+use crate::body::Texts;
 use crate::case::{Case, Step};
 use crate::read::read_cases;
 use std::alloc::Global;
@@ -21,8 +22,10 @@ pub trait Stage: Sized + Drop {
 
 /// Plays cases, and keeps what is told of them.
 #[derive(Drop)]
-pub struct Player {
+struct Player {
     alloc: Global,
+    /// The files that are texts.
+    files: Texts,
     told: String,
     cases: usize,
     failed: usize,
@@ -30,9 +33,10 @@ pub struct Player {
 
 impl Player {
     /// A player that has played nothing.
-    pub fn new(alloc: Global) -> Player {
+    fn new(alloc: Global) -> Player {
         Player {
             alloc,
+            files: Texts::new(alloc),
             told: String::new(alloc),
             cases: 0,
             failed: 0,
@@ -40,11 +44,7 @@ impl Player {
     }
 
     /// What is told: each difference and each fault, and how many cases there were.
-    ///
-    /// # Errors
-    ///
-    /// Where memory lacks.
-    pub fn told(mut self) -> anyhow::Result<(String, bool)> {
+    fn told(mut self) -> anyhow::Result<(String, bool)> {
         writeln!(self.told, "{} cases", self.cases)?;
         if self.failed > 0 {
             writeln!(self.told, "{} FAILED", self.failed)?;
@@ -54,12 +54,8 @@ impl Player {
     }
 
     /// Plays the cases of a file.
-    ///
-    /// # Errors
-    ///
-    /// Where memory lacks.
-    pub fn play<S: Stage>(&mut self, file: &str, text: &str) -> anyhow::Result<()> {
-        match read_cases(self.alloc, text)? {
+    fn play<S: Stage>(&mut self, file: &str, text: &str) -> anyhow::Result<()> {
+        match read_cases(self.alloc, &self.files, text)? {
             Ok(cases) => {
                 for case in &cases {
                     self.cases = self.cases.saturating_add(1);
@@ -145,7 +141,8 @@ impl Player {
     }
 }
 
-/// Plays the files of cases that the command line names, and prints what is told. The status is 0 where nothing differs.
+/// Plays the files of cases that the command line names, and prints what is told. A file whose name does not end in `.cases` is a
+/// text that the files behind it may name. The status is 0 where nothing differs.
 ///
 /// # Errors
 ///
@@ -154,7 +151,12 @@ pub fn play_files<S: Stage>(rt: &HostRuntime) -> anyhow::Result<ExitCode> {
     let mut player = Player::new(rt.alloc());
     for file in env::args(rt)?.skip(1) {
         let text = fs::read_to_string(rt, file.as_str())?;
-        player.play::<S>(&file, &text)?;
+        if file.ends_with(".cases") {
+            player.play::<S>(&file, &text)?;
+        } else if player.files.add(&file, text.as_bytes())?.is_none() {
+            player.fail();
+            writeln!(player.told, "{file}: a second file of this name")?;
+        }
     }
     let (told, is_well) = player.told()?;
     print!(rt; "{told}")?;

@@ -5,7 +5,7 @@ use thiserror::Error;
 
 /// Why a file is no file of cases.
 #[derive(Debug, Drop, Error)]
-pub enum Fault {
+pub(crate) enum Fault {
     /// The first line that cannot stand where it stands, from 1 on.
     #[error("line {line}: {why}")]
     Line { line: usize, why: &'static str },
@@ -21,21 +21,27 @@ enum Place {
 
 /// The lines that were read so far.
 #[derive(Drop)]
-struct Reader {
+struct Reader<'a> {
     alloc: Global,
+    files: &'a Texts,
     texts: Texts,
     cases: Vec<Case>,
     place: Place,
 }
 
-/// The cases of a file, in their order, or its first fault.
+/// The cases of a file, in their order, or its first fault. They may name texts of other files.
 ///
 /// # Errors
 ///
 /// Where memory lacks.
-pub fn read_cases(alloc: Global, text: &str) -> anyhow::Result<Result<Vec<Case>, Fault>> {
+pub(crate) fn read_cases(
+    alloc: Global,
+    files: &Texts,
+    text: &str,
+) -> anyhow::Result<Result<Vec<Case>, Fault>> {
     let mut reader = Reader {
         alloc,
+        files,
         texts: Texts::new(alloc),
         cases: Vec::new(alloc),
         place: Place::Nothing,
@@ -57,7 +63,7 @@ pub fn read_cases(alloc: Global, text: &str) -> anyhow::Result<Result<Vec<Case>,
     }
 }
 
-impl Reader {
+impl Reader<'_> {
     /// Takes a line, or tells why it cannot stand there.
     fn line(&mut self, line: &str, number: usize) -> anyhow::Result<Option<&'static str>> {
         if line.is_empty() {
@@ -105,7 +111,7 @@ impl Reader {
         let Some(body) = line.strip_prefix('|') else {
             return Ok(Some("a line of no text"));
         };
-        Ok(match self.texts.extend_last(body)? {
+        Ok(match self.texts.extend_last(self.files, body)? {
             Some(()) => None,
             None => Some("no such form of a line"),
         })
@@ -114,6 +120,7 @@ impl Reader {
     fn case_line(&mut self, line: &str, number: usize) -> anyhow::Result<Option<&'static str>> {
         let Reader {
             alloc,
+            files,
             texts,
             cases,
             ..
@@ -131,21 +138,26 @@ impl Reader {
             return Ok(None);
         }
         match case.steps.last_mut() {
-            Some(step) => put_body(texts, step, line),
+            Some(step) => put_body(files, texts, step, line),
             None => Ok(Some("a line in front of the first step")),
         }
     }
 }
 
 /// Puts a line of input, or of what is wanted, into the step.
-fn put_body(texts: &Texts, step: &mut Step, line: &str) -> anyhow::Result<Option<&'static str>> {
+fn put_body(
+    files: &Texts,
+    texts: &Texts,
+    step: &mut Step,
+    line: &str,
+) -> anyhow::Result<Option<&'static str>> {
     let put = if let Some(body) = line.strip_prefix('=') {
-        texts.put_line(&mut step.wanted, body)?
+        texts.put_line(files, &mut step.wanted, body)?
     } else if let Some(body) = line.strip_prefix('|') {
         if !step.wanted.is_empty() {
             return Ok(Some("input behind what is wanted"));
         }
-        texts.put_line(&mut step.input, body)?
+        texts.put_line(files, &mut step.input, body)?
     } else {
         return Ok(Some("no step, no input and nothing that is wanted"));
     };
