@@ -5,7 +5,7 @@ use sqlite_items::Items;
 pub const MOST_LEVELS: u8 = 32;
 
 /// A value of the message bus.
-#[derive(Debug, Drop)]
+#[derive(Drop)]
 #[cycle(blob)]
 pub enum Blob {
     /// No value: JSON's `null`.
@@ -24,7 +24,7 @@ pub enum Blob {
 }
 
 /// A value with its name, bytes without a zero byte.
-#[derive(Debug, Drop)]
+#[derive(Drop)]
 #[cycle(blob)]
 pub struct Attr {
     pub name: Text,

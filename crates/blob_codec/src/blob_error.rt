@@ -8,7 +8,7 @@ use thiserror::Error;
 
 /// Why bytes were not read as a blob: the first fault with the place of its attribute's first byte,
 /// or want of memory.
-#[derive(Clone, Copy, Debug, PartialEq, Eq, Error)]
+#[derive(Clone, Copy, Debug, Error)]
 pub enum BlobError {
     /// Fewer than four bytes are left, or the attribute with its padding passes the end.
     #[error("the attribute at {at} is cut short")]

@@ -13,7 +13,7 @@ use serde_json::Value;
 use std::alloc::Global;
 
 /// An access list. A client may do what some record of its user or its group allows. The user `root` may do all.
-#[derive(Debug, Drop)]
+#[derive(Drop)]
 pub struct Acl {
     pub records: Items<Record>,
 }

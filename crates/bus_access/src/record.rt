@@ -5,7 +5,7 @@ use crate::fits_front;
 use plane_io::{Items, Text};
 
 /// Objects by a pattern of their paths, and patterns of the methods that may be called.
-#[derive(Debug, Drop)]
+#[derive(Drop)]
 pub struct Access {
     pub object: Text,
     pub methods: Items<Text>,
@@ -13,7 +13,7 @@ pub struct Access {
 
 /// What the clients of a user, or of a group, may do. All texts but the user and the group are patterns, in which a last `*`
 /// stands for any rest.
-#[derive(Debug, Drop)]
+#[derive(Drop)]
 pub struct Record {
     pub user: Option<Text>,
     pub group: Option<Text>,

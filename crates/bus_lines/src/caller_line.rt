@@ -1,7 +1,7 @@
 use plane_io::Text;
 
 /// The words of a line that calls a method: for a session or for none, the path of the object, the method, and the arguments as JSON.
-#[derive(Debug, Drop)]
+#[derive(Drop)]
 pub struct CallWords {
     pub session: Option<u128>,
     pub path: Text,
@@ -10,7 +10,7 @@ pub struct CallWords {
 }
 
 /// A line of a script that calls a method of a local object, or one of a client of the message bus.
-#[derive(Debug, Drop)]
+#[derive(Drop)]
 pub enum CallerLine {
     /// A method is called.
     Call(CallWords),

@@ -11,7 +11,7 @@ use script_clients::ScriptBus;
 use std::alloc::Global;
 
 /// A random word that was taken from a source and not used yet, if there is one.
-#[derive(Clone, Copy, Debug, PartialEq, Eq)]
+#[derive(Clone, Copy)]
 pub struct SpareWord {
     pub word: Option<u64>,
 }

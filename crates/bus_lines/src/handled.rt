@@ -2,7 +2,7 @@ use local_objects::Told;
 use plane_io::Text;
 
 /// What is to be told of a line: the lines of sends in front of its calls, and the rest behind them.
-#[derive(Debug, Drop)]
+#[derive(Drop)]
 pub struct Handled {
     pub sent: Text,
     pub told: Told,

@@ -20,7 +20,7 @@ use std::collections::BTreeSet;
 use std::collections::btree_set::Range;
 
 /// Open calls as they were opened, found by caller and sequence.
-#[derive(Debug, Drop)]
+#[derive(Drop)]
 pub struct CallRows {
     /// By rising number.
     pub rows: Vec<OpenCall>,

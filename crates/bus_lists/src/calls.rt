@@ -13,7 +13,7 @@ use bus_table::Client;
 use ubus_frames::Frame;
 
 /// A call that was passed on and is not answered yet.
-#[derive(Clone, Copy, Debug, PartialEq, Eq, PartialOrd, Ord)]
+#[derive(Clone, Copy, PartialEq, Eq, PartialOrd, Ord)]
 pub struct OpenCall {
     pub caller: u32,
     pub seq: u16,

@@ -11,7 +11,7 @@ use plane_io::Memory;
 use std::alloc::Global;
 
 /// Clients by rising number, and the number of the next one.
-#[derive(Debug, Drop)]
+#[derive(Drop)]
 pub struct ClientRows {
     pub rows: Vec<Client>,
     pub next: u64,

@@ -18,7 +18,7 @@ use std::alloc::Global;
 use std::collections::{BTreeMap, BTreeSet};
 
 /// Objects by rising number, found by owner, type and path too, and the number of the next one.
-#[derive(Debug, Drop)]
+#[derive(Drop)]
 pub struct ObjectRows {
     pub rows: Vec<Object>,
     pub next: u64,

@@ -11,7 +11,7 @@ use std::alloc::Global;
 use std::marker::Model;
 
 /// The event object and the local objects.
-#[derive(Debug, Drop)]
+#[derive(Drop)]
 pub struct OwnObjects {
     event: Object,
     local: Items<Object>,

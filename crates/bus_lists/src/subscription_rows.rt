@@ -14,7 +14,7 @@ use std::collections::BTreeSet;
 use std::marker::Model;
 
 /// Subscriptions as they came, found by target and by subscriber. Contracts see the list.
-#[derive(Debug, Drop)]
+#[derive(Drop)]
 pub struct SubscriptionRows {
     rows: Vec<Subscription>,
     by_target: BTreeSet<(u64, u32)>,

@@ -11,7 +11,7 @@ use std::alloc::Global;
 use ubus_frames::Frame;
 
 /// A frame, and the client to which it goes.
-#[derive(Debug, Drop)]
+#[derive(Drop)]
 pub struct Outgoing {
     pub client: u32,
     pub frame: Frame,

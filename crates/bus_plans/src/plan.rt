@@ -7,7 +7,7 @@ use bus_table::LocalCall;
 use plane_io::Items;
 
 /// What a message comes to, before it is done.
-#[derive(Debug, Drop)]
+#[derive(Drop)]
 pub struct Plan {
     pub change: Change,
     pub out: Items<Outgoing>,

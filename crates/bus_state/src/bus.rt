@@ -11,7 +11,7 @@ use std::alloc::Global;
 const FIRST_NUMBER: u64 = 1025;
 
 /// What the bus knows.
-#[derive(Debug, Drop)]
+#[derive(Drop)]
 pub struct Bus {
     pub alloc: Global,
     /// The event object and the local objects.

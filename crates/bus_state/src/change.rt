@@ -12,7 +12,7 @@ use bus_table::{Object, Registration, Subscription};
 use plane_io::Memory;
 
 /// What a message changes.
-#[derive(Debug, Drop)]
+#[derive(Drop)]
 pub enum Change {
     Nothing,
     Adds(Object),

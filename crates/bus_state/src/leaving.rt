@@ -21,7 +21,7 @@ use plane_io::{Items, Memory};
 use std::alloc::Global;
 
 /// What the leaving of a client comes to, before it is done.
-#[derive(Debug, Drop)]
+#[derive(Drop)]
 pub struct Leaving {
     /// The objects that leave.
     pub numbers: Vec<u32>,

@@ -3,7 +3,7 @@ use plane_io::Text;
 use sqlite_items::Items;
 
 /// A client, with the user and the group that it was given.
-#[derive(Debug, Drop)]
+#[derive(Drop)]
 pub struct Client {
     pub number: u32,
     pub user: Text,
@@ -11,7 +11,7 @@ pub struct Client {
 }
 
 /// An object, with the number of the client that owns it.
-#[derive(Debug, Drop)]
+#[derive(Drop)]
 pub struct Object {
     pub number: u32,
     /// 0 where it is no client's.
@@ -24,21 +24,21 @@ pub struct Object {
 }
 
 /// An object that is told of another one.
-#[derive(Clone, Copy, Debug, PartialEq, Eq)]
+#[derive(Clone, Copy)]
 pub struct Subscription {
     pub subscriber: u32,
     pub target: u32,
 }
 
 /// An object that is sent the events whose ids the pattern fits.
-#[derive(Debug, Drop)]
+#[derive(Drop)]
 pub struct Registration {
     pub object: u32,
     pub pattern: Text,
 }
 
 /// A call of a local object, handed out to be answered.
-#[derive(Debug, Drop)]
+#[derive(Drop)]
 pub struct LocalCall {
     pub caller: u32,
     pub seq: u16,

@@ -53,7 +53,7 @@ const BODIES: [&[u8]; 3] = [b"", BODY, b"\x02\0\0"];
 const NETWORKS: [&[u8]; 4] = [OLD, NEW, b"", b"\nconfig device"];
 
 /// What may be seen of an image that is opened at 159, where both gates are open and where they are not, and at 160.
-#[derive(Clone, Copy, Debug)]
+#[derive(Clone, Copy)]
 struct Seen {
     waiting: &'static [&'static [u8]],
     early: &'static [&'static [u8]],

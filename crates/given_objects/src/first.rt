@@ -15,7 +15,7 @@ use kern_model::{Call, Mac, Object, print_call};
 use std::cmp::Ordering;
 
 /// What is called for: takes, or puts.
-#[derive(Clone, Copy, Debug)]
+#[derive(Clone, Copy)]
 pub(crate) enum Turn {
     Takes,
     Puts,

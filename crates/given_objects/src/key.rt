@@ -5,7 +5,7 @@ use kern_model::Object;
 use std::hash::{Hash, Hasher};
 
 /// The key of a gift, which is its object.
-#[derive(Clone, Copy, Debug)]
+#[derive(Clone, Copy)]
 pub(crate) struct GiftKey(pub(crate) Object);
 
 impl PartialEq for GiftKey {

@@ -9,7 +9,7 @@ use std::cmp::Ordering;
 use std::marker::Model;
 
 /// The line of a call, which takes no memory of its own. Lines are ordered by their bytes.
-#[derive(Debug, Drop)]
+#[derive(Drop)]
 pub(crate) struct Line {
     bytes: [u8; 256],
     length: u8,

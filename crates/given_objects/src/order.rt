@@ -22,14 +22,14 @@ use plane_io::Memory;
 use std::alloc::Global;
 
 /// Where a call stands among others: by its rank, then by the bytes of its line.
-#[derive(Debug, PartialEq, Eq, PartialOrd, Ord, Drop)]
+#[derive(PartialEq, Eq, PartialOrd, Ord, Drop)]
 pub(crate) struct CallPlace {
     pub(crate) rank: u8,
     pub(crate) line: Line,
 }
 
 /// An object with the place of its call.
-#[derive(Debug, Drop)]
+#[derive(Drop)]
 pub(crate) struct Placed {
     pub(crate) place: CallPlace,
     pub(crate) object: Object,

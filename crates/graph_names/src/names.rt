@@ -10,7 +10,7 @@ use std::alloc::Global;
 use std::marker::Model;
 
 /// What is told of a name: its device, where that is there, and how many claim it.
-#[derive(Clone, Copy, Debug)]
+#[derive(Clone, Copy)]
 pub struct Told {
     pub device: Option<Device>,
     pub claims: u32,

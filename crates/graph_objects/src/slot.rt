@@ -4,7 +4,7 @@ ghost use Rattle.graph_objects.specs.Slots as spec;
 use kern_model::Object;
 
 /// An object that is wanted where the names of two ids are used.
-#[derive(Clone, Copy, Debug)]
+#[derive(Clone, Copy)]
 pub struct Wish {
     pub object: Object,
     pub first: usize,
@@ -13,7 +13,7 @@ pub struct Wish {
 }
 
 /// What is held and what may be wanted at a key, and whether the held object is about to leave.
-#[derive(Clone, Copy, Debug)]
+#[derive(Clone, Copy)]
 pub(crate) struct Slot {
     pub(crate) held: Option<Object>,
     pub(crate) wish: Option<Wish>,
@@ -21,7 +21,7 @@ pub(crate) struct Slot {
 }
 
 /// What is held, or what is wanted.
-#[derive(Clone, Copy, Debug)]
+#[derive(Clone, Copy)]
 pub(crate) enum Side {
     Held,
     Wanted,

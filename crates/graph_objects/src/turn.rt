@@ -17,14 +17,14 @@ use indexmap::IndexMap;
 use kern_model::{Call, Mac, Object};
 
 /// What is called for: takes come first, then puts.
-#[derive(Clone, Copy, Debug)]
+#[derive(Clone, Copy)]
 pub(crate) enum Turn {
     Takes,
     Puts,
 }
 
 /// Where a call stands among others: by its rank, by its height, then by the bytes of its line.
-#[derive(Debug, PartialEq, Eq, PartialOrd, Ord, Drop)]
+#[derive(PartialEq, Eq, PartialOrd, Ord, Drop)]
 pub(crate) struct CallPlace {
     pub(crate) rank: u8,
     pub(crate) height: usize,
@@ -32,7 +32,7 @@ pub(crate) struct CallPlace {
 }
 
 /// An object with the place of its call.
-#[derive(Debug, Drop)]
+#[derive(Drop)]
 pub(crate) struct Placed {
     pub(crate) place: CallPlace,
     pub(crate) object: Object,

@@ -20,7 +20,7 @@ use std::alloc::Global;
 use std::collections::BTreeMap;
 
 /// Where a call stands among others: by its rank, by its height, then by the bytes of its line.
-#[derive(Debug, PartialEq, Eq, PartialOrd, Ord, Drop)]
+#[derive(PartialEq, Eq, PartialOrd, Ord, Drop)]
 pub(crate) struct CallPlace {
     pub(crate) rank: u8,
     pub(crate) height: usize,

@@ -14,7 +14,7 @@ use std::alloc::Global;
 use std::collections::BTreeMap;
 
 /// Objects of an allowed set by the lines that take them, in which own values are zero.
-#[derive(Debug, Drop)]
+#[derive(Drop)]
 pub(crate) struct Index {
     pub(crate) by_line: BTreeMap<Line, Object>,
     pub(crate) count: usize,

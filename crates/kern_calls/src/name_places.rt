@@ -18,14 +18,14 @@ use std::alloc::Global;
 use std::collections::BTreeMap;
 
 /// How many VLANs a name is over, its own counted, and whether it is that of a held link that is not wanted, or over one.
-#[derive(Clone, Copy, Debug)]
+#[derive(Clone, Copy)]
 pub(crate) struct NamePlace {
     pub(crate) height: usize,
     pub(crate) falls: bool,
 }
 
 /// The places of the names of links.
-#[derive(Debug, Drop)]
+#[derive(Drop)]
 pub(crate) struct NamePlaces {
     pub(crate) by_name: BTreeMap<DevName, NamePlace>,
 }

@@ -16,7 +16,7 @@ use plane_io::Memory;
 use std::alloc::Global;
 
 /// The objects of two allowed sets, with the places of their names: those of held names tell what falls.
-#[derive(Debug, Drop)]
+#[derive(Drop)]
 pub(crate) struct Sides {
     pub(crate) from: Index,
     pub(crate) to: Index,

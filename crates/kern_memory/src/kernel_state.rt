@@ -21,7 +21,7 @@ use std::marker::Model;
 
 /// What is known of a kernel: the objects that it holds and its present devices. A call and an event
 /// take no memory; room for them is taken before. A look-up goes through the lists.
-#[derive(Debug, Drop)]
+#[derive(Drop)]
 pub struct KernelState {
     objects: Vec<Object>,
     devices: Vec<(DevName, Device)>,

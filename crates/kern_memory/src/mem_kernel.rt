@@ -17,7 +17,7 @@ use std::marker::Model;
 
 /// A kernel in memory. A call fails where its number stands in the list of its kind, or where the
 /// kernel cannot grow; then nothing changes.
-#[derive(Debug, Drop)]
+#[derive(Drop)]
 pub struct MemKernel {
     state: KernelState,
     calls: Log<Call>,

@@ -2,7 +2,7 @@ use crate::object::{Call, DevEvent};
 use plane_io::Failed;
 
 /// What was asked of a kernel, a call or an event, and whether it was done.
-#[derive(Clone, Copy, Debug, PartialEq, Eq)]
+#[derive(Clone, Copy)]
 pub enum Asked {
     Call { call: Call, done: bool },
     Event { event: DevEvent, done: bool },

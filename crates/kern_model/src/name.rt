@@ -10,7 +10,7 @@ use std::marker::Model;
 
 /// The name of a network device: 1 to 15 bytes from 33 to 126 but `/` and `:`, and neither `.` nor
 /// `..`. Contracts see its bytes, and names are ordered by them.
-#[derive(Clone, Copy, Debug, Hash)]
+#[derive(Clone, Copy, Hash)]
 pub struct DevName {
     pub bytes: [u8; 15],
     pub length: u8,

@@ -9,11 +9,11 @@ use crate::name::DevName;
 use net_addr::{Addr, Cidr};
 
 /// A hardware address (IEEE 802, 48 bits).
-#[derive(Clone, Copy, Debug, PartialEq, Eq, PartialOrd, Ord, Hash)]
+#[derive(Clone, Copy, PartialEq, Eq, Hash)]
 pub struct Mac(pub [u8; 6]);
 
 /// What a present device came with: its carrier, its MTU in bytes and its hardware address.
-#[derive(Clone, Copy, Debug, PartialEq, Eq, PartialOrd, Ord, Hash)]
+#[derive(Clone, Copy)]
 pub struct Device {
     pub carrier: bool,
     pub mtu: u32,
@@ -22,7 +22,7 @@ pub struct Device {
 
 /// The kinds of links that are made: bridges, which may filter VLANs, and VLANs (IEEE 802.1Q) of an
 /// `id` over a `lower` name. A link may be made with a hardware address.
-#[derive(Clone, Copy, Debug, PartialEq, Eq, PartialOrd, Ord, Hash)]
+#[derive(Clone, Copy, PartialEq, Eq, Hash)]
 pub enum LinkKind {
     Bridge {
         mac: Option<Mac>,
@@ -36,7 +36,7 @@ pub enum LinkKind {
 }
 
 /// A route: where to, by which gateway if any, on which device, with its metric and its table.
-#[derive(Clone, Copy, Debug, PartialEq, Eq, PartialOrd, Ord, Hash)]
+#[derive(Clone, Copy, PartialEq, Eq, Hash)]
 pub struct RouteObject {
     pub target: Cidr,
     pub via: Option<Addr>,
@@ -47,7 +47,7 @@ pub struct RouteObject {
 
 /// What a kernel holds beside its present devices. A VLAN of a bridge is set on one of its ports,
 /// or on the bridge itself. Two objects are one exactly where all their fields are equal.
-#[derive(Clone, Copy, Debug, PartialEq, Eq, PartialOrd, Ord, Hash)]
+#[derive(Clone, Copy, PartialEq, Eq, Hash)]
 pub enum Object {
     Link {
         name: DevName,
@@ -84,7 +84,7 @@ pub enum Object {
 
 /// A call: put an object, or take it. A take carries the values of the device's own that come back
 /// with it.
-#[derive(Clone, Copy, Debug, PartialEq, Eq, PartialOrd, Ord, Hash)]
+#[derive(Clone, Copy)]
 pub enum Call {
     Put(Object),
     Take { object: Object, mtu: u32, mac: Mac },
@@ -429,7 +429,7 @@ impl Call {
 }
 
 /// What happens to the present devices.
-#[derive(Clone, Copy, Debug, PartialEq, Eq, PartialOrd, Ord, Hash)]
+#[derive(Clone, Copy)]
 pub enum DevEvent {
     Add {
         name: DevName,

@@ -5,7 +5,7 @@ use kern_model::Object;
 use std::hash::{Hash, Hasher};
 
 /// The key of a held object, which is the object.
-#[derive(Clone, Copy, Debug)]
+#[derive(Clone, Copy)]
 pub(crate) struct ObjectKey(pub(crate) Object);
 
 impl PartialEq for ObjectKey {

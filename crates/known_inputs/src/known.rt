@@ -19,7 +19,7 @@ use std::marker::Model;
 
 /// The inputs of a network, with room for a command and an open ask of each interface of the rows, and for as many devices as was
 /// asked for. What stands once in them always does.
-#[derive(Debug, Drop)]
+#[derive(Drop)]
 pub struct KnownInputs {
     conf: Conf,
     devices: Vec<(DevName, Device)>,

@@ -2,7 +2,7 @@ ghost use Rattle.std.specs.Prelude.{◌≡◌};
 ghost use Rattle.line_texts.specs.CallStatus as spec;
 
 /// The status of a call of a method that was not carried out (the statuses of libubus).
-#[derive(Clone, Copy, Debug, PartialEq, Eq)]
+#[derive(Clone, Copy)]
 pub enum CallStatus {
     InvalidCommand,
     InvalidArgument,

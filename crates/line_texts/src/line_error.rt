@@ -4,7 +4,7 @@ ghost use Rattle.line_texts.specs.LineError as spec;
 use crate::CallStatus;
 
 /// Why a line of a script is refused.
-#[derive(Clone, Copy, Debug, PartialEq, Eq)]
+#[derive(Clone, Copy)]
 pub enum LineError {
     /// There was not enough memory.
     Memory,

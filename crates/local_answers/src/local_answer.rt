@@ -11,7 +11,7 @@ use std::alloc::Global;
 const PERMISSION_DENIED: u32 = 6;
 
 /// What a local object answers to a call.
-#[derive(Debug, Drop)]
+#[derive(Drop)]
 pub struct LocalAnswer {
     /// 0, or why the call was not carried out (the statuses of libubus).
     pub status: u32,

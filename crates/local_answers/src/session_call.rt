@@ -11,7 +11,7 @@ use std::alloc::Global;
 use uci_store::Store;
 
 /// What the object `session` answers to a call.
-#[derive(Debug, Drop)]
+#[derive(Drop)]
 pub struct SessionAnswer {
     pub answer: LocalAnswer,
     /// Whether the call has made a session, and so used its random word up.

@@ -10,7 +10,7 @@ use std::alloc::Global;
 use thiserror::Error;
 
 /// What the object `uci` answers to a call.
-#[derive(Debug, Drop)]
+#[derive(Drop)]
 pub struct UciAnswer {
     pub answer: LocalAnswer,
     /// Whether the packages are to be read anew, since files were applied or rolled back.
@@ -18,7 +18,7 @@ pub struct UciAnswer {
 }
 
 /// Why a call has no answer.
-#[derive(Clone, Copy, Debug, PartialEq, Eq, Error)]
+#[derive(Clone, Copy, Debug, Error)]
 pub enum CallStop {
     /// A disk failed.
     #[error("a disk failed")]

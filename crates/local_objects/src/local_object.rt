@@ -4,7 +4,7 @@ ghost use Rattle.local_objects.specs.Object as spec;
 use net_objects::NetObject;
 
 /// A local object of the message bus.
-#[derive(Clone, Copy, Debug, PartialEq, Eq)]
+#[derive(Clone, Copy)]
 pub enum LocalObject {
     Session,
     Uci,

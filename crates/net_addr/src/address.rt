@@ -3,15 +3,15 @@ ghost use Rattle.net_addr.specs.Octets.{AreOctets, IsAddr};
 ghost use Rattle.net_addr.specs.Width.{bits};
 
 /// An IPv4 address: four octets, the most significant first.
-#[derive(Clone, Copy, Debug, PartialEq, Eq, PartialOrd, Ord, Hash)]
+#[derive(Clone, Copy, PartialEq, Eq, Hash)]
 pub struct V4(pub [u8; 4]);
 
 /// An IPv6 address: sixteen octets, the most significant first.
-#[derive(Clone, Copy, Debug, PartialEq, Eq, PartialOrd, Ord, Hash)]
+#[derive(Clone, Copy, PartialEq, Eq, Hash)]
 pub struct V6(pub [u8; 16]);
 
 /// An address of either family. Every IPv4 address orders before every IPv6 address.
-#[derive(Clone, Copy, Debug, PartialEq, Eq, PartialOrd, Ord, Hash)]
+#[derive(Clone, Copy, PartialEq, Eq, Hash)]
 pub enum Addr {
     /// An IPv4 address.
     V4(V4),

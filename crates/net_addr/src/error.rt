@@ -4,7 +4,7 @@ ghost use Rattle.net_addr.specs.ErrorNumber.{error_number};
 use thiserror::Error;
 
 /// Why a text or a mask has no value.
-#[derive(Clone, Copy, Debug, PartialEq, Eq, Error)]
+#[derive(Clone, Copy, Debug, Error)]
 pub enum AddrError {
     /// The text is not an address.
     #[error("not an address")]

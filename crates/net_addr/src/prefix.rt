@@ -6,7 +6,7 @@ use std::marker::Model;
 
 /// An address and the length of its prefix in bits, which is at most 32 for IPv4 and 128 for IPv6
 /// (RFC 4632, section 3.1; RFC 4291, section 2.3).
-#[derive(Clone, Copy, Debug, PartialEq, Eq, PartialOrd, Ord, Hash)]
+#[derive(Clone, Copy, PartialEq, Eq, Hash)]
 pub struct Cidr {
     /// The address, with its host bits.
     pub addr: Addr,

@@ -10,7 +10,7 @@ use std::alloc::Global;
 use step_net::NetError;
 
 /// What comes of a call: the lines of the asks that it brings, and its payload or why it is refused.
-#[derive(Debug, Drop)]
+#[derive(Drop)]
 pub struct NetAnswer {
     pub asks: Text,
     pub answer: Result<Items<Attr>, CallStatus>,

@@ -5,7 +5,7 @@ ghost use Rattle.net_claims.specs.Claims.{uses_by};
 use kern_model::DevName;
 
 /// What an interface is, as of the last look.
-#[derive(Clone, Copy, Debug)]
+#[derive(Clone, Copy)]
 pub struct InterfaceState {
     /// Whether its row is the first of its name. Another row is neither claimed nor up, and has no ask.
     pub is_first: bool,

@@ -26,7 +26,7 @@ pub const MOST_VLAN_ROWS: usize = 1024;
 pub const MOST_VLAN_ENTRIES: usize = 16384;
 
 /// What a `bridge-vlan` section says.
-#[derive(Debug, Drop)]
+#[derive(Drop)]
 pub struct VlanSaid {
     pub bridge: Stated<DevName>,
     pub id: Stated<u16>,

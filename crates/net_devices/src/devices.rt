@@ -18,7 +18,7 @@ pub const MOST_NAMES: usize = 4096;
 
 /// What a `network` package says about devices: the rows of its `device` sections, of the names that it speaks of, and of its
 /// `bridge-vlan` sections.
-#[derive(Debug, Drop)]
+#[derive(Drop)]
 pub struct DeviceConf {
     pub devices: Items<DeviceRow>,
     pub names: Items<NameRow>,

@@ -11,7 +11,7 @@ use std::alloc::Global;
 use uci_tree::{Opt, Section, Value};
 
 /// The kind of link that a `device` section states.
-#[derive(Debug, Drop)]
+#[derive(Drop)]
 pub enum StatedKind {
     /// It has no `type`.
     Untyped,
@@ -31,7 +31,7 @@ pub enum StatedKind {
 }
 
 /// What a `device` section says.
-#[derive(Debug, Drop)]
+#[derive(Drop)]
 pub struct DeviceSection {
     pub name: Stated<DevName>,
     pub kind: StatedKind,
@@ -40,7 +40,7 @@ pub struct DeviceSection {
 }
 
 /// What a section says about the names of network devices: a `device` section, or the device of an `interface` section.
-#[derive(Debug, Drop)]
+#[derive(Drop)]
 pub enum Said {
     Device(DeviceSection),
     Interface(DevName),

@@ -1,7 +1,7 @@
 use thiserror::Error;
 
 /// Why a run did not come to its end, or left something due.
-#[derive(Clone, Copy, Debug, PartialEq, Eq, Error)]
+#[derive(Clone, Copy, Debug, Error)]
 pub enum GenError {
     /// Calls of the kernel failed, and so many objects are due.
     #[error("kernel: {due} due")]

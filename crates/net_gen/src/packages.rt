@@ -7,7 +7,7 @@ use std::alloc::Global;
 use uci_tree::{Opt, Package, Section, Value};
 
 /// Which interfaces of a network stand.
-#[derive(Clone, Copy, Debug)]
+#[derive(Clone, Copy)]
 pub(crate) enum Standing {
     /// All of them.
     All,

@@ -17,7 +17,7 @@ use step_net::{Net, Told, take_device, take_load};
 use uci_tree::Package;
 
 /// A step of a run.
-#[derive(Clone, Copy, Debug)]
+#[derive(Clone, Copy)]
 pub(crate) enum Step {
     /// The device comes.
     Add,

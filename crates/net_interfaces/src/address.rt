@@ -5,7 +5,7 @@ ghost use Rattle.net_interfaces.specs.Address as spec;
 use net_addr::{Addr, read_addr};
 
 /// A family of addresses.
-#[derive(Clone, Copy, Debug, PartialEq, Eq)]
+#[derive(Clone, Copy)]
 pub enum Family {
     V4,
     V6,

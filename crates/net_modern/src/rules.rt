@@ -8,7 +8,7 @@ use std::alloc::Global;
 use uci_tree::{Section, anonymous_name};
 
 /// An interface over its bridge, and the `device` section of the bridge.
-#[derive(Debug, Drop)]
+#[derive(Drop)]
 pub struct OverBridge {
     pub interface: Section,
     pub bridge: Section,

@@ -5,7 +5,7 @@ ghost use Rattle.net_objects.specs.Method as spec;
 use crate::net_object::NetObject;
 
 /// A method of an object of the network.
-#[derive(Clone, Copy, Debug, PartialEq, Eq)]
+#[derive(Clone, Copy)]
 pub(crate) enum Method {
     Reload,
     Dump,

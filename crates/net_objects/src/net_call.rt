@@ -4,7 +4,7 @@ use plane_io::{Items, Text};
 use thiserror::Error;
 
 /// What a call of an object of the network asks for.
-#[derive(Debug, Drop)]
+#[derive(Drop)]
 pub enum NetCall {
     /// The committed files are read anew.
     Reload,
@@ -44,7 +44,7 @@ pub enum NetCall {
 }
 
 /// Why a call asks for nothing.
-#[derive(Clone, Copy, Debug, PartialEq, Eq, Error)]
+#[derive(Clone, Copy, Debug, Error)]
 pub enum NetCallError {
     /// The object has no method of that name.
     #[error("method not found")]

@@ -6,7 +6,7 @@ use crate::number::read_vlan_id;
 use kern_model::{DevName, read_name};
 
 /// What a name of the form X.N stands for: VLAN `id` N over the name X.
-#[derive(Clone, Copy, Debug)]
+#[derive(Clone, Copy)]
 pub struct VlanParts {
     pub lower: DevName,
     pub id: u16,

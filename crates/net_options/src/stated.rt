@@ -12,7 +12,7 @@ use kern_model::{DevName, Mac, read_name};
 use uci_tree::{Opt, Value};
 
 /// What an option gives: it is absent, its value does not read, or it has a value.
-#[derive(Clone, Copy, Debug)]
+#[derive(Clone, Copy)]
 pub enum Stated<T> {
     Absent,
     Unread,

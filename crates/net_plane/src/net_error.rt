@@ -7,7 +7,7 @@ use plane_io::Memory;
 use thiserror::Error;
 
 /// Why a call of the plane is refused.
-#[derive(Clone, Copy, Debug, PartialEq, Eq, Error)]
+#[derive(Clone, Copy, Debug, Error)]
 pub enum NetError {
     /// No interface has that name.
     #[error("no interface")]

@@ -1,5 +1,5 @@
 /// What can be wrong with a row.
-#[derive(Clone, Copy, Debug, PartialEq, Eq)]
+#[derive(Clone, Copy)]
 pub enum FaultName {
     /// A `device` section has no `name`.
     NoName,

@@ -5,14 +5,14 @@ use plane_io::{Items, Text};
 use uci_tree::Opt;
 
 /// Something that is wrong with a row, and the port or word that it is about.
-#[derive(Debug, Drop)]
+#[derive(Drop)]
 pub struct RowFault {
     pub name: FaultName,
     pub argument: Option<Text>,
 }
 
 /// What kind of link a name is.
-#[derive(Debug, Drop)]
+#[derive(Drop)]
 pub enum NameKind {
     /// A device that is there or not, and is never made.
     Plain,
@@ -23,7 +23,7 @@ pub enum NameKind {
 }
 
 /// A name of a network device.
-#[derive(Debug, Drop)]
+#[derive(Drop)]
 pub struct NameRow {
     pub name: DevName,
     pub kind: NameKind,
@@ -37,14 +37,14 @@ pub struct NameRow {
 }
 
 /// A `device` section.
-#[derive(Debug, Drop)]
+#[derive(Drop)]
 pub struct DeviceRow {
     pub name: Option<DevName>,
     pub faults: Items<RowFault>,
 }
 
 /// An `interface` section.
-#[derive(Debug, Drop)]
+#[derive(Drop)]
 pub struct InterfaceRow {
     pub name: Text,
     pub anonymous: bool,
@@ -63,7 +63,7 @@ pub struct InterfaceRow {
 }
 
 /// A `route` or `route6` section.
-#[derive(Debug, Drop)]
+#[derive(Drop)]
 pub struct RouteRow {
     /// The place of the interface among the interfaces.
     pub interface: Option<usize>,
@@ -76,7 +76,7 @@ pub struct RouteRow {
 }
 
 /// A `wifi-iface` section.
-#[derive(Debug, Drop)]
+#[derive(Drop)]
 pub struct WifiRow {
     pub network: Option<Text>,
     pub disabled: bool,
@@ -84,7 +84,7 @@ pub struct WifiRow {
 }
 
 /// A `wifi-device` section with its `wifi-iface` sections.
-#[derive(Debug, Drop)]
+#[derive(Drop)]
 pub struct RadioRow {
     pub name: Text,
     pub disabled: bool,
@@ -94,7 +94,7 @@ pub struct RadioRow {
 }
 
 /// A port of a VLAN of a bridge.
-#[derive(Clone, Copy, Debug)]
+#[derive(Clone, Copy)]
 pub struct VlanEntry {
     pub port: DevName,
     pub pvid: bool,
@@ -102,7 +102,7 @@ pub struct VlanEntry {
 }
 
 /// A `bridge-vlan` section.
-#[derive(Debug, Drop)]
+#[derive(Drop)]
 pub struct VlanRow {
     pub bridge: Option<DevName>,
     /// From 1 to 4094, and 0 where the section does not tell it.
@@ -114,7 +114,7 @@ pub struct VlanRow {
 }
 
 /// The rows of a configuration, each list in file order.
-#[derive(Debug, Drop)]
+#[derive(Drop)]
 pub struct Conf {
     pub interfaces: Items<InterfaceRow>,
     pub devices: Items<DeviceRow>,

@@ -3,7 +3,7 @@ use net_addr::{Addr, Cidr};
 use plane_io::Items;
 
 /// A route of an answer.
-#[derive(Clone, Copy, Debug)]
+#[derive(Clone, Copy)]
 pub struct AnswerRoute {
     /// Its host bits are kept.
     pub target: Cidr,
@@ -12,7 +12,7 @@ pub struct AnswerRoute {
 }
 
 /// What the handler of a protocol tells of an interface.
-#[derive(Debug, Drop)]
+#[derive(Drop)]
 pub struct Answer {
     pub up: bool,
     /// The layer-3 device; without one it is the interface's own device.

@@ -3,7 +3,7 @@ use plane_io::{Items, Text};
 use uci_tree::Opt;
 
 /// What the handler of a protocol is asked for an interface.
-#[derive(Debug, Drop)]
+#[derive(Drop)]
 pub struct InterfaceAsk {
     pub name: Text,
     pub proto: Text,
@@ -13,14 +13,14 @@ pub struct InterfaceAsk {
 }
 
 /// An enabled `wifi-iface` section in the ask of its radio.
-#[derive(Debug, Drop)]
+#[derive(Drop)]
 pub struct WifiAsk {
     /// In byte order of their names.
     pub options: Items<Opt>,
 }
 
 /// What the handler of a radio is asked.
-#[derive(Debug, Drop)]
+#[derive(Drop)]
 pub struct RadioAsk {
     pub name: Text,
     /// In byte order of their names.

@@ -4,7 +4,7 @@ use net_rows::Conf;
 use plane_io::{Items, Text};
 
 /// What changes the inputs.
-#[derive(Debug, Drop)]
+#[derive(Drop)]
 pub enum Event {
     Load(Conf),
     Device(DevEvent),
@@ -28,7 +28,7 @@ pub enum Event {
 }
 
 /// What is told of asks after an event.
-#[derive(Clone, Copy, Debug)]
+#[derive(Clone, Copy)]
 pub enum Notice {
     /// The ask of this number is no longer open.
     Dropped {

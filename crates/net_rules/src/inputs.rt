@@ -5,14 +5,14 @@ use net_rows::Conf;
 use plane_io::{Items, Text};
 
 /// The last operator command for an interface.
-#[derive(Debug, Drop)]
+#[derive(Drop)]
 pub struct Command {
     pub interface: Text,
     pub up: bool,
 }
 
 /// An open ask of an interface, with its latest answer.
-#[derive(Debug, Drop)]
+#[derive(Drop)]
 pub struct OpenInterface {
     pub number: u64,
     pub ask: InterfaceAsk,
@@ -20,7 +20,7 @@ pub struct OpenInterface {
 }
 
 /// An open ask of a radio, with its latest answer: for each of its rows the port, where there is one.
-#[derive(Debug, Drop)]
+#[derive(Drop)]
 pub struct OpenRadio {
     pub number: u64,
     pub ask: RadioAsk,
@@ -28,7 +28,7 @@ pub struct OpenRadio {
 }
 
 /// All that decides what is wanted of the kernel, and the numbers of the asks.
-#[derive(Debug, Drop)]
+#[derive(Drop)]
 pub struct Inputs {
     pub conf: Conf,
     /// The present devices by name, each name once.

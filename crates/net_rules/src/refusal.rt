@@ -5,7 +5,7 @@ pub const MOST_DEVICES: u64 = 4096;
 pub const MOST_IN_ANSWER: u64 = 64;
 
 /// Why an event is refused.
-#[derive(Clone, Copy, Debug, PartialEq, Eq)]
+#[derive(Clone, Copy)]
 pub enum Refusal {
     /// No interface has that name.
     NoInterface,

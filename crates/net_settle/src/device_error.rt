@@ -1,7 +1,7 @@
 use thiserror::Error;
 
 /// Why what happens to a device was not taken.
-#[derive(Clone, Copy, Debug, PartialEq, Eq, Error)]
+#[derive(Clone, Copy, Debug, Error)]
 pub enum DeviceError {
     /// The kernel failed at it.
     #[error("kernel")]

@@ -1,7 +1,7 @@
 use thiserror::Error;
 
 /// Why a settling stopped.
-#[derive(Clone, Copy, Debug, PartialEq, Eq, Error)]
+#[derive(Clone, Copy, Debug, Error)]
 pub enum SettleError {
     /// The kernel failed at a call.
     #[error("kernel")]

@@ -14,7 +14,7 @@ use std::marker::Model;
 
 /// What a kernel holds beside its present devices, what is wanted of it, and the calls from the one
 /// to the other that are still to be made. Room for what they put is taken before.
-#[derive(Debug, Drop)]
+#[derive(Drop)]
 pub struct Settling {
     pub(crate) known: KernelState,
     pub(crate) wanted: Vec<Object>,

@@ -1,7 +1,7 @@
 use thiserror::Error;
 
 /// Why a network was not brought up, or not wholly.
-#[derive(Clone, Copy, Debug, PartialEq, Eq, Error)]
+#[derive(Clone, Copy, Debug, Error)]
 pub enum StartError {
     /// A call of the kernel failed, and so many objects are due.
     #[error("kernel: {due} due")]

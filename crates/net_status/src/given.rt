@@ -18,7 +18,7 @@ use serde_json::{Map, Value, json, put};
 use std::alloc::Global;
 
 /// The two kinds of addresses.
-#[derive(Clone, Copy, Debug, PartialEq, Eq)]
+#[derive(Clone, Copy)]
 pub enum Family {
     V4,
     V6,

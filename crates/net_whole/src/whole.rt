@@ -22,7 +22,7 @@ use std::marker::Model;
 
 /// The plane of interfaces, where each event looks at all that there is: the rows of the loaded files, the present devices, commands and
 /// answers, what the kernel holds, and what is still to be told of asks. It counts no loads.
-#[derive(Debug, Drop)]
+#[derive(Drop)]
 pub struct WholeNet {
     pub(crate) inputs: Inputs,
     pub(crate) settling: Settling,

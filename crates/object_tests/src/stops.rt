@@ -117,7 +117,7 @@ fn image_of(alloc: Global, gates: &[u8], body: &[u8], network: &[u8]) -> Result<
 }
 
 /// How many images were opened, and of how many the new files wait.
-#[derive(Debug, Drop)]
+#[derive(Drop)]
 struct Counts {
     images: u64,
     waiting: u64,

@@ -19,7 +19,7 @@ use std::marker::Model;
 /// A disk in memory. Its calls of `read`, `write_at`, `cut` and `sync` are numbered from 1 in the order in which they are
 /// made. A call fails where its number stands in the list of the disk, behind the calls that its fuse passes, or where
 /// the disk cannot grow. Then a read gives what it gave, but a crash may leave any part of a write or a cut.
-#[derive(Debug, Drop)]
+#[derive(Drop)]
 pub struct MemDisk {
     alloc: Global,
     start: Vec<MemFile>,

@@ -5,7 +5,7 @@ use plane_io::{Memory, Text};
 use std::alloc::Global;
 
 /// A file of a disk in memory.
-#[derive(Debug, Drop)]
+#[derive(Drop)]
 pub struct MemFile {
     pub name: Text,
     pub bytes: Text,

@@ -15,7 +15,7 @@ pub const INPUT_LIMIT: u64 = 1_048_576;
 const PIECE: usize = 8192;
 
 /// Why an input was not read.
-#[derive(Clone, Copy, Debug, PartialEq, Eq, Hash, Error)]
+#[derive(Clone, Copy, Debug, Error)]
 pub enum InputError {
     /// The source failed.
     #[error("read failed")]

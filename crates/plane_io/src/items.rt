@@ -5,7 +5,7 @@ use std::alloc::Global;
 use std::marker::Model;
 
 /// An owned list. Contracts see the list.
-#[derive(Debug, Drop)]
+#[derive(Drop)]
 pub struct Items<T> {
     vec: Vec<T>,
 }

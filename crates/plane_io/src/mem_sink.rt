@@ -9,7 +9,7 @@ use std::marker::Model;
 
 /// A sink in memory. Its calls are numbered from 1 in the order in which they are made. A call fails where its number
 /// stands in the list of the sink, or where the sink cannot grow; then it writes nothing.
-#[derive(Debug, Drop)]
+#[derive(Drop)]
 pub struct MemSink {
     bytes: Vec<u8>,
     failing: Vec<u64>,

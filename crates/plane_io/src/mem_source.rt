@@ -8,7 +8,7 @@ use std::marker::Model;
 
 /// A source in memory. Its calls are numbered from 1 in the order in which they are made; those whose numbers stand
 /// in its list fail, and then take nothing.
-#[derive(Debug, Drop)]
+#[derive(Drop)]
 pub struct MemSource {
     bytes: Vec<u8>,
     at: usize,

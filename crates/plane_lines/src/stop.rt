@@ -1,7 +1,7 @@
 use thiserror::Error;
 
 /// Why a script stopped in a line.
-#[derive(Clone, Copy, Debug, PartialEq, Eq, Error)]
+#[derive(Clone, Copy, Debug, Error)]
 pub enum Stop {
     /// A line was not written, or not wholly.
     #[error("write failed")]

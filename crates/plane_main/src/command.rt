@@ -16,7 +16,7 @@ pub const MOST_DEVICES: usize = 4096;
 pub const MOST_BRIDGES: u64 = 1000;
 
 /// What the program is asked for.
-#[derive(Debug, Drop)]
+#[derive(Drop)]
 pub enum Command {
     /// Brings a network up on these devices.
     Start { devices: Items<DevName> },

@@ -5,7 +5,7 @@ use plane_run::RunEnd;
 use uci_tree::Fault;
 
 /// How a run ends.
-#[derive(Clone, Copy, Debug, PartialEq, Eq, Hash)]
+#[derive(Clone, Copy)]
 pub enum Ending {
     Done,
     Usage,

@@ -12,7 +12,7 @@ use uci_words::{Asked, Options, read_words};
 
 /// Where the real devices of a command are. `start` reads the standard input and has no places, and
 /// `gen` and the pages about the program have none, nor has a run whose access list does not read.
-#[derive(Debug, Drop)]
+#[derive(Drop)]
 pub struct Locations {
     /// The folder of the packages, empty where the command has none.
     pub files: Text,

@@ -8,7 +8,7 @@ use crate::texts::{HELP, VERSION};
 use plane_io::Sink;
 
 /// A page that the program prints about itself.
-#[derive(Clone, Copy, Debug, PartialEq, Eq, Hash)]
+#[derive(Clone, Copy)]
 pub enum Page {
     Help,
     Version,

@@ -13,7 +13,7 @@ pub const STAGED_FOLDER: &[u8] = b"/tmp/.uci";
 pub const EMPTY_ACL: &[u8] = b"[]";
 
 /// What `run` is asked for.
-#[derive(Debug, Drop)]
+#[derive(Drop)]
 pub struct RunAsked {
     /// The folder of the packages.
     pub files: Text,
@@ -26,7 +26,7 @@ pub struct RunAsked {
 }
 
 /// The options of `run` that were given so far.
-#[derive(Debug, Drop)]
+#[derive(Drop)]
 struct RunOptions {
     files: Option<Text>,
     staged: Option<Text>,

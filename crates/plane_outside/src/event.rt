@@ -2,7 +2,7 @@ use plane_io::Text;
 use thiserror::Error;
 
 /// What a hub tells of its clients. It names a client by a number.
-#[derive(Debug, Drop)]
+#[derive(Drop)]
 pub enum HubEvent {
     /// A client came, with the names of its user and its group.
     Accepted {
@@ -24,7 +24,7 @@ pub enum HubEvent {
 }
 
 /// Why a hub told nothing.
-#[derive(Clone, Copy, Debug, PartialEq, Eq, Hash, Error)]
+#[derive(Clone, Copy, Debug, Error)]
 pub enum HubError {
     /// The hub failed.
     #[error("hub failed")]
@@ -35,7 +35,7 @@ pub enum HubError {
 }
 
 /// Bytes that were sent to a client.
-#[derive(Debug, Drop)]
+#[derive(Drop)]
 pub struct Sent {
     pub client: u32,
     pub bytes: Text,

@@ -5,7 +5,7 @@ use std::marker::Model;
 
 /// Numbers that are given in order, then the last one again, and 0 where there is none. Contracts see those
 /// that are left, of which the last one stays.
-#[derive(Debug, Drop)]
+#[derive(Drop)]
 pub struct Given {
     numbers: Vec<u64>,
     at: usize,

@@ -6,7 +6,7 @@ use crate::random::Random;
 use std::marker::Model;
 
 /// A source that gives the words of a list in order, then the last one again, and 0 where there is none.
-#[derive(Debug, Drop)]
+#[derive(Drop)]
 pub struct ListRandom {
     given: Given,
 }

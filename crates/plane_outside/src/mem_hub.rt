@@ -12,7 +12,7 @@ use std::marker::Model;
 
 /// A hub in memory, which gives a list of events and keeps what is sent. Its calls are numbered from 1 in the order in
 /// which they are made; those whose numbers stand in its list fail, and then give and send nothing.
-#[derive(Debug, Drop)]
+#[derive(Drop)]
 pub struct MemHub {
     alloc: Global,
     /// The events that are left, the last one first.

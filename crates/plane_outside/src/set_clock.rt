@@ -6,7 +6,7 @@ use crate::given::Given;
 use std::marker::Model;
 
 /// A clock that gives set moments in order, then the last one again, and 0 where there is none.
-#[derive(Debug, Drop)]
+#[derive(Drop)]
 pub struct SetClock {
     given: Given,
     last: u64,

@@ -4,7 +4,7 @@ use plane_io::{Failed, Sink};
 use std::io::Write;
 
 /// A sink over a writer of the system, as the standard output.
-#[derive(Debug, Drop)]
+#[derive(Drop)]
 pub struct StdSink<W> {
     writer: W,
     faults: u64,

@@ -4,7 +4,7 @@ use plane_io::{Failed, Source};
 use std::io::Read;
 
 /// A source over a reader of the system, as the standard input.
-#[derive(Debug, Drop)]
+#[derive(Drop)]
 pub struct StdSource<R> {
     reader: R,
     faults: u64,

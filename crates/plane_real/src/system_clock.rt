@@ -4,7 +4,7 @@ use plane_outside::Clock;
 use std::time::{Clock as Time, SystemTime, UNIX_EPOCH};
 
 /// The clock of the system, in seconds since 1970. Where the system sets it back, it stands still.
-#[derive(Debug, Drop)]
+#[derive(Drop)]
 pub struct SystemClock<'a, R> {
     time: &'a R,
     last: u64,

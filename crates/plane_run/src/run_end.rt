@@ -4,7 +4,7 @@ ghost use Rattle.plane_run.specs.RunEnd as spec;
 use uci_tree::Fault;
 
 /// A package of which rows are loaded.
-#[derive(Clone, Copy, Debug, PartialEq, Eq, Hash)]
+#[derive(Clone, Copy)]
 pub enum RowPackage {
     Network,
     Wireless,
@@ -23,7 +23,7 @@ impl RowPackage {
 }
 
 /// How a run ends.
-#[derive(Clone, Copy, Debug, PartialEq, Eq, Hash)]
+#[derive(Clone, Copy)]
 pub enum RunEnd {
     /// Every line was ok, and nothing is due.
     Done,

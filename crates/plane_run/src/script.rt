@@ -14,7 +14,7 @@ use uci_tree::TreeError;
 pub const SCRIPT_LIMIT: u64 = 16_777_216;
 
 /// What was read of a script.
-#[derive(Debug, Drop)]
+#[derive(Drop)]
 pub(crate) enum Script {
     /// Its lines.
     Lines { lines: Items<Line> },

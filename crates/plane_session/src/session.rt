@@ -8,7 +8,7 @@ use std::alloc::Global;
 use uci_store::have_same_packages;
 
 /// What a run left of its devices, and its status.
-#[derive(Debug, Drop)]
+#[derive(Drop)]
 pub struct Session {
     pub out: MemSink,
     pub err: MemSink,
@@ -19,7 +19,7 @@ pub struct Session {
 }
 
 /// The numbers of the calls of the devices that fail.
-#[derive(Clone, Copy, Debug, Default)]
+#[derive(Clone, Copy, Default)]
 pub struct Failing<'a> {
     pub input: &'a [u64],
     pub out: &'a [u64],

@@ -5,7 +5,7 @@ use blob_codec::Attr;
 use rpc_session::{argument, session_named};
 
 /// Who calls.
-#[derive(Clone, Copy, Debug, PartialEq, Eq)]
+#[derive(Clone, Copy)]
 pub enum Caller {
     /// The call names no session.
     Anyone,

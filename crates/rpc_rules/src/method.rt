@@ -2,7 +2,7 @@ ghost use Rattle.std.specs.Prelude.{◌≡◌};
 ghost use Rattle.rpc_rules.specs.Method.{method_of};
 
 /// What may be asked of packages.
-#[derive(Clone, Copy, Debug, PartialEq, Eq)]
+#[derive(Clone, Copy)]
 pub enum Question {
     /// Which packages there are.
     Configs,
@@ -13,7 +13,7 @@ pub enum Question {
 }
 
 /// A method that stages changes of a package.
-#[derive(Clone, Copy, Debug, PartialEq, Eq)]
+#[derive(Clone, Copy)]
 pub enum Edit {
     Add,
     Set,
@@ -23,7 +23,7 @@ pub enum Edit {
 }
 
 /// A method of the object `uci`.
-#[derive(Clone, Copy, Debug, PartialEq, Eq)]
+#[derive(Clone, Copy)]
 pub enum Method {
     /// One that changes nothing.
     Ask(Question),

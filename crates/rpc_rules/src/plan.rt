@@ -13,7 +13,7 @@ use uci_delta::{Change, Delta, apply};
 use uci_tree::{Package, Section};
 
 /// Changes that a call is to stage, tried one after another on what its holder sees.
-#[derive(Debug, Drop)]
+#[derive(Drop)]
 pub struct Plan {
     /// What the holder sees of the package once they are staged.
     pub tree: Package,

@@ -4,7 +4,7 @@ ghost use Rattle.rpc_session.specs.Denied.{number_of};
 use thiserror::Error;
 
 /// Why a session may not do what is wanted.
-#[derive(Clone, Copy, Debug, PartialEq, Eq, Error)]
+#[derive(Clone, Copy, Debug, Error)]
 pub enum Denied {
     /// No live session has the id.
     #[error("no such session")]

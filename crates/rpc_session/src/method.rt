@@ -2,7 +2,7 @@ ghost use Rattle.std.specs.Prelude.{◌≡◌};
 ghost use Rattle.rpc_session.specs.Method.{method_of};
 
 /// What may be asked of a live session.
-#[derive(Clone, Copy, Debug, PartialEq, Eq)]
+#[derive(Clone, Copy)]
 pub(crate) enum Question {
     /// What the session is.
     Listing,
@@ -13,7 +13,7 @@ pub(crate) enum Question {
 }
 
 /// How a session may be changed.
-#[derive(Clone, Copy, Debug, PartialEq, Eq)]
+#[derive(Clone, Copy)]
 pub(crate) enum Change {
     Grant,
     Revoke,
@@ -22,7 +22,7 @@ pub(crate) enum Change {
 }
 
 /// A method of the object `session`.
-#[derive(Clone, Copy, Debug, PartialEq, Eq)]
+#[derive(Clone, Copy)]
 pub(crate) enum Method {
     Create,
     Destroy,

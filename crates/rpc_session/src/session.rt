@@ -9,7 +9,7 @@ use std::alloc::Global;
 use std::mem;
 
 /// A session: who uses the message bus.
-#[derive(Debug, Drop)]
+#[derive(Drop)]
 pub struct Session {
     pub id: u128,
     /// How many seconds without a use end it; 0 is never.

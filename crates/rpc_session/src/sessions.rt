@@ -13,7 +13,7 @@ pub const MOST_SESSIONS: usize = 1024;
 /// The sessions. The default one has the id 0, and is always there.
 ///
 /// The others have as id their number, from 1 on, times 2^64, and a random word. A session is found by a binary search.
-#[derive(Debug, Drop)]
+#[derive(Drop)]
 pub struct Sessions {
     pub(crate) rows: Vec<Session>,
     next: u64,

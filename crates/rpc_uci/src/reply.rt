@@ -6,7 +6,7 @@ use sqlite_items::Items;
 use std::alloc::Global;
 
 /// What a call answers.
-#[derive(Debug, Drop)]
+#[derive(Drop)]
 pub struct Reply {
     /// What it tells.
     pub payload: Items<Attr>,

@@ -20,7 +20,7 @@ pub struct ScriptClient {
 }
 
 /// What a client has sent: the frames that are whole now, and the fault behind them.
-#[derive(Debug, Drop)]
+#[derive(Drop)]
 pub struct Fed {
     /// The number that the bus gave the client.
     pub number: u32,

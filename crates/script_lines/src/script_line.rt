@@ -2,7 +2,7 @@ use kern_model::DevEvent;
 use plane_io::{Items, Text};
 
 /// What a line of a script asks for. JSON is kept as its text.
-#[derive(Debug, Drop)]
+#[derive(Drop)]
 pub enum ScriptLine {
     /// The moment becomes this one, in seconds.
     At {

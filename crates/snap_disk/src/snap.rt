@@ -27,7 +27,7 @@ use std::mem;
 
 /// The packages of a disk, and the apply that waits on it. It belongs to the disk on which it was
 /// opened.
-#[derive(Debug, Drop)]
+#[derive(Drop)]
 pub struct Snap {
     pub(crate) packages: Vec<Text>,
     pub(crate) kept: Option<Kept>,

@@ -10,7 +10,7 @@ use std::process::Abort;
 use std::test::Fail;
 
 /// What is stopped.
-#[derive(Clone, Copy, Debug)]
+#[derive(Clone, Copy)]
 enum Work {
     Apply,
     Commit,
@@ -20,7 +20,7 @@ enum Work {
 }
 
 /// A state: `network`, and whether an apply waits over `old`.
-#[derive(Clone, Copy, Debug)]
+#[derive(Clone, Copy)]
 struct State {
     network: &'static [u8],
     waits: bool,

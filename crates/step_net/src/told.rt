@@ -8,7 +8,7 @@ use plane_io::{Memory, Text};
 use std::alloc::Global;
 
 /// What is to be told of a line behind its calls: the lines of asks and the reply, and the line of its refusal, where it is refused.
-#[derive(Debug, Drop)]
+#[derive(Drop)]
 pub struct Told {
     pub shown: Text,
     pub refusal: Option<Text>,

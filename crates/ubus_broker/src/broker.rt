@@ -28,21 +28,21 @@ pub const MOST_CLIENTS: usize = 256;
 const LAST_NUMBER: u64 = 4_294_967_295;
 
 /// What a step sends, in this order, and the call of a local object that it hands out.
-#[derive(Debug, Drop)]
+#[derive(Drop)]
 pub struct Served {
     pub out: Items<Outgoing>,
     pub call: Option<LocalCall>,
 }
 
 /// The number of a new client, and what is sent.
-#[derive(Debug, Drop)]
+#[derive(Drop)]
 pub struct Joined {
     pub client: u32,
     pub out: Items<Outgoing>,
 }
 
 /// A message bus.
-#[derive(Debug, Drop)]
+#[derive(Drop)]
 pub struct Broker {
     pub(crate) bus: Bus,
 }

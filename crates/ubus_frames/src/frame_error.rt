@@ -8,7 +8,7 @@ use std::alloc::AllocError;
 use thiserror::Error;
 
 /// Why bytes are no frame: the first fault, or want of memory.
-#[derive(Clone, Copy, Debug, PartialEq, Eq, Error)]
+#[derive(Clone, Copy, Debug, Error)]
 pub enum FrameError {
     /// The first byte is not 0.
     #[error("the frame has version {byte}")]

@@ -4,7 +4,7 @@ ghost use Rattle.uci_delta.specs.Shape.{HasShape};
 use plane_io::Text;
 
 /// What a delta does to a section, or to an option in it.
-#[derive(Debug, Drop)]
+#[derive(Drop)]
 pub enum Change {
     /// The section gets this type, and a named one is added where there is none; or the option gets this value, and an empty
     /// value removes it.
@@ -24,7 +24,7 @@ pub enum Change {
 }
 
 /// A staged change: of a section of a package, or of an option in it.
-#[derive(Debug, Drop)]
+#[derive(Drop)]
 pub struct Delta {
     /// The package's name.
     pub package: Text,

@@ -11,7 +11,7 @@ use uci_text::{ByteClass, is_name};
 use uci_tree::cut_first;
 
 /// The kinds of changes.
-#[derive(Clone, Copy, Debug)]
+#[derive(Clone, Copy)]
 pub enum Kind {
     Set,
     Remove,

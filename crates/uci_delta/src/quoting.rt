@@ -4,7 +4,7 @@ ghost use Rattle.uci_delta.specs.Quoting as spec;
 use uci_text::ByteClass;
 
 /// How a byte of words stands.
-#[derive(Clone, Copy, Debug)]
+#[derive(Clone, Copy)]
 pub enum Quoting {
     /// Outside quotes.
     Bare,

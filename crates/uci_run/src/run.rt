@@ -19,7 +19,7 @@ use uci_tool::uci;
 use uci_words::read_words;
 
 /// What is to be known of the words before a folder is opened.
-#[derive(Clone, Copy, Debug, PartialEq, Eq, Hash)]
+#[derive(Clone, Copy)]
 struct Asking {
     /// Whether nothing is to be written to the error output.
     quiet: bool,

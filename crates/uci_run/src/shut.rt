@@ -7,7 +7,7 @@ use uci_store::StoreError;
 use uci_texts::{BAD_SNAPSHOT, DISK_FAILED, OUT_OF_MEMORY, TOO_LARGE};
 
 /// Why a folder was not opened.
-#[derive(Clone, Copy, Debug, PartialEq, Eq, Hash)]
+#[derive(Clone, Copy)]
 pub enum Shut {
     /// A disk failed.
     DiskFailed,

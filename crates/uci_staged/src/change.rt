@@ -4,7 +4,7 @@ ghost use Rattle.uci_staged.specs.Change as spec;
 use uci_delta::Delta;
 
 /// A change that a holder has staged, of the package that a file of a disk holds.
-#[derive(Debug, Drop)]
+#[derive(Drop)]
 pub struct StagedChange {
     /// The session whose change it is, and 0 for the command line.
     pub holder: u128,

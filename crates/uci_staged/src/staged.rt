@@ -12,7 +12,7 @@ use uci_tree::Package;
 
 /// The changes that holders have staged. Those of holder 0, the command line, are kept on a disk as well, which is the one on
 /// which they were opened.
-#[derive(Debug, Drop)]
+#[derive(Drop)]
 pub struct Staged {
     pub(crate) changes: Vec<StagedChange>,
 }

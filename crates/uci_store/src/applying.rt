@@ -18,7 +18,7 @@ use snap_disk::{NewFile, Pending};
 use std::alloc::Global;
 
 /// The new files so far, and how large the first is that does not fit.
-#[derive(Debug, Drop)]
+#[derive(Drop)]
 struct NewFiles {
     files: Vec<NewFile>,
     large: Option<u64>,

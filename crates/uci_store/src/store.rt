@@ -13,7 +13,7 @@ use uci_staged::Staged;
 
 /// The packages of a folder, what holders have staged over them, and an apply that waits. Holder 0 is the command line, whose
 /// changes are kept on a disk of their own; the other holders are sessions. It belongs to the disks on which it was opened.
-#[derive(Debug, Drop)]
+#[derive(Drop)]
 pub struct Store {
     pub(crate) packages: Vec<Text>,
     pub(crate) snap: Snap,

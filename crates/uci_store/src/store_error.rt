@@ -13,7 +13,7 @@ use uci_delta::DeltaError;
 use uci_tree::TreeError;
 
 /// Why a call of a store was refused.
-#[derive(Clone, Copy, Debug, PartialEq, Eq, Error)]
+#[derive(Clone, Copy, Debug, Error)]
 pub enum StoreError {
     /// A disk failed, or has failed before; an apply waits, or none does; or the files passed a limit or have no reading.
     #[error("{0}")]

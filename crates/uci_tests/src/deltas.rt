@@ -10,7 +10,7 @@ use uci_tree::{anonymous_name, print_package, read_package};
 /// refusal, or 0, its line in a delta file, and the line that `uci changes` shows.
 type Row<'a> = (Kind, &'a [u8], &'a [u8], &'a [u8], u8, &'a [u8], &'a [u8]);
 
-#[derive(Clone, Copy, Debug)]
+#[derive(Clone, Copy)]
 enum Kind {
     Set,
     Remove,

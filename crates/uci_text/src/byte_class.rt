@@ -13,7 +13,7 @@ const STOPS: [u8; 16] = *b" \t\r\x0b\x0c\n;#'\"\\     ";
 const DOUBLE_QUOTE_STOPS: [u8; 16] = *b"\"\\\"\"\"\"\"\"\"\"\"\"\"\"\"\"";
 
 /// A class of bytes.
-#[derive(Clone, Copy, Debug)]
+#[derive(Clone, Copy)]
 pub enum ByteClass {
     /// White space: a space, tab, CR, VT or FF.
     Space,

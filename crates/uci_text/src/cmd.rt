@@ -1,7 +1,7 @@
 use plane_io::Text;
 
 /// A command, with the number of the line on which its first word begins.
-#[derive(Debug, Drop)]
+#[derive(Drop)]
 pub enum Cmd {
     /// `package NAME` or `p NAME`.
     Package {

@@ -5,7 +5,7 @@ ghost use Rattle.uci_text.specs.Table.{Begins, IsCount, IsNameOf, AreNamed};
 use crate::byte_class::ByteClass;
 
 /// What kind of command a line is.
-#[derive(Clone, Copy, Debug)]
+#[derive(Clone, Copy)]
 pub enum Keyword {
     /// `package` or `p`.
     Package,

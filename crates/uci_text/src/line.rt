@@ -1,7 +1,7 @@
 use plane_io::{Items, Text};
 
 /// A command, as the words of which it is made.
-#[derive(Debug, Drop)]
+#[derive(Drop)]
 pub struct Line {
     /// The number of the line on which its first word begins, from 1.
     pub line: u32,

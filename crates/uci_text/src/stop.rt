@@ -2,7 +2,7 @@ use plane_io::Memory;
 use std::alloc::{AllocError, AllocFailed};
 
 /// Why a word was not read.
-#[derive(Clone, Copy, Debug)]
+#[derive(Clone, Copy)]
 pub enum Stop {
     /// A quote is not closed; so many bytes are left from it on.
     Quote { left: usize },

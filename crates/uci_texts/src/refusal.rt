@@ -35,7 +35,7 @@ const AT_LINE: &[u8] = b") at line ";
 const NEWLINE: &[u8] = b"\n";
 
 /// Why a command is refused.
-#[derive(Clone, Copy, Debug, PartialEq, Eq, Hash)]
+#[derive(Clone, Copy)]
 pub enum Refusal {
     /// What a path leads to is not there.
     NotFound,

@@ -8,7 +8,7 @@ use std::alloc::Global;
 use uci_texts::Refusal;
 
 /// What a command prints, what it tells on the error output, and why it was refused, or the first of its lines that was.
-#[derive(Debug, Drop)]
+#[derive(Drop)]
 pub struct Report {
     pub output: Text,
     pub told: Text,

@@ -12,7 +12,7 @@ use uci_texts::Refusal;
 use uci_tree::TreeError;
 
 /// Why a command is not done.
-#[derive(Clone, Copy, Debug, PartialEq, Eq, Hash)]
+#[derive(Clone, Copy)]
 pub enum Stop {
     /// It is refused.
     Refused(Refusal),

@@ -20,7 +20,7 @@ use uci_tree::{Package, Path, print_package};
 use uci_words::Options;
 
 /// What is listed of packages.
-#[derive(Clone, Copy, Debug, PartialEq, Eq, Hash)]
+#[derive(Clone, Copy)]
 pub enum Listing {
     /// `show`
     Show,
@@ -31,7 +31,7 @@ pub enum Listing {
 }
 
 /// What was printed, and why no more was.
-#[derive(Debug, Drop)]
+#[derive(Drop)]
 pub struct Printed {
     pub output: Text,
     pub refusal: Option<Refusal>,

@@ -29,7 +29,7 @@ use uci_texts::{DISK_FAILED, OUT_OF_MEMORY, TOO_LARGE, USAGE};
 use uci_words::{Command, Options, read_words};
 
 /// How a run of `uci` ended.
-#[derive(Clone, Copy, Debug, PartialEq, Eq, Hash)]
+#[derive(Clone, Copy)]
 pub struct UciEnd {
     /// 0, 1 refused, 2 usage, 3 read, 4 write, 5 disk, 8 memory, 10 a long input.
     pub status: u8,
@@ -38,7 +38,7 @@ pub struct UciEnd {
 }
 
 /// Why a run was cut short.
-#[derive(Clone, Copy, Debug, PartialEq, Eq, Hash)]
+#[derive(Clone, Copy)]
 enum Cut {
     TooLong,
     ReadFailed,

@@ -17,7 +17,7 @@ const BAD_NAME: &[u8] = b"bad name";
 const NO_SECTION: &[u8] = b"no section";
 
 /// What is wrong with a text that is no package.
-#[derive(Clone, Copy, Debug, PartialEq, Eq, Hash)]
+#[derive(Clone, Copy)]
 pub enum Reason {
     /// A zero byte, or a backslash that is the last byte and stands outside quotes and comments.
     BadWord,
@@ -34,7 +34,7 @@ pub enum Reason {
 }
 
 /// Where a text is no package, and why.
-#[derive(Clone, Copy, Debug, PartialEq, Eq, Hash)]
+#[derive(Clone, Copy)]
 pub struct Fault {
     /// The number of the line, from 1.
     pub line: u32,

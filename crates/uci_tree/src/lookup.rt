@@ -5,7 +5,7 @@ use crate::{Opt, Package, Path, Section, SectionRef};
 use plane_io::Text;
 
 /// Where in a package something is: the place of a section, and perhaps the place of an option in it, from 0.
-#[derive(Clone, Copy, Debug, PartialEq, Eq)]
+#[derive(Clone, Copy)]
 pub struct Place {
     pub section: usize,
     pub option: Option<usize>,

@@ -1,21 +1,21 @@
 use plane_io::{Items, Text};
 
 /// The value of an option: a text, or a list of texts.
-#[derive(Debug, Drop)]
+#[derive(Drop)]
 pub enum Value {
     One(Text),
     Many(Items<Text>),
 }
 
 /// An option of a section.
-#[derive(Debug, Drop)]
+#[derive(Drop)]
 pub struct Opt {
     pub name: Text,
     pub value: Value,
 }
 
 /// A section of a package.
-#[derive(Debug, Drop)]
+#[derive(Drop)]
 pub struct Section {
     /// The name that the text gave it, or that [`crate::anonymous_name`] makes for it.
     pub name: Text,
@@ -27,7 +27,7 @@ pub struct Section {
 }
 
 /// A configuration file as a tree.
-#[derive(Debug, Drop)]
+#[derive(Drop)]
 pub struct Package {
     pub name: Text,
     pub sections: Items<Section>,

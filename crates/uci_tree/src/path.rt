@@ -1,7 +1,7 @@
 use plane_io::Text;
 
 /// What a path names a section by.
-#[derive(Debug, Drop)]
+#[derive(Drop)]
 pub enum SectionRef {
     /// Its name.
     Name(Text),
@@ -10,7 +10,7 @@ pub enum SectionRef {
 }
 
 /// A path: a package, and perhaps a section of it, and perhaps an option of that.
-#[derive(Debug, Drop)]
+#[derive(Drop)]
 pub struct Path {
     pub package: Text,
     pub section: Option<SectionRef>,

@@ -14,7 +14,7 @@ use std::str;
 use uci_text::{ByteClass, is_name};
 
 /// Why a text is not read as a path.
-#[derive(Clone, Copy, Debug)]
+#[derive(Clone, Copy)]
 enum PathError {
     NoPath,
     Memory,

@@ -9,7 +9,7 @@ use thiserror::Error;
 use uci_text::TextError;
 
 /// Why a text was not read as a package.
-#[derive(Clone, Copy, Debug, PartialEq, Eq, Error)]
+#[derive(Clone, Copy, Debug, Error)]
 pub enum TreeError {
     /// The text has no commands: its first fault.
     #[error("{0}")]

@@ -5,7 +5,7 @@ use crate::{Keyword, Verb};
 use plane_io::{Memory, Text};
 
 /// What `uci` is asked for. Paths and packages are the words as they were given.
-#[derive(Debug, Drop)]
+#[derive(Drop)]
 pub enum Command {
     /// Lists a package, a section or an option, or all packages.
     Show { path: Option<Text> },

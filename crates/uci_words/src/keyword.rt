@@ -2,7 +2,7 @@ ghost use Rattle.std.specs.Prelude.{◌≡◌};
 ghost use Rattle.uci_words.specs.Command.{keyword_of, verb_of};
 
 /// What a command that stages a change does to the place that its word names.
-#[derive(Clone, Copy, Debug, PartialEq, Eq, Hash)]
+#[derive(Clone, Copy)]
 pub enum Verb {
     /// `set PATH=VALUE`
     Set,
@@ -42,7 +42,7 @@ impl Verb {
 }
 
 /// The first word of a command.
-#[derive(Clone, Copy, Debug, PartialEq, Eq, Hash)]
+#[derive(Clone, Copy)]
 pub enum Keyword {
     Show,
     Get,

@@ -14,7 +14,7 @@ const USUAL_STAGED: &[u8] = b"/tmp/.uci";
 const USUAL_BETWEEN: &[u8] = b" ";
 
 /// What the options in front of a command say.
-#[derive(Debug, Drop)]
+#[derive(Drop)]
 pub struct Options {
     /// The folder of the packages.
     pub files: Text,
@@ -35,7 +35,7 @@ pub struct Options {
 }
 
 /// An option that stands alone.
-#[derive(Clone, Copy, Debug, PartialEq, Eq, Hash)]
+#[derive(Clone, Copy)]
 pub enum Flag {
     /// `-q`
     Quiet,
@@ -50,7 +50,7 @@ pub enum Flag {
 }
 
 /// An option that takes the word behind it, whatever that is.
-#[derive(Clone, Copy, Debug, PartialEq, Eq, Hash)]
+#[derive(Clone, Copy)]
 pub enum Field {
     /// `-c DIR`
     Files,

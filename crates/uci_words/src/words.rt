@@ -7,7 +7,7 @@ use plane_io::{Memory, Text};
 use std::alloc::Global;
 
 /// What the words of `uci` ask for.
-#[derive(Debug, Drop)]
+#[derive(Drop)]
 pub struct Asked {
     /// The options, up to the first word that is none.
     pub options: Options,
