@@ -1,3 +1,10 @@
+pub mod EqLemmas
+pub mod ObjectLemmas
+pub mod AtLemmas
+pub mod PlaceLemmas
+pub mod GoneLemmas
+pub mod DeviceLemmas
+pub mod AdmissionLemmas
 pub mod HeldLemmas
-pub mod PresentLemmas
 pub mod StateLemmas
+pub mod PresentLemmas

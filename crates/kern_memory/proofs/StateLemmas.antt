@@ -13,7 +13,8 @@ use Rattle.kern_model.specs.ObjectOrder.{Objects, object_cmp, set_of}
 use Rattle.kern_model.specs.Standing.{stands_on, gone}
 use Rattle.kern_model.specs.Kernel.{Devices, is_present, Exists, replaces, after_call}
 use Rattle.kern_model.specs.Admission.{Admits}
-use Rattle.kern_memory.specs.KernelState.{KnownKernel, objects_after, left_standing, is_put, HasObjectRoom, HasRoomForAll}
+use Rattle.kern_memory.specs.KernelState.{KnownKernel, objects_after, left_standing, HasObjectRoom, HasRoomForAll}
+use Rattle.kern_memory.specs.Tables.{is_put}
 use Rattle.plane_words.specs.Distinct.{AreDistinct}
 use Rattle.kern_model.proofs.MemberLemmas.{here, there}
 use Rattle.kern_model.proofs.OrderLemmas.{objects_total, objects_apart}

@@ -11,6 +11,7 @@ use Rattle.kern_model.specs.declared.object.DevEvent.TheVariants as event
 use Rattle.kern_model.specs.ObjectOrder.{Objects, object_cmp, set_of}
 use Rattle.kern_model.specs.Standing.{stands_on}
 use Rattle.kern_model.specs.Kernel.{Devices, map_of, replaces}
+use Rattle.kern_memory.specs.Tables.{is_put, is_addition}
 
 -- The objects and the present devices, the newest last, and how many of each there is memory for,
 -- those that there are among them.
@@ -55,18 +56,9 @@ LacksObjectRoom known call = (needs_room known.objects call ≡ true) × (known.
 abbrev pub HasObjectRoom : KnownKernel → Call → Type 0
 HasObjectRoom known call = needs_room known.objects call ≡ true → length known.objects < known.most_objects
 
-abbrev pub is_put : Call → Bool
-is_put (Put o) = true
-is_put (Take o mtu mac) = false
-
 -- there is memory for all that the calls put, one after the other
 abbrev pub HasRoomForAll : KnownKernel → List Call → Type 0
 HasRoomForAll known calls = length known.objects + length (filter is_put calls) ≤ known.most_objects
-
--- a device comes
-abbrev pub is_addition : DevEvent → Bool
-is_addition (event.Add name carrier mtu mac) = true
-is_addition _ = false
 
 -- a device comes, and there is no memory for that
 abbrev pub LacksDeviceRoom : KnownKernel → DevEvent → Type 0

@@ -2,6 +2,8 @@
 
 -- the held objects and the present devices, as lists
 pub mod KernelState
+-- the held objects and the present devices, in tables
+pub mod Tables
 -- a list that is kept or not
 pub mod Log
 -- a kernel in memory

@@ -2,7 +2,8 @@
 ghost use Rattle.std.specs.Prelude.{◌≡◌, ◌<◌, ◌≤◌, ◌+◌, true, not, filter, length, OnOk, OnErr, vec_len, vec_capacity};
 ghost use Rattle.std.specs.List.{position, list_any};
 ghost use Rattle.kern_model.specs.Kernel.{replaces};
-ghost use Rattle.kern_memory.specs.KernelState.{objects_after, left_standing, needs_room, is_put};
+ghost use Rattle.kern_memory.specs.KernelState.{objects_after, left_standing, needs_room};
+ghost use Rattle.kern_memory.specs.Tables.{is_put};
 ghost use Rattle.kern_model.specs.AdmissionTest.{is_vlan_over};
 
 use kern_model::{Call, DevName, LinkKind, Object};

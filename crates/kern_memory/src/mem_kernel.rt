@@ -1,15 +1,18 @@
 ghost use Rattle.std.specs.Prelude.{◌≡◌, ◌≤◌, ◌⊎◌, ◌↔◌, ◌+◌, [], ◌∷◌, Some, None, IsTrue, is_ok, OnOk, OnErr, IfOk, Contains, unwrap_or, length};
+ghost use Rattle.std.specs.FinMap as map;
+ghost use Rattle.std.specs.FinSet as set;
 ghost use Rattle.plane_words.specs.Causes.{HasCause, next_count};
 ghost use Rattle.plane_words.specs.Distinct.{AreDistinct};
 ghost use Rattle.plane_words.specs.Growth.{Grows};
+ghost use Rattle.kern_model.specs.ObjectOrder.{set_of};
 ghost use Rattle.kern_model.specs.Kernel.{after_call, MayHappen, after_event, objects_after_event, Records};
 ghost use Rattle.kern_model.specs.Admission.{Admits};
-ghost use Rattle.kern_memory.specs.KernelState.{objects_after, device_count_after, HasObjectRoom, LacksObjectRoom};
+ghost use Rattle.kern_memory.specs.Tables.{LacksObjectRoom, KeepsRoom};
 ghost use Rattle.kern_memory.specs.Log.{IsFull, HasRoom};
 ghost use Rattle.kern_memory.specs.MemKernel.{objects_of, devices_of, IsFullForCall, IsFullForEvent, FailedBy};
 
-use crate::kernel_state::KernelState;
 use crate::log::Log;
+use crate::tables::Tables;
 use kern_model::{Asked, Call, DevEvent, Kernel, LinkKind, Object};
 use plane_io::{Failed, Memory};
 use std::alloc::Global;
@@ -19,7 +22,7 @@ use std::marker::Model;
 /// kernel cannot grow; then nothing changes.
 #[derive(Drop)]
 pub struct MemKernel {
-    state: KernelState,
+    tables: Tables,
     calls: Log<Call>,
     asked: Log<Asked>,
     failing_apply: Vec<u64>,
@@ -31,12 +34,26 @@ pub struct MemKernel {
 }
 
 impl Model for MemKernel {
+    ghost use Rattle.std.specs.Coded.{codes, coded_list, coded_ℕ};
+    ghost use Rattle.std.specs.FinMap as map;
+    ghost use Rattle.std.specs.FinSet as set;
+    ghost use Rattle.std.specs.Ordering.{nat_cmp};
+    ghost use Rattle.std.specs.Cmp.Lexicographic.{slice_cmp};
+    ghost use Rattle.kern_model.specs.ObjectOrder.{object_cmp};
+    ghost use Rattle.kern_model.specs.contracts.object.Device as device;
+    ghost use Rattle.kern_model.specs.contracts.object.Object as object;
     ghost use Rattle.kern_memory.specs.MemKernel.{KernelInMemory};
 
     ghost Value = { KernelInMemory };
 
+    ghost coded = { Prim.hlevel (
+      codes,
+      set.code {R = object_cmp} object.the_row.coded,
+      map.code {R = slice_cmp nat_cmp} (coded_list coded_ℕ) device.the_row.coded,
+    ) };
+
     ghost view = { λ kernel. record {
-      state = kernel.state;
+      tables = kernel.tables;
       calls = kernel.calls;
       asked = kernel.asked;
       failing_apply = kernel.failing_apply.items;
@@ -52,7 +69,7 @@ impl MemKernel {
     /// A kernel without objects and devices, whose calls with these numbers fail. It keeps the lists
     /// of what it did and of all that was asked of it.
     pub fn new(alloc: Global, failing_apply: Vec<u64>, failing_environment: Vec<u64>) -> MemKernel
-        ensures empty { (result.state.objects ≡ []) × (result.state.devices ≡ []) }
+        ensures empty { (objects_of result ≡ set.empty) × (devices_of result ≡ map.empty) }
         ensures calls { result.calls.items ≡ Some [] }
         ensures asked { result.asked.items ≡ Some [] }
         ensures lists { (result.failing_apply ≡ failing_apply.items)
@@ -61,7 +78,7 @@ impl MemKernel {
             × (result.refused ≡ 0) }
     {
         MemKernel {
-            state: KernelState::new(alloc),
+            tables: Tables::new(alloc),
             calls: Log::kept(alloc),
             asked: Log::kept(alloc),
             failing_apply,
@@ -77,18 +94,18 @@ impl MemKernel {
     /// Within it no call and no event fails, whatever their order.
     pub fn with_room(alloc: Global, count: usize) -> Result<MemKernel, Memory>
         ensures empty { IfOk result (λ kernel.
-            (kernel.state.objects ≡ []) × (kernel.state.devices ≡ [])) }
+            (objects_of kernel ≡ set.empty) × (devices_of kernel ≡ map.empty)) }
         ensures calls { IfOk result (λ kernel. kernel.calls.items ≡ Some []) }
         ensures asked { IfOk result (λ kernel. kernel.asked.items ≡ None) }
         ensures lists { IfOk result (λ kernel. (kernel.failing_apply ≡ [])
             × (kernel.failing_environment ≡ [])) }
         ensures counts { IfOk result (λ kernel. (kernel.applied ≡ 0) × (kernel.happened ≡ 0)
             × (kernel.faults ≡ 0) × (kernel.refused ≡ 0)) }
-        ensures room { IfOk result (λ kernel. (count ≤ kernel.state.most_objects)
-            × (count ≤ kernel.state.most_devices) × (count ≤ kernel.calls.most)) }
+        ensures room { IfOk result (λ kernel. (count ≤ kernel.tables.object_room)
+            × (count ≤ kernel.tables.device_room) × (count ≤ kernel.calls.most)) }
     {
         Ok(MemKernel {
-            state: KernelState::with_room(alloc, count)?,
+            tables: Tables::with_room(alloc, count)?,
             calls: Log::with_room(alloc, count)?,
             asked: Log::unkept(alloc),
             failing_apply: Vec::new(alloc),
@@ -103,7 +120,7 @@ impl MemKernel {
     /// A kernel without objects and devices that keeps no lists and whose calls are not made to
     /// fail. It fails at no take, and at a put or an event only where it cannot grow.
     pub fn unlogged(alloc: Global) -> MemKernel
-        ensures empty { (result.state.objects ≡ []) × (result.state.devices ≡ []) }
+        ensures empty { (objects_of result ≡ set.empty) × (devices_of result ≡ map.empty) }
         ensures calls { result.calls.items ≡ None }
         ensures asked { result.asked.items ≡ None }
         ensures lists { (result.failing_apply ≡ []) × (result.failing_environment ≡ []) }
@@ -111,7 +128,7 @@ impl MemKernel {
             × (result.refused ≡ 0) }
     {
         MemKernel {
-            state: KernelState::new(alloc),
+            tables: Tables::new(alloc),
             calls: Log::unkept(alloc),
             asked: Log::unkept(alloc),
             failing_apply: Vec::new(alloc),
@@ -125,10 +142,10 @@ impl MemKernel {
 
     /// The objects, in no stated order, each once.
     pub fn objects(&self) -> &[Object]
-        ensures objects { result.now ≡ self.now.state.objects }
+        ensures objects { set_of result.now ≡ objects_of self.now }
         ensures once { AreDistinct result.now }
     {
-        self.state.objects()
+        self.tables.objects()
     }
 
     /// The calls of `apply` that were done, in order. Of a kernel that keeps no list this is empty.
@@ -149,7 +166,7 @@ impl MemKernel {
     pub fn admits(&self, call: &Call) -> bool
         ensures { IsTrue result ↔ Admits (devices_of self.now) (objects_of self.now) call.now }
     {
-        self.state.admits(call)
+        self.tables.admits(call)
     }
 
     /// Whether the event may happen: a device that comes under a name that does not exist, or one
@@ -158,7 +175,7 @@ impl MemKernel {
         ensures { IsTrue result
             ↔ MayHappen (devices_of self.now) (objects_of self.now) event.now }
     {
-        self.state.may_happen(event)
+        self.tables.may_happen(event)
     }
 
     /// How many growths were refused for want of memory.
@@ -193,10 +210,8 @@ impl Kernel for MemKernel {
         ensures devices { devices_of self.new ≡ devices_of self.old }
         ensures cause { HasCause self.old.faults self.new.faults result }
 
-        // What is put stands after the others, once. A call fails exactly where its number is in
-        // the list, or a list that it makes longer is full and cannot grow.
-        ensures changed { OnOk result
-            (self.new.state.objects ≡ objects_after self.old.state.objects call.now) }
+        // A call fails exactly where its number is in the list, or where what it makes longer is full
+        // and cannot grow.
         ensures number { (self.new.applied ≡ next_count self.old.applied)
             × (self.new.happened ≡ self.old.happened) }
         ensures lists { (self.new.failing_apply ≡ self.old.failing_apply)
@@ -213,11 +228,9 @@ impl Kernel for MemKernel {
         ensures kept { self.new.asked.items ≡ None → (self.old.asked.items ≡ None)
             ⊎ IsFull self.old.asked.items self.old.asked.most }
 
-        // No list loses room.
-        ensures most { (self.old.state.most_objects ≤ self.new.state.most_objects)
-            × (self.old.state.most_devices ≤ self.new.state.most_devices)
-            × (self.old.calls.most ≤ self.new.calls.most) }
-        ensures same_devices { self.new.state.devices ≡ self.old.state.devices }
+        // Tables and lists keep their room, but for one place in a table.
+        ensures room { KeepsRoom self.old.tables self.new.tables }
+        ensures most { self.old.calls.most ≤ self.new.calls.most }
     {
         // What is below is proved only where a local names the enums within.
         let _named: Option<(DevEvent, Object, LinkKind)> = None;
@@ -236,7 +249,7 @@ impl Kernel for MemKernel {
             self.faults = self.faults.saturating_add(1);
             return Err(Failed);
         }
-        let Ok(()) = reserve_call(&mut self.state, &mut self.calls, call) else {
+        let Ok(()) = carry_out(&mut self.tables, &mut self.calls, call) else {
             self.asked.push(Asked::Call {
                 call: *call,
                 done: false,
@@ -245,8 +258,6 @@ impl Kernel for MemKernel {
             self.faults = self.faults.saturating_add(1);
             return Err(Failed);
         };
-        self.state.apply(call);
-        self.calls.push(*call);
         self.asked.push(Asked::Call {
             call: *call,
             done: true,
@@ -267,8 +278,8 @@ impl Kernel for MemKernel {
             (Asked.Event event.now (is_ok result) ∷ []) }
         ensures cause { HasCause self.old.faults self.new.faults result }
 
-        // A call fails exactly where its number is in the list, or a list that it makes longer is
-        // full and cannot grow.
+        // A call fails exactly where its number is in the list, or where what it makes longer is full
+        // and cannot grow.
         ensures number { (self.new.happened ≡ next_count self.old.happened)
             × (self.new.applied ≡ self.old.applied) }
         ensures lists { (self.new.failing_apply ≡ self.old.failing_apply)
@@ -285,14 +296,9 @@ impl Kernel for MemKernel {
         ensures kept { self.new.asked.items ≡ None → (self.old.asked.items ≡ None)
             ⊎ IsFull self.old.asked.items self.old.asked.most }
 
-        // No list loses room. Only a device that comes takes a place, and one that leaves gives it
-        // back.
-        ensures most { (self.old.state.most_objects ≤ self.new.state.most_objects)
-            × (self.old.state.most_devices ≤ self.new.state.most_devices)
-            × (self.old.calls.most ≤ self.new.calls.most) }
-        ensures count { OnOk result (length self.new.state.devices
-            ≤ device_count_after (length self.old.state.devices) event.now) }
-        ensures fewer { length self.new.state.objects ≤ length self.old.state.objects }
+        // Tables and lists keep their room, but for one place in a table.
+        ensures room { KeepsRoom self.old.tables self.new.tables }
+        ensures most { self.old.calls.most ≤ self.new.calls.most }
     {
         // What is below is proved only where a local names the enums within.
         let _named: Option<(Call, Object, LinkKind)> = None;
@@ -311,7 +317,7 @@ impl Kernel for MemKernel {
             self.faults = self.faults.saturating_add(1);
             return Err(Failed);
         }
-        let Ok(()) = self.state.reserve_event(event) else {
+        let Ok(()) = self.tables.happen(event) else {
             self.asked.push(Asked::Event {
                 event: *event,
                 done: false,
@@ -320,7 +326,6 @@ impl Kernel for MemKernel {
             self.faults = self.faults.saturating_add(1);
             return Err(Failed);
         };
-        self.state.happen(event);
         self.asked.push(Asked::Event {
             event: *event,
             done: true,
@@ -329,20 +334,26 @@ impl Kernel for MemKernel {
     }
 }
 
-// Takes room for the call among those that were done, and for what it puts.
-fn reserve_call(state: &mut KernelState, calls: &mut Log<Call>, call: &Call) -> Result<(), Memory>
-    ensures lists { (state.new.objects ≡ state.old.objects)
-        × (state.new.devices ≡ state.old.devices) × (calls.new.items ≡ calls.old.items) }
-    ensures room { OnOk result (HasObjectRoom state.new call.now
-        × HasRoom calls.new.items calls.new.most) }
+// Does the call, and lists it among those that were done. Where memory lacks, nothing changes.
+fn carry_out(tables: &mut Tables, calls: &mut Log<Call>, call: &Call) -> Result<(), Memory>
+    ensures did { OnOk result (tables.new.objects ≡ after_call tables.old.objects call.now) }
+    ensures logged { OnOk result (Grows calls.old.items calls.new.items (call.now ∷ [])) }
+    ensures err { OnErr result ((tables.new.objects ≡ tables.old.objects)
+        × (calls.new.items ≡ calls.old.items)) }
+    ensures devices { tables.new.devices ≡ tables.old.devices }
     ensures full { OnErr result (IsFull calls.old.items calls.old.most
-        ⊎ LacksObjectRoom state.old call.now) }
-    ensures most { (state.old.most_objects ≤ state.new.most_objects)
-        × (state.new.most_devices ≡ state.old.most_devices)
-        × (calls.old.most ≤ calls.new.most) }
+        ⊎ LacksObjectRoom tables.old call.now) }
+    ensures room { KeepsRoom tables.old tables.new }
+    ensures most { calls.old.most ≤ calls.new.most }
 {
+    // A push is proved only where a local names the enums within.
+    let _named: Option<(Object, LinkKind)> = None;
     let Ok(()) = calls.make_room() else {
         return Err(Memory);
     };
-    state.reserve_call(call)
+    let Ok(()) = tables.apply(call) else {
+        return Err(Memory);
+    };
+    calls.push(*call);
+    Ok(())
 }

@@ -3,7 +3,8 @@ ghost use Rattle.std.specs.Prelude.{◌≡◌, ◌≤◌, ◌<◌, ◌+◌, true
 ghost use Rattle.std.specs.FinMap as map;
 ghost use Rattle.kern_model.specs.declared.object.DevEvent.TheVariants.{Remove, Carrier};
 ghost use Rattle.kern_model.specs.Kernel.{map_of, is_present, after_event};
-ghost use Rattle.kern_memory.specs.KernelState.{without, is_addition};
+ghost use Rattle.kern_memory.specs.KernelState.{without};
+ghost use Rattle.kern_memory.specs.Tables.{is_addition};
 
 use kern_model::{DevEvent, DevName, Device, find_device};
 use std::alloc::AllocError;

@@ -1,6 +1,6 @@
 //! How the list of present devices changes in its place.
 ghost use Rattle.std.specs.Prelude.{◌≡◌, ◌<◌, true, map, OnOk, vec_len, vec_capacity};
-ghost use Rattle.kern_memory.specs.KernelState.{is_addition};
+ghost use Rattle.kern_memory.specs.Tables.{is_addition};
 ghost use Rattle.net_rules.specs.After as spec;
 ghost use Rattle.net_whole.specs.Apart.{FitsList};
 

@@ -2,7 +2,7 @@
 ghost use Rattle.std.specs.Prelude.{◌≡◌};
 
 use crate::folders::{memory_disk, open_folders, text_of};
-use kern_tables::TableKernel;
+use kern_memory::MemKernel;
 use plane_disk::Disk;
 use plane_io::{Sink, Source};
 use plane_main::{Locations, lack_memory, plane};
@@ -95,7 +95,7 @@ fn carry<S: Source, E: Sink, D: Disk, T: Disk>(
     requires { (T.view staged.old).names ≡ (D.view files.old).names }
 {
     let mut out = StdSink::new(rt.stdout());
-    let mut kernel = TableKernel::new(alloc);
+    let mut kernel = MemKernel::unlogged(alloc);
     let mut hub = MemHub::new(alloc, Vec::new(alloc), Vec::new(alloc));
     let mut clock = SystemClock::new(rt);
     let mut random = SeededRandom::new([0; 32]);

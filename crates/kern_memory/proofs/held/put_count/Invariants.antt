@@ -1,5 +1,5 @@
 use Rattle.std.proofs.Common.{◌≡◌, ◌≤◌, filter, length, take}
-use Rattle.kern_memory.specs.KernelState.{is_put}
+use Rattle.kern_memory.specs.Tables.{is_put}
 use Rattle.kern_memory.proofs.held.put_count.Given as goal
 
 -- the puts among the calls so far

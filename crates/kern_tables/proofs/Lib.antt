@@ -1,4 +1,0 @@
-pub mod ObjectLemmas
-pub mod AtLemmas
-pub mod GoneLemmas
-pub mod DeviceLemmas
