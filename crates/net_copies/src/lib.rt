@@ -1,10 +1,10 @@
-//! Copies of a network's inputs, in memory of their own.
+//! Copies of rows, options and answers, in memory of their own.
 #![tactic(auto)]
 
+mod answers;
 mod copies;
-mod inputs;
 mod rows;
 
-pub use copies::{copy_items, copy_option, copy_options, copy_text};
-pub use inputs::{copy_answer, copy_inputs};
+pub use answers::copy_answer;
+pub use copies::{copy_items, copy_option, copy_options};
 pub use rows::copy_conf;

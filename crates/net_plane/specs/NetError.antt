@@ -4,8 +4,6 @@ use Rattle.net_rows.specs.declared.conf_error.ConfError.{ConfError}
 use Rattle.net_rows.specs.declared.conf_error.ConfError.TheVariants as fault
 use Rattle.net_rules.specs.declared.refusal.Refusal.{Refusal}
 use Rattle.net_rules.specs.declared.refusal.Refusal.TheVariants as refused
-use Rattle.net_settle.specs.declared.device_error.DeviceError.{DeviceError}
-use Rattle.net_settle.specs.declared.device_error.DeviceError.TheVariants as ended
 use Rattle.net_plane.specs.declared.net_error.NetError.{NetError}
 use Rattle.net_plane.specs.declared.net_error.NetError.TheVariants as error
 
@@ -24,12 +22,6 @@ abbrev pub told_rows : {X : Type 0} → Result X ConfError → Result X NetError
 told_rows (Ok x) = Ok x
 told_rows (Err (fault.Limit number)) = Err (error.Limit number)
 told_rows (Err fault.Memory) = Err error.Memory
-
--- the end of what happens to a device, as it is told
-abbrev pub told_device : {X : Type 0} → Result X DeviceError → Result X NetError
-told_device (Ok x) = Ok x
-told_device (Err ended.KernelFailed) = Err error.KernelFailed
-told_device (Err ended.Memory) = Err error.Memory
 
 -- the number of the kind of error
 abbrev pub number_of : NetError → ℕ

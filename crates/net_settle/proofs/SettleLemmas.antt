@@ -1,5 +1,5 @@
 -- Calls that are made one after the other.
-use Rattle.std.proofs.Common.{◌≡◌, inl, inr, List, [], ◌∷◌, ◌++◌, Option, Some, None, map, refl, ap, sym, subst, ◌∙◌, append_assoc, append-nil, drop}
+use Rattle.std.proofs.Common.{◌≡◌, inl, inr, List, [], ◌∷◌, ◌++◌, Option, Some, None, map, refl, ap, sym, subst, ◌∙◌, append_assoc, append-nil}
 use Rattle.plane_words.specs.Causes.{Rose}
 use Rattle.plane_words.specs.Growth.{Grows, GrowsByFront}
 use Rattle.kern_model.specs.declared.object.Call.{Call}
@@ -9,10 +9,6 @@ use Rattle.kern_model.specs.Kernel.{Records, after_call}
 use Rattle.kern_model.specs.CallOrder.{after_calls}
 use Rattle.net_settle.specs.Outside.{Outside}
 use Rattle.net_settle.specs.Settle.{Made, Settled, SettledAlone, StopsAtCall, StopsAtLine, lines_of, whole_line, done_call, failed_call}
-
--- of items with a first one, those that are left behind it
-pub others_are_left : {X : Type 0} {items others left : List X} {x : X} → items ≡ x ∷ others → left ≡ drop 1 items → items ≡ x ∷ left
-others_are_left {x = x} p q = p ∙ ap (λ z. x ∷ z) (sym (q ∙ ap (drop 1) p))
 
 after_one_more : (objects : Objects) (made : List Call) (call : Call) → after_calls objects (made ++ call ∷ []) ≡ after_call (after_calls objects made) call
 after_one_more objects [] call = refl

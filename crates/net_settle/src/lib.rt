@@ -1,13 +1,6 @@
-//! What a kernel holds, what is wanted of it, and the settling from the one to the other.
+//! How far a settling of the kernel came: the words for its calls and their lines, and why it stopped.
 #![tactic(auto)]
 
-mod device;
-mod device_error;
-mod due;
-mod settle;
 mod settle_error;
-mod settling;
 
-pub use device_error::DeviceError;
 pub use settle_error::SettleError;
-pub use settling::Settling;

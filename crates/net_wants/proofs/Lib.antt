@@ -1,4 +1,3 @@
 pub mod ViewLemmas
-pub mod KnownLemmas
 pub mod UserLemmas
 pub mod GroupLemmas

@@ -1,12 +1,8 @@
--- What is wanted, as the program adds it up.
+-- What is used, as the program keeps it, and what is wanted for an interface.
 
 -- what is used
 pub mod View
--- the rows that belong to a bridge or an interface
+-- the rows that belong to a name
 pub mod Grouped
--- names, each once
-pub mod Known
--- what is added for a used bridge
-pub mod Objects
 -- what is added for an interface that is up
 pub mod Given

@@ -1,17 +1,9 @@
-//! What a network uses and wants of the kernel, computed as its definitions say.
+//! What a network uses, computed as its definitions say, and words for what it wants.
 #![tactic(auto)]
 
-mod given;
-mod grouped;
-mod known;
-mod objects;
+mod main_table;
 mod users;
 mod view;
-mod wants;
 
-pub use given::MAIN_TABLE;
-pub use grouped::Grouped;
-pub use known::Known;
-pub use objects::BridgePorts;
+pub use main_table::MAIN_TABLE;
 pub use view::View;
-pub use wants::wanted;

@@ -1,6 +1,0 @@
-use Rattle.std.proofs.Common.{◌≡◌, map, take}
-use Rattle.graph_session.proofs.rows.all_names.Given as goal
-
--- the names of the rows so far
-abbrev pub invariant-loop-row : goal.invariant-loop-row
-invariant-loop-row l = l.names.items ≡ map (λ row. row.name) (take l.row-index l.rows)

@@ -1,8 +1,0 @@
-use Rattle.std.proofs.Common.{◌≡◌, [], ◌∷◌, ◌++◌, rules}
-use Rattle.net_view.proofs.JoinLemmas.{grown}
-use Rattle.net_wants.proofs.grouped.add_place_of_name.Goals as goal
-
-pub returns : goal.returns
-returns c =
-    let pushed : c.push.new.self.items ≡ c.take_of_name-group.result.items ++ c.args.place ∷ [] = search rules in
-    grown c.args.groups.now c.take_of_name-group.new.groups c.insert.new.self c.args.name.now c.args.place c.take_of_name-group.result c.push.new.self c.take_of_name-group.ensures.places pushed c.take_of_name-group.ensures.others c.in_ok-_none.ensures.updates.0
