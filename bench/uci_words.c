@@ -1,5 +1,5 @@
 /* Splits UCI text on the standard input into words, and prints how many commands and how many words it has: what
-   bench/uci-text measures `uci_load commands` beside. The rules are those of uci_text's read_lines; it tells of no fault
+   bench/uci-text measures `bench_loads texts commands` beside. The rules are those of uci_text's read_lines; it tells of no fault
    but that there is one. Each word has memory of its own, and all words are kept to the end. */
 #include <stdio.h>
 #include <stdlib.h>

@@ -1,5 +1,0 @@
-use Rattle.std.proofs.Common.{length}
-use Rattle.frames_load.proofs.take_all.Given as goal
-
-abbrev pub decreases-loop-count : goal.decreases-loop-count
-decreases-loop-count l = length l.feeder.frames
