@@ -16,7 +16,7 @@ use Rattle.kern_model.specs.declared.object.LinkKind.TheVariants.{Vlan}
 use Rattle.kern_model.specs.declared.object.Object.TheVariants as object
 use Rattle.kern_model.proofs.SetLemmas.{set_of_member, member_of_set, none_in_empty}
 use Rattle.kern_model.proofs.TestLemmas.{GivenBy, in_filter_map, from_filter_map}
-use Rattle.kern_calls.proofs.DownLemmas.{set_size}
+use Rattle.kern_calls.proofs.SizeLemmas.{set_size}
 use Rattle.graph_objects.specs.declared.key.ObjectKey.{ObjectKey}
 use Rattle.graph_objects.specs.declared.slot.Wish.{Wish}
 use Rattle.graph_objects.specs.declared.slot.Slot.{Slot}

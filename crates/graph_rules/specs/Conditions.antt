@@ -1,14 +1,13 @@
 -- What calls of a graph ask of their arguments.
-use Rattle.std.specs.Prelude.{ℕ, ◌≡◌, ◌≤◌, ◌<◌, ◌^◌, List, ◌++◌, Contains, map, length, Option, Some, None, true, false, unwrap_or}
+use Rattle.std.specs.Prelude.{ℕ, ◌≡◌, ◌≤◌, ◌<◌, ◌^◌, List, ◌++◌, Contains, map, length, Option, Some, None, true, unwrap_or}
 use Rattle.plane_words.specs.Distinct.{AreDistinct}
 use Rattle.kern_model.specs.declared.object.Call.{Call}
-use Rattle.kern_model.specs.declared.object.Device.{Device}
 use Rattle.net_rows.specs.declared.rows.Conf.{Conf}
 use Rattle.net_rows.specs.declared.rows.NameRow.{NameRow}
 use Rattle.net_rules.specs.Rows.{row_at, names_of, is_plain_kind, is_bridge_kind, ports_of_kind}
 use Rattle.net_rules.specs.Sound.{IsSound}
 use Rattle.graph_rules.specs.declared.ids.RadioPort.{RadioPort}
-use Rattle.graph_rules.specs.State.{State, empty, device_in, names_in}
+use Rattle.graph_rules.specs.State.{State, empty}
 use Rattle.graph_rules.specs.Calls.{next_take_in, next_put_in}
 
 -- an id is that of a name
@@ -39,12 +38,6 @@ pub record CanLoad (conf : Conf) (plain : List (List ℕ)) (radio : List RadioPo
   pub once : AreDistinct (names_of conf ++ plain)
   pub ports_once : (row : NameRow) → Contains conf.names row → AreDistinct (ports_of_kind row.kind)
   pub ports : ArePorts conf.names (names_of conf ++ plain) radio
-
--- each present device of a graph is among the names
-abbrev pub HasDevicesAmong : Option State → List (List ℕ) → Type 0
-HasDevicesAmong old names =
-    (name : List ℕ) (device : Device) → device_in (unwrap_or old empty).known name ≡ Some device
-    → Contains names name
 
 -- a graph that can be followed by another: the count of loads has room
 abbrev pub CountsOn : Option State → Type 0

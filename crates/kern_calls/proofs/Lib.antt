@@ -4,9 +4,5 @@ pub mod KeptLemmas
 pub mod AlikeLemmas
 pub mod GoOnLemmas
 pub mod LowerLemmas
-pub mod DownLemmas
+pub mod SizeLemmas
 pub mod DueLemmas
-pub mod BetweenLemmas
-pub mod IndexLemmas
-pub mod PlaceLemmas
-pub mod PresentLemmas

@@ -10,11 +10,5 @@ pub mod Counted
 pub mod Lower
 -- how much is left to do
 pub mod Due
--- what the program that computes the calls is asked, and where it places each
+-- by which number calls of one rank are ordered
 pub mod Between
--- objects by the lines that take them
-pub mod Index
--- where names stand among links
-pub mod NamePlaces
--- what is held and what is wanted, looked up
-pub mod Sides

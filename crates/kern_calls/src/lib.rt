@@ -1,17 +1,8 @@
-//! The calls between what a kernel holds and what is wanted: as a list, and their laws.
+//! The calls between what a kernel holds and what is wanted: their laws.
 #![tactic(auto)]
 
-mod between;
-mod form;
-mod index;
 mod laws;
-mod line;
-mod looked_up;
-mod name_places;
-mod present;
-mod sides;
 
-pub use between::calls_between;
 pub use laws::{
     calls_are_the_calls, calls_from_nothing_are_alike, calls_go_on, falls_with_taken_links,
     fronts_are_admitted, levels_ground_vlans, lower_calls_are_calls, nothing_is_due,

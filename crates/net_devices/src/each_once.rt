@@ -37,13 +37,6 @@ impl NamesOnce {
         }
     }
 
-    /// Whether the name is among them.
-    pub fn has(&self, name: &DevName) -> bool
-        ensures { result ≡ has self.now name.now }
-    {
-        self.known.contains(name)
-    }
-
     /// Adds the name at the end, where it is not among them, and tells whether it was added.
     pub fn add(&mut self, name: &DevName) -> Result<bool, Memory>
         ensures names { OnOk result (self.new ≡ with_name self.old name.now) }

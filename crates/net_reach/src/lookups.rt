@@ -8,9 +8,8 @@ ghost use Rattle.net_rules.specs.Rows.{names_of};
 ghost use Rattle.net_view.specs.Places.{place_of};
 ghost use Rattle.net_view.specs.RadioPorts.{group_in};
 ghost use Rattle.net_wants.specs.Grouped.{is_route_named};
-ghost use Rattle.net_reach.specs.Places.{places_by};
 ghost use Rattle.net_reach.specs.Groups.{AreMembers};
-ghost use Rattle.net_reach.specs.Reach.{IsReachOf, stands_on, is_at_device, is_at_layer};
+ghost use Rattle.net_reach.specs.Reach.{IsReachOf, is_at_layer};
 
 use crate::groups::places_at;
 use crate::reach::Reach;
@@ -49,22 +48,6 @@ impl Reach {
             → result ≡ place_of (names_of inputs.conf) name.now }
     {
         place_of_name(&self.rows, name)
-    }
-
-    /// The places of the rows that stand right on a name, rising.
-    pub fn rows_on(&self, name: &DevName) -> &[usize]
-        ensures { (inputs : Inputs) → IsReachOf inputs self.now
-            → result.now ≡ places_by (stands_on inputs name.now) inputs.conf.names }
-    {
-        places_at(&self.above, name)
-    }
-
-    /// The places of the interfaces whose device is a name, rising.
-    pub fn interfaces_on(&self, name: &DevName) -> &[usize]
-        ensures { (inputs : Inputs) → IsReachOf inputs self.now
-            → result.now ≡ places_by (is_at_device inputs name.now) inputs.conf.interfaces }
-    {
-        places_at(&self.at_device, name)
     }
 
     /// The places of the interfaces whose open ask was last answered with a device.

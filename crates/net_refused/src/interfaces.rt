@@ -1,7 +1,6 @@
-//! Why commands for interfaces and answers to their asks are refused.
+//! Why answers to the asks of interfaces are refused.
 ghost use Rattle.std.specs.Prelude.{◌≡◌, is_none};
 ghost use Rattle.net_rules.specs.declared.inputs.Inputs.{Inputs};
-ghost use Rattle.net_rules.specs.declared.refusal.Refusal.TheVariants as refused;
 ghost use Rattle.net_rules.specs.Rows.{interface_named};
 ghost use Rattle.net_rules.specs.Inputs.{open_interface};
 ghost use Rattle.net_rules.specs.Refusal as spec;
@@ -9,20 +8,11 @@ ghost use Rattle.known_inputs.specs.Steps.{ask_of};
 ghost use Rattle.known_inputs.specs.Places.{is_ask_of};
 ghost use Rattle.net_reach.specs.Reach.{IsReachOf};
 
-use crate::stale::{refused_if, stale_number};
+use crate::stale::stale_number;
 use known_inputs::KnownInputs;
 use net_reach::Reach;
 use net_rules::{Answer, MOST_IN_ANSWER, OpenInterface, Refusal};
 use plane_io::Text;
-
-/// Why a command for an interface is refused, if it is.
-pub fn operator_refusal(reach: &Reach, interface: &Text) -> Option<Refusal>
-    ensures { (inputs : Inputs) → IsReachOf inputs reach.now → result
-        ≡ spec.refused_if (is_none (interface_named inputs.conf interface.now))
-        refused.NoInterface }
-{
-    refused_if(lacks_interface(reach, interface), Refusal::NoInterface)
-}
 
 /// Why an answer to the ask of an interface is refused, if it is.
 pub fn answer_refusal(

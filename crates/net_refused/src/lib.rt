@@ -1,4 +1,4 @@
-//! Why an event is refused, looked up: names by the maps of what reaches what, open asks by their numbers.
+//! Why an event of a device or an answer is refused, looked up: names by the maps of what reaches what, open asks by their numbers.
 #![tactic(auto)]
 
 mod devices;
@@ -7,5 +7,5 @@ mod radios;
 mod stale;
 
 pub use devices::device_refusal;
-pub use interfaces::{answer_refusal, operator_refusal};
+pub use interfaces::answer_refusal;
 pub use radios::radio_refusal;
