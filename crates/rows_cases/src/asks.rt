@@ -1,0 +1,49 @@
+//! The lines that tell of asks.
+use ask_lines::append_ask_line;
+use kern_model::{DevName, read_name};
+use net_conf::read_conf;
+use net_rules::Notice;
+use std::alloc::Global;
+use uci_tree::Package;
+
+/// Puts the line of the ask that the words name.
+pub(crate) fn put_ask(
+    alloc: Global,
+    out: &mut Vec<u8>,
+    network: &Package,
+    wireless: &Package,
+    words: &[&str],
+) -> anyhow::Result<()> {
+    let notice = notice(words)?;
+    let conf = read_conf(alloc, network, wireless)?;
+    append_ask_line(alloc, &conf, &notice, out)?;
+    Ok(())
+}
+
+fn notice(words: &[&str]) -> anyhow::Result<Notice> {
+    match words {
+        ["interface", number, row, device] => Ok(Notice::Interface {
+            number: number.parse()?,
+            row: row.parse()?,
+            device: device_of(device)?,
+        }),
+        ["radio", number, row] => Ok(Notice::Radio {
+            number: number.parse()?,
+            row: row.parse()?,
+        }),
+        ["drop", number] => Ok(Notice::Dropped {
+            number: number.parse()?,
+        }),
+        _ => anyhow::bail!("no ask"),
+    }
+}
+
+fn device_of(word: &str) -> anyhow::Result<Option<DevName>> {
+    if word == "-" {
+        return Ok(None);
+    }
+    match read_name(word.as_bytes()) {
+        Some(name) => Ok(Some(name)),
+        None => anyhow::bail!("no device name"),
+    }
+}
