@@ -13,43 +13,33 @@ impl Bench {
     ) -> anyhow::Result<()> {
         let done = match words {
             ["open", user, group] => self.bus.open(key, user.as_bytes(), group.as_bytes(), out),
-            ["bytes", digits] => self.bytes(key, digits, out)?,
+            ["bytes", digits] => return self.bytes(key, digits, out),
             ["close"] => self.bus.close(key, out),
             _ => return Err(anyhow::anyhow!("no such step of a client")),
         };
-        match done {
-            Ok(()) => out.extend_from_slice(b"ok\n")?,
-            Err(ClientError::Memory) => return Err(ClientError::Memory.into()),
-            Err(error) => {
-                let told = format!(in self.alloc; "error {error}\n")?;
-                out.extend_from_slice(told.as_bytes())?;
-            }
-        }
-        Ok(())
+        put_done(done, out)
     }
 
     /// A client with a key sends bytes, and each frame that is whole is served.
-    fn bytes(
-        &mut self,
-        key: u32,
-        digits: &str,
-        out: &mut Vec<u8>,
-    ) -> anyhow::Result<Result<(), ClientError>> {
+    fn bytes(&mut self, key: u32, digits: &str, out: &mut Vec<u8>) -> anyhow::Result<()> {
         let bytes = hex::decode(self.alloc, digits)?;
         let fed = match self.bus.feed(key, &bytes) {
             Ok(fed) => fed,
-            Err(error) => return Ok(Err(error)),
+            Err(error) => return put_done(Err(error), out),
         };
         for frame in fed.frames.as_slice() {
             if let Some(call) = self.bus.serve(fed.number, frame, out)? {
                 self.handed.push(call)?;
             }
         }
-        if let Some(fault) = fed.fault {
-            let told = format!(in self.alloc; "error {} {fault}\n", fault.number())?;
-            out.extend_from_slice(told.as_bytes())?;
+        match fed.fault {
+            Some(fault) => {
+                let told = format!(in self.alloc; "error {} {fault}\n", fault.number())?;
+                out.extend_from_slice(told.as_bytes())?;
+                Ok(())
+            }
+            None => put_done(Ok(()), out),
         }
-        Ok(Ok(()))
     }
 
     /// A client without a key comes.
@@ -84,4 +74,17 @@ impl Bench {
         out.extend_from_slice(told.as_bytes())?;
         Ok(())
     }
+}
+
+/// Puts `ok`, or why a client with a key is refused.
+fn put_done(done: Result<(), ClientError>, out: &mut Vec<u8>) -> anyhow::Result<()> {
+    match done {
+        Ok(()) => out.extend_from_slice(b"ok\n")?,
+        Err(ClientError::Memory) => return Err(ClientError::Memory.into()),
+        Err(error) => {
+            let told = format!(in *out.allocator(); "error {error}\n")?;
+            out.extend_from_slice(told.as_bytes())?;
+        }
+    }
+    Ok(())
 }

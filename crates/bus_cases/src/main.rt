@@ -5,7 +5,7 @@
 //!
 //! - `list JSON`, or `list` with the text as its input: a new bus with this access list. Gives `ok`, or why it is none.
 //! - `client KEY open USER GROUP`, `client KEY bytes HEX`, `client KEY close`: a client with a key of its own; what is sent is told as
-//!   bytes, in a line `send KEY HEX`. Gives `ok` behind it, or why it is refused.
+//!   bytes, in a line `send KEY HEX`. Gives `ok` behind it, or why it is refused, or the fault of its bytes.
 //! - `connect USER GROUP`: a client without a key. Gives `client NUMBER`, and what is sent.
 //! - `disconnect NUMBER`: the client leaves. Gives what is sent.
 //! - `NUMBER KIND SEQ NAME=VALUE ..`: a message of the client of this number, in which the value `<` is the input. Gives what is sent.
