@@ -32,18 +32,12 @@ pub fn put_frame(alloc: Global, out: &mut Vec<u8>, frame: &Frame) -> anyhow::Res
     put_numbers(&mut told, frame)?;
     put_texts(alloc, &mut told, frame)?;
     out.extend_from_slice(told.as_bytes())?;
-    put_blob(
-        alloc,
-        out,
-        b" signature=",
-        frame.signature.as_ref().map(|blob| blob.as_slice()),
-    )?;
-    put_blob(
-        alloc,
-        out,
-        b" payload=",
-        frame.payload.as_ref().map(|blob| blob.as_slice()),
-    )?;
+    if let Some(attrs) = &frame.signature {
+        put_blob(alloc, out, b" signature=", attrs.as_slice())?;
+    }
+    if let Some(attrs) = &frame.payload {
+        put_blob(alloc, out, b" payload=", attrs.as_slice())?;
+    }
     put_subscribers(alloc, out, frame)
 }
 
@@ -95,17 +89,9 @@ fn put_text(
     Ok(())
 }
 
-fn put_blob(
-    alloc: Global,
-    out: &mut Vec<u8>,
-    name: &[u8],
-    attrs: Option<&[Attr]>,
-) -> anyhow::Result<()> {
-    if let Some(attrs) = attrs {
-        out.extend_from_slice(name)?;
-        put_json(alloc, out, attrs)?;
-    }
-    Ok(())
+fn put_blob(alloc: Global, out: &mut Vec<u8>, name: &[u8], attrs: &[Attr]) -> anyhow::Result<()> {
+    out.extend_from_slice(name)?;
+    put_json(alloc, out, attrs)
 }
 
 fn put_subscribers(alloc: Global, out: &mut Vec<u8>, frame: &Frame) -> anyhow::Result<()> {
