@@ -1,6 +1,6 @@
 use Rattle.std.proofs.Common.{length}
 use Rattle.net_plane.specs.Network.{HasSameKernel}
-use Rattle.plane_tests.proofs.steps.tell.Given as goal
+use Rattle.net_cases.proofs.history.tell.Given as goal
 
 -- only notices were handed out
 abbrev pub invariant-loop-notice : goal.invariant-loop-notice

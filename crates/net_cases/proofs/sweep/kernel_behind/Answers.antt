@@ -2,10 +2,10 @@ use Rattle.std.proofs.Common.{ap, sym, ◌∙◌}
 use Rattle.kern_model.specs.ObjectOrder.{set_of}
 use Rattle.kern_model.specs.Kernel.{map_of}
 use Rattle.net_rules.specs.Moment.{devices_of}
-use Rattle.plane_tests.proofs.histories.assert_shown.Goals as goal
+use Rattle.net_cases.proofs.sweep.kernel_behind.Goals as goal
 
-pub assert_at-requires-clause-of : goal.assert_at-requires-clause-of
-assert_at-requires-clause-of g c =
+pub go_on-ran-requires-clause-of : goal.go_on-ran-requires-clause-of
+go_on-ran-requires-clause-of g c =
     let empty = c.new-kernel.ensures.empty in
     let new = c.new-net.ensures.new in
     record {
