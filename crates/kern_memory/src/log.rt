@@ -8,7 +8,7 @@ use std::marker::Model;
 
 /// A list that grows at its end, where it is kept. Contracts see it, and how many items it has
 /// memory for.
-#[derive(Debug, Drop)]
+#[derive(Drop)]
 pub(crate) struct Log<T> {
     is_kept: bool,
     list: Vec<T>,

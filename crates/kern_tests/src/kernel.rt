@@ -1,6 +1,6 @@
-use kern_memory::{KernelState, MemKernel};
+use kern_memory::MemKernel;
 use kern_model::{
-    Asked, Call, DevEvent, DevName, Device, Kernel, LinkKind, Mac, Object, RouteObject, print_call,
+    Asked, Call, DevEvent, DevName, Kernel, LinkKind, Mac, Object, RouteObject, print_call,
     read_name,
 };
 use net_addr::{Addr, Cidr, read_cidr};
@@ -448,65 +448,5 @@ fn what_was_asked_is_kept(rt: HostRuntime) -> Result<(), Fail> {
     assert_eq!(rt; kernel.asked(), asked.as_slice());
     assert_eq!(rt; kernel.calls().len(), 2);
     assert_eq!(rt; kernel.refused(), 0);
-    Ok(())
-}
-
-fn put_into(rt: &impl Abort, state: &mut KernelState, call: &Call) -> Result<(), Fail> {
-    state.reserve_call(call)?;
-    assert!(rt; state.admits(call), "{call:?}");
-    assert!(rt; !state.holds(&call.object()), "{call:?}");
-    state.apply(call);
-    assert!(rt; state.holds(&call.object()), "{call:?}");
-    Ok(())
-}
-
-#[test]
-fn a_state_takes_calls_and_events(rt: HostRuntime) -> Result<(), Fail> {
-    let mut state = KernelState::new(rt.alloc());
-    let eth0 = name(&rt, "eth0");
-    let event = DevEvent::Add {
-        name: eth0,
-        carrier: true,
-        mtu: 9000,
-        mac: NO_MAC,
-    };
-    assert!(rt; state.may_happen(&event));
-    state.reserve_event(&event)?;
-    state.happen(&event);
-    assert_eq!(rt;
-        state.devices(),
-        [(
-            eth0,
-            Device {
-                carrier: true,
-                mtu: 9000,
-                mac: NO_MAC
-            }
-        )]
-        .as_slice()
-    );
-    assert_eq!(rt; state.own_mtu(&eth0), 9000);
-    assert_eq!(rt; state.own_mtu(&name(&rt, "eth1")), 1500);
-    let calls = [
-        Call::Put(up(&rt, "eth0")),
-        Call::Put(vlan(&rt, "v", "eth0", 5)),
-        Call::Put(mtu(&rt, "v", 1400)),
-        Call::Put(mtu(&rt, "v", 1300)),
-    ];
-    state.reserve(&calls)?;
-    for call in calls {
-        put_into(&rt, &mut state, &call)?;
-    }
-    assert_eq!(rt; state.objects().len(), 3);
-    let v = name(&rt, "v");
-    assert!(rt; state.exists(&v));
-    assert!(rt; !state.is_present(&v));
-    assert!(rt; state.link(&v).is_some());
-    assert!(rt; state.link(&eth0).is_none());
-    let event = DevEvent::Remove { name: eth0 };
-    assert!(rt; state.may_happen(&event));
-    state.happen(&event);
-    assert!(rt; state.objects().is_empty());
-    assert!(rt; state.devices().is_empty());
     Ok(())
 }
