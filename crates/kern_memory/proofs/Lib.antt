@@ -5,6 +5,3 @@ pub mod PlaceLemmas
 pub mod GoneLemmas
 pub mod DeviceLemmas
 pub mod AdmissionLemmas
-pub mod HeldLemmas
-pub mod StateLemmas
-pub mod PresentLemmas

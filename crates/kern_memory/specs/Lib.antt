@@ -1,7 +1,5 @@
--- What is known of a kernel, and a kernel in memory.
+-- A kernel in memory.
 
--- the held objects and the present devices, as lists
-pub mod KernelState
 -- the held objects and the present devices, in tables
 pub mod Tables
 -- a list that is kept or not

@@ -1,5 +1,5 @@
 -- What a kernel holds, in tables.
-use Rattle.std.specs.Prelude.{ℕ, ◌≡◌, ◌≤◌, ◌+◌, List, Bool, true, false}
+use Rattle.std.specs.Prelude.{ℕ, ◌≡◌, ◌≤◌, ◌+◌, List, Bool, true, false, if◌then◌else◌}
 use Rattle.kern_model.specs.declared.object.LinkKind.TheVariants.{Vlan}
 use Rattle.kern_model.specs.declared.object.Object.{Object}
 use Rattle.kern_model.specs.declared.object.Object.TheVariants as object
@@ -34,10 +34,17 @@ LacksObjectRoom tables call = (is_put call ≡ true) × (tables.object_room ≡ 
 abbrev pub LacksDeviceRoom : KernelTables → DevEvent → Type 0
 LacksDeviceRoom tables happens = (is_addition happens ≡ true) × (tables.device_room ≡ 0)
 
--- both tables have as much room as before, but for one place
-abbrev pub KeepsRoom : KernelTables → KernelTables → Type 0
-KeepsRoom old new =
-    (old.object_room ≤ new.object_room + 1) × (old.device_room ≤ new.device_room + 1)
+-- a call leaves as much room as before, but for the place of what it puts
+abbrev pub CallKeepsRoom : KernelTables → KernelTables → Call → Type 0
+CallKeepsRoom old new call =
+    (old.object_room ≤ new.object_room + (if is_put call then 1 else 0))
+    × (new.device_room ≡ old.device_room)
+
+-- an event leaves as much room as before, but for the place of a device that comes
+abbrev pub EventKeepsRoom : KernelTables → KernelTables → DevEvent → Type 0
+EventKeepsRoom old new happens =
+    (old.device_room ≤ new.device_room + (if is_addition happens then 1 else 0))
+    × (old.object_room ≤ new.object_room)
 
 -- the name under a VLAN; of every other object that which it has
 abbrev pub lower_of : Object → List ℕ

@@ -7,7 +7,7 @@ ghost use Rattle.plane_words.specs.Growth.{Grows};
 ghost use Rattle.kern_model.specs.ObjectOrder.{set_of};
 ghost use Rattle.kern_model.specs.Kernel.{after_call, MayHappen, after_event, objects_after_event, Records};
 ghost use Rattle.kern_model.specs.Admission.{Admits};
-ghost use Rattle.kern_memory.specs.Tables.{LacksObjectRoom, KeepsRoom};
+ghost use Rattle.kern_memory.specs.Tables.{LacksObjectRoom, CallKeepsRoom, EventKeepsRoom};
 ghost use Rattle.kern_memory.specs.Log.{IsFull, HasRoom};
 ghost use Rattle.kern_memory.specs.MemKernel.{objects_of, devices_of, IsFullForCall, IsFullForEvent, FailedBy};
 
@@ -90,8 +90,8 @@ impl MemKernel {
         }
     }
 
-    /// A kernel without objects and devices, with room for `count` devices, objects and done calls.
-    /// Within it no call and no event fails, whatever their order.
+    /// A kernel without objects and devices, with room for `count` puts, devices that come and done
+    /// calls. None of these fails, whatever their order.
     pub fn with_room(alloc: Global, count: usize) -> Result<MemKernel, Memory>
         ensures empty { IfOk result (λ kernel.
             (objects_of kernel ≡ set.empty) × (devices_of kernel ≡ map.empty)) }
@@ -228,8 +228,8 @@ impl Kernel for MemKernel {
         ensures kept { self.new.asked.items ≡ None → (self.old.asked.items ≡ None)
             ⊎ IsFull self.old.asked.items self.old.asked.most }
 
-        // Tables and lists keep their room, but for one place in a table.
-        ensures room { KeepsRoom self.old.tables self.new.tables }
+        // No room is lost but the place of what is put.
+        ensures room { CallKeepsRoom self.old.tables self.new.tables call.now }
         ensures most { self.old.calls.most ≤ self.new.calls.most }
     {
         // What is below is proved only where a local names the enums within.
@@ -296,8 +296,8 @@ impl Kernel for MemKernel {
         ensures kept { self.new.asked.items ≡ None → (self.old.asked.items ≡ None)
             ⊎ IsFull self.old.asked.items self.old.asked.most }
 
-        // Tables and lists keep their room, but for one place in a table.
-        ensures room { KeepsRoom self.old.tables self.new.tables }
+        // No room is lost but the place of a device that comes.
+        ensures room { EventKeepsRoom self.old.tables self.new.tables event.now }
         ensures most { self.old.calls.most ≤ self.new.calls.most }
     {
         // What is below is proved only where a local names the enums within.
@@ -343,7 +343,7 @@ fn carry_out(tables: &mut Tables, calls: &mut Log<Call>, call: &Call) -> Result<
     ensures devices { tables.new.devices ≡ tables.old.devices }
     ensures full { OnErr result (IsFull calls.old.items calls.old.most
         ⊎ LacksObjectRoom tables.old call.now) }
-    ensures room { KeepsRoom tables.old tables.new }
+    ensures room { CallKeepsRoom tables.old tables.new call.now }
     ensures most { calls.old.most ≤ calls.new.most }
 {
     // A push is proved only where a local names the enums within.

@@ -1,5 +1,5 @@
 //! How the table of the objects that a kernel holds changes.
-ghost use Rattle.std.specs.Prelude.{◌≡◌, ◌≤◌, ◌+◌, true, not, position, length, OnOk, OnErr};
+ghost use Rattle.std.specs.Prelude.{◌≡◌, ◌≤◌, ◌+◌, true, not, position, length, if◌then◌else◌, OnOk, OnErr};
 ghost use Rattle.std.specs.FinSet as set;
 ghost use Rattle.kern_model.specs.declared.object.Call.TheVariants.{Put};
 ghost use Rattle.kern_model.specs.AdmissionTest.{is_at, is_vlan_over};
@@ -36,7 +36,8 @@ pub(crate) fn change(objects: &mut IndexSet<Object>, call: &Call) -> Result<(), 
         ≡ after_call (set_of objects.old.keys) call.now) }
     ensures err { OnErr result (objects.new.keys ≡ objects.old.keys) }
     ensures full { OnErr result ((is_put call.now ≡ true) × (spare objects.old ≡ 0)) }
-    ensures room { spare objects.old ≤ spare objects.new + 1 }
+    ensures room { spare objects.old
+        ≤ spare objects.new + (if is_put call.now then 1 else 0) }
 {
     match call {
         Call::Put(object) => put(objects, object),

@@ -5,7 +5,7 @@ ghost use Rattle.plane_words.specs.Distinct.{AreDistinct};
 ghost use Rattle.kern_model.specs.ObjectOrder.{set_of};
 ghost use Rattle.kern_model.specs.Kernel.{after_call, MayHappen, after_event, objects_after_event};
 ghost use Rattle.kern_model.specs.Admission.{Admits};
-ghost use Rattle.kern_memory.specs.Tables.{LacksObjectRoom, LacksDeviceRoom, KeepsRoom, lower_of, name_in};
+ghost use Rattle.kern_memory.specs.Tables.{LacksObjectRoom, LacksDeviceRoom, CallKeepsRoom, EventKeepsRoom, lower_of, name_in};
 
 use crate::devices::{add_device, remove_device, set_carrier};
 use crate::objects::{change, remove_standing_on};
@@ -127,7 +127,7 @@ impl Tables {
         ensures err { OnErr result (self.new.objects ≡ self.old.objects) }
         ensures devices { self.new.devices ≡ self.old.devices }
         ensures full { OnErr result (LacksObjectRoom self.old call.now) }
-        ensures room { KeepsRoom self.old self.new }
+        ensures room { CallKeepsRoom self.old self.new call.now }
     {
         change(&mut self.objects, call)
     }
@@ -141,7 +141,7 @@ impl Tables {
         ensures err { OnErr result ((self.new.devices ≡ self.old.devices)
             × (self.new.objects ≡ self.old.objects)) }
         ensures full { OnErr result (LacksDeviceRoom self.old event.now) }
-        ensures room { KeepsRoom self.old self.new }
+        ensures room { EventKeepsRoom self.old self.new event.now }
     {
         match *event {
             DevEvent::Add {
