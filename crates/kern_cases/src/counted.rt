@@ -1,6 +1,7 @@
 ghost use Rattle.std.specs.Prelude.{◌≡◌, ◌<◌, ◌≤◌, length};
 
 use crate::graph::Event;
+use crate::texts::put_line;
 use std::alloc::Global;
 use std::io::Write;
 use std::marker::Brand;
@@ -47,14 +48,18 @@ impl Counted {
         }))
     }
 
-    /// Puts these edges in place of earlier ones. Gives whether it can.
-    pub(crate) fn join(&mut self, alloc: Global, ports: &[Edge]) -> anyhow::Result<bool> {
+    /// Puts these edges in place of earlier ones, and gives what changed.
+    pub(crate) fn join(
+        &mut self,
+        alloc: Global,
+        ports: &[Edge],
+        out: &mut Vec<u8>,
+    ) -> anyhow::Result<()> {
         if !self.graph.can_join(ports) {
-            return Ok(false);
+            return put_line(b"cannot join", out);
         }
         self.graph.set_ports(alloc, ports)?;
-        self.answers = answers_of(alloc, &self.graph)?;
-        Ok(true)
+        self.put_changes(alloc, out)
     }
 
     /// One node more, and its number.
@@ -80,6 +85,14 @@ impl Counted {
         if !tell::<Brand>(&mut self.graph, id, event, &mut self.uses, Blank::new(1)) {
             return Err(anyhow::anyhow!("no such node, or too many claims"));
         }
+        self.put_changes(alloc, out)?;
+        put_marked(alloc, &self.uses, out)?;
+        self.uses.clear();
+        Ok(())
+    }
+
+    /// Gives each node of which the graph answers something else than before.
+    fn put_changes(&mut self, alloc: Global, out: &mut Vec<u8>) -> anyhow::Result<()> {
         let answers = answers_of(alloc, &self.graph)?;
         let pairs = self.answers.iter().zip(&answers);
         for (id, (before, after)) in pairs.enumerate() {
@@ -88,8 +101,6 @@ impl Counted {
             }
         }
         self.answers = answers;
-        put_marked(alloc, &self.uses, out)?;
-        self.uses.clear();
         Ok(())
     }
 

@@ -43,7 +43,7 @@ impl GraphBench {
         match words {
             ["ports"] => {
                 let ports = edges_of(self.alloc, input)?;
-                put_unless(graph.join(self.alloc, &ports)?, b"cannot join", out)?;
+                graph.join(self.alloc, &ports, out)?;
             }
             ["node", kind, level] => {
                 let id = graph.add(self.alloc, row_of(kind, level)?)?;
@@ -73,15 +73,11 @@ impl GraphBench {
             }
         }
         self.graph = Counted::load(self.alloc, &rows, &edges)?;
-        put_unless(self.graph.is_some(), b"cannot load", out)
+        match self.graph {
+            Some(_) => Ok(()),
+            None => put_line(b"cannot load", out),
+        }
     }
-}
-
-fn put_unless(is_well: bool, text: &[u8], out: &mut Vec<u8>) -> anyhow::Result<()> {
-    if is_well {
-        return Ok(());
-    }
-    put_line(text, out)
 }
 
 fn edges_of(alloc: Global, input: &[u8]) -> anyhow::Result<Vec<Edge>> {

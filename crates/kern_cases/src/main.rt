@@ -31,7 +31,7 @@
 //! - `graph`: a new graph. A line of input is a row, `KIND LEVEL` with the kind `broken`, `plain`, `unsound`, `vlan`, `bridge` or
 //!   `empty-bridge` (which needs no port), or an edge, `edge LOWER UPPER`. It gives `cannot load` where that is none.
 //! - `node KIND LEVEL`: one node more, and its number. It is of a kind that is never made.
-//! - `ports`: the edges of the input in place of earlier ones, or `cannot join`.
+//! - `ports`: the edges of the input in place of earlier ones. It gives each node that changed, or `cannot join`.
 //! - `comes ID on|off`, `leaves ID`, `carrier ID on|off`, `claims ID COUNT`: what a node is told. It gives each node that changed,
 //!   and the marked ones behind them, which are those whose use changed.
 //! - `nodes`: all nodes.
