@@ -1,5 +1,5 @@
 use crate::objects::{mac_of, name_of};
-use kern_model::{DevName, Mac, read_name, read_plain_name};
+use kern_model::{DevName, read_name, read_plain_name};
 use net_addr::{
     Addr, AddrError, Cidr, mask_length, network_of, print_addr, print_cidr, read_addr, read_cidr,
 };
@@ -27,8 +27,8 @@ fn text_step(alloc: Global, kind: &str, text: &[u8], out: &mut Vec<u8>) -> anyho
     match kind {
         "address" => put_address(read_addr(text), out),
         "prefix" => put_prefix(read_cidr(text), out),
-        "network" => put_prefix(read_cidr(text).map(network_of), out),
-        "bits" => put_number(read_addr(text).map(|addr| addr.bits()), out),
+        "network" => network(text, out),
+        "bits" => bits(text, out),
         "mask" => mask(text, out),
         "mac" => mac(alloc, text, out),
         "name" => put_name(read_name(text), out),
@@ -69,6 +69,20 @@ fn put_prefix(prefix: Result<Cidr, AddrError>, out: &mut Vec<u8>) -> anyhow::Res
     put_line(&line[..size], out)
 }
 
+fn network(text: &[u8], out: &mut Vec<u8>) -> anyhow::Result<()> {
+    match read_cidr(text) {
+        Ok(prefix) => put_prefix(Ok(network_of(prefix)), out),
+        Err(error) => put_error(error, out),
+    }
+}
+
+fn bits(text: &[u8], out: &mut Vec<u8>) -> anyhow::Result<()> {
+    match read_addr(text) {
+        Ok(address) => put_number(Ok(address.bits()), out),
+        Err(error) => put_error(error, out),
+    }
+}
+
 fn put_number(number: Result<u8, AddrError>, out: &mut Vec<u8>) -> anyhow::Result<()> {
     match number {
         Ok(number) => write!(out, "{number}\n")?,
@@ -96,11 +110,11 @@ fn mac(alloc: Global, text: &[u8], out: &mut Vec<u8>) -> anyhow::Result<()> {
     let Ok(text) = str::from_utf8(text) else {
         return put_line(b"refused", out);
     };
-    let Ok(Mac(octets)) = mac_of(text) else {
+    let Ok(mac) = mac_of(text) else {
         return put_line(b"refused", out);
     };
     let mut line = String::new(alloc);
-    for octet in octets {
+    for octet in &mac.0 {
         write!(line, "{octet:02x}:")?;
     }
     put_line(line.trim_end_matches(':').as_bytes(), out)
