@@ -1,5 +1,0 @@
-//! Worked examples of addresses.
-#![tactic(auto)]
-
-#[cfg(test)]
-mod addresses;
