@@ -117,10 +117,15 @@ impl KernelBench {
     }
 
     fn objects(&self, out: &mut Vec<u8>) -> anyhow::Result<()> {
-        let mut objects = Vec::from_slice(self.alloc, self.kernel.objects())?;
-        objects.sort()?;
-        for object in &objects {
-            put_call(&Call::Put(*object), out)?;
+        let mut lines = Vec::new(self.alloc);
+        for object in self.kernel.objects() {
+            let mut line = Vec::new(self.alloc);
+            put_call(&Call::Put(*object), &mut line)?;
+            lines.push(line)?;
+        }
+        lines.sort()?;
+        for line in &lines {
+            out.extend_from_slice(line)?;
         }
         Ok(())
     }

@@ -18,7 +18,7 @@
 //! - `put OBJECT`, `take OBJECT`: the line of the call. The own values of the device come back with what is taken.
 //! - `take-to MTU MAC OBJECT`: as `take`, but with these values.
 //! - `line put OBJECT`, `line take MTU MAC OBJECT`: the line of a call that the kernel is not asked for.
-//! - `objects`: the lines that put what it holds, in the order of objects.
+//! - `objects`: the lines that put what it holds, in the order of their bytes.
 //! - `calls`: the lines of the calls that it did.
 //!
 //! An OBJECT is
