@@ -20,7 +20,7 @@ fn put_all(alloc: Global, attrs: &[Attr], out: &mut Vec<u8>) -> anyhow::Result<(
     let count = format!(in alloc; "{} attributes\n", attrs.len())?;
     out.extend_from_slice(count.as_bytes())?;
     for attr in attrs {
-        put_attributes(out, core::slice::from_ref(attr))?;
+        put_attributes(out, std::slice::from_ref(attr))?;
         out.push(b'\n')?;
     }
     Ok(())

@@ -68,7 +68,7 @@ impl Bench {
         out: &mut Vec<u8>,
     ) -> anyhow::Result<()> {
         let Disks { files, staged } = self.take_disks()?;
-        let images = core::mem::replace(&mut self.left, Vec::new(self.alloc));
+        let images = std::mem::replace(&mut self.left, Vec::new(self.alloc));
         let mut outcomes = Vec::new(self.alloc);
         for image in &images {
             let told = self.on_image(&files, image, now, input)?;
