@@ -17,9 +17,9 @@ impl Model for OpenSnap {
 
     ghost Value = { ℕ };
 
-    ghost view = { λ open. 0 };
+    ghost view = { λ opened. 0 };
 
-    ghost invariant = { λ open. IsOpenOn open.snap (view_of open.disk) };
+    ghost invariant = { λ opened. IsOpenOn opened.snap (view_of opened.disk) };
 }
 
 /// A disk that does not open, and why.

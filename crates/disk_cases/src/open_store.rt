@@ -1,8 +1,8 @@
 use plane_disk::MemDisk;
+use plane_io::{Items, Text};
 use snap_disk::Pending;
 use std::alloc::Global;
 use std::marker::Model;
-use plane_io::{Items, Text};
 use uci_delta::Delta;
 use uci_store::{Store, StoreError, have_same_packages};
 use uci_tree::{Package, Path};
@@ -22,10 +22,10 @@ impl Model for OpenStore {
 
     ghost Value = { ℕ };
 
-    ghost view = { λ open. 0 };
+    ghost view = { λ opened. 0 };
 
-    ghost invariant = { λ open. IsOnFiles open.store (view_of open.files)
-        × IsOnStaged open.store (view_of open.staged) };
+    ghost invariant = { λ opened. IsOnFiles opened.store (view_of opened.files)
+        × IsOnStaged opened.store (view_of opened.staged) };
 }
 
 impl OpenStore {
@@ -42,7 +42,11 @@ impl OpenStore {
             return None;
         }
         match Store::open(alloc, &mut files, &mut staged, now) {
-            Ok(store) => Some(Ok(OpenStore { store, files, staged })),
+            Ok(store) => Some(Ok(OpenStore {
+                store,
+                files,
+                staged,
+            })),
             Err(error) => Some(Err(error)),
         }
     }
@@ -79,7 +83,8 @@ impl OpenStore {
         holder: u128,
         package: &[u8],
     ) -> Result<(), StoreError> {
-        self.store.commit(alloc, &mut self.files, &mut self.staged, holder, package)
+        self.store
+            .commit(alloc, &mut self.files, &mut self.staged, holder, package)
     }
 
     /// Puts what is committed in its own place.
@@ -89,7 +94,8 @@ impl OpenStore {
         holder: u128,
         package: &Package,
     ) -> Result<(), StoreError> {
-        self.store.replace(alloc, &mut self.files, &mut self.staged, holder, package)
+        self.store
+            .replace(alloc, &mut self.files, &mut self.staged, holder, package)
     }
 
     pub(crate) fn apply(
@@ -98,7 +104,8 @@ impl OpenStore {
         holder: u128,
         deadline: Option<u64>,
     ) -> Result<(), StoreError> {
-        self.store.apply(alloc, &mut self.files, &mut self.staged, holder, deadline)
+        self.store
+            .apply(alloc, &mut self.files, &mut self.staged, holder, deadline)
     }
 
     #[tactic(auto, using(uci_store::proofs::DiskLemmas::staged_stay, uci_store::proofs::DiskLemmas::still_good))]
