@@ -39,24 +39,20 @@ impl Devices {
         out: &mut Vec<u8>,
     ) -> anyhow::Result<()> {
         match words {
-            ["clock", ..] | ["clock-now"] => self.clock(words, out),
-            ["words", ..] | ["seed"] | ["word"] => self.random(words, out),
-            ["source", ..] | ["source-read", ..] | ["source-all", ..] => {
-                self.source(words, input, out)
-            }
-            ["sink", ..] | ["sink-write"] | ["sink-bytes"] | ["sink-refused"] => {
-                self.sink(words, input, out)
-            }
-            ["order", one, other] => order(self.alloc, one, other, out),
-            ["error", name] => error(self.alloc, name, out),
+            ["clock", words @ ..] => self.clock(words, out),
+            ["random", words @ ..] => self.random(words, out),
+            ["source", words @ ..] => self.source(words, input, out),
+            ["sink", words @ ..] => self.sink(words, input, out),
+            ["text", "order", one, other] => order(self.alloc, one, other, out),
+            ["text", "of", name] => error(self.alloc, name, out),
             _ => Err(anyhow::anyhow!("no such step")),
         }
     }
 
     fn clock(&mut self, words: &[&str], out: &mut Vec<u8>) -> anyhow::Result<()> {
         match (words, &mut self.clock) {
-            (["clock-now"], Some(clock)) => put_number(self.alloc, out, clock.now()),
-            (["clock", moments @ ..], _) => {
+            (["now"], Some(clock)) => put_number(self.alloc, out, clock.now()),
+            (["start", moments @ ..], _) => {
                 let moments = numbers_of(self.alloc, moments)?;
                 if !never_falls(&moments) {
                     return put_line(out, b"falls");
@@ -70,19 +66,21 @@ impl Devices {
 
     fn random(&mut self, words: &[&str], out: &mut Vec<u8>) -> anyhow::Result<()> {
         match words {
-            ["words", numbers @ ..] => {
+            ["start", numbers @ ..] => {
                 self.list = Some(ListRandom::new(numbers_of(self.alloc, numbers)?));
                 Ok(())
             }
             ["seed"] => {
+                self.list = None;
                 self.seeded = Some(SeededRandom::new([0; 32]));
                 Ok(())
             }
-            _ => {
+            ["word"] => {
                 let word = self.word()?;
                 let line = format!(in self.alloc; "{word:016x}")?;
                 put_line(out, line.as_bytes())
             }
+            _ => Err(anyhow::anyhow!("no such step")),
         }
     }
 
@@ -96,16 +94,14 @@ impl Devices {
 
     fn source(&mut self, words: &[&str], input: &[u8], out: &mut Vec<u8>) -> anyhow::Result<()> {
         match (words, &mut self.source) {
-            (["source", "fails", numbers @ ..], _) => {
+            (["start", numbers @ ..], _) => {
                 let bytes = Vec::from_slice(self.alloc, input)?;
                 let failing = numbers_of(self.alloc, numbers)?;
                 self.source = Some(MemSource::new(bytes, failing));
                 Ok(())
             }
-            (["source-read", count], Some(source)) => {
-                read(self.alloc, source, count.parse()?, out)
-            }
-            (["source-all", limit], Some(source)) => {
+            (["read", count], Some(source)) => { read(self.alloc, source, count.parse()?, out) }
+            (["all", limit], Some(source)) => {
                 match read_to_end(self.alloc, source, limit.parse()?) {
                     Ok(bytes) => put_line(out, &bytes),
                     Err(error) => {
@@ -120,23 +116,23 @@ impl Devices {
 
     fn sink(&mut self, words: &[&str], input: &[u8], out: &mut Vec<u8>) -> anyhow::Result<()> {
         match (words, &mut self.sink) {
-            (["sink", "fails", numbers @ ..], _) => {
+            (["start", numbers @ ..], _) => {
                 let failing = numbers_of(self.alloc, numbers)?;
                 self.sink = Some(MemSink::new(self.alloc, failing));
                 Ok(())
             }
-            (["sink", "room", size], _) => {
+            (["room", size], _) => {
                 self.sink = Some(MemSink::with_room(self.alloc, size.parse()?)?);
                 Ok(())
             }
-            (["sink-write"], Some(sink)) => {
+            (["write"], Some(sink)) => {
                 put_choice(out, sink.write(input).is_ok(), "ok", "failed")
             }
-            (["sink-bytes"], Some(sink)) => {
+            (["bytes"], Some(sink)) => {
                 out.extend_from_slice(sink.bytes())?;
                 Ok(())
             }
-            (["sink-refused"], Some(sink)) => put_number(self.alloc, out, sink.refused()),
+            (["refused"], Some(sink)) => put_number(self.alloc, out, sink.refused()),
             _ => Err(anyhow::anyhow!("no sink")),
         }
     }

@@ -35,8 +35,7 @@ impl Hubs {
                 Ok(())
             }
             ["whole"] => put_choice(out, are_whole(&self.events), "yes", "no"),
-            ["start"] => self.start(Vec::new(self.alloc)),
-            ["start", "fails", numbers @ ..] => self.start(numbers_of(self.alloc, numbers)?),
+            ["start", numbers @ ..] => self.start(numbers_of(self.alloc, numbers)?),
             words => match &mut self.hub {
                 Some(hub) => on_hub(self.alloc, hub, words, input, out),
                 None => Err(anyhow::anyhow!("no such step, or no hub")),

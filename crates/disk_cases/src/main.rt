@@ -16,7 +16,7 @@
 //! - `snap new FILE`: the input is to be written as that file. `snap apply DEADLINE HOLDER`, `snap commit`: writes what is new.
 //! - `snap file FILE`: its bytes and a newline. `snap pending`: what waits.
 //! - `snap images MOMENT`: each image of the disk among what its files may be is opened at that moment: a line for each state that
-//!   is seen, `network` by its text, and what waits.
+//!   is seen, the packages by their bytes, and what waits.
 //!
 //! Steps on a store over two disks, of which the first one has the files of `disk file`:
 //! - `store staged NAME`: puts the input as a file of the second disk. `store staged-passes N`: its calls behind so many fail.
@@ -26,15 +26,18 @@
 //! - `store changes HOLDER PACKAGE`, `store view HOLDER PACKAGE`, `store committed PACKAGE`, `store pending`, `store packages`.
 //! - `store read NAME`, `store read-staged NAME`: the bytes of a file of the disks, or nothing where it fails. Both close the store.
 //!
-//! Steps on other devices:
-//! - `hub accept CLIENT USER GROUP`, `hub bytes CLIENT` with the input, `hub close CLIENT`, `hub idle`: an event. `hub whole`: whether
-//!   each has 1 to 65536 bytes, where it has any. `hub start`, `hub start fails N ..`: begins it. `hub next`, `hub send CLIENT` with the
-//!   input, `hub sent`, `hub refused`.
-//! - `clock MOMENT ..`: a clock, or `falls`. `clock-now`: its moment. `words WORD ..`: a list of random words. `seed`: the words of a seed
-//!   of zeros. `word`: the next one, in hexadecimal digits.
-//! - `source fails N ..` with the input: a source. `source-read COUNT`: what a read gives. `source-all LIMIT`: all of it.
-//! - `sink fails N ..`, `sink room N`: a sink. `sink-write`: writes the input. `sink-bytes`, `sink-refused`.
-//! - `order ONE OTHER`: how two texts are ordered. `error NAME`: the text of an error of the devices.
+//! Steps on other devices, of which calls with the numbers behind `start` fail:
+//! - `hub accept CLIENT USER GROUP`, `hub bytes CLIENT` with the input, `hub close CLIENT`, `hub idle`: an event of the next hub.
+//!   `hub whole`: whether each has 1 to 65536 bytes, where it has any. `hub start`, `hub start N ..`: begins it. `hub next`, `hub send
+//!   CLIENT` with the input, `hub sent`, `hub refused`.
+//! - `source start`, `source start N ..`: a source of the input. `source read COUNT`: what a read gives. `source all LIMIT`: all of it.
+//! - `sink start`, `sink start N ..`, `sink room SIZE`: a sink. `sink write`: writes the input. `sink bytes`, `sink refused`.
+//! - `clock start MOMENT ..`: a clock of these moments, or that they fall. `clock now`: its moment.
+//! - `random start WORD ..`: a list of words. `random seed`: the words of a seed of zeros. `random word`: the next one, in hexadecimal
+//!   digits.
+//! - `text order ONE OTHER`: how two texts are ordered. `text of ERROR`: what is told of an error of the devices.
+//!
+//! A word in single quotes may be empty or have spaces. What is refused is told as `error`, its number and its text.
 #![tactic(auto)]
 
 mod bench;

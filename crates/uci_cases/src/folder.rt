@@ -181,7 +181,7 @@ fn disk(alloc: Global, files: &[Named], failing: Vec<u64>) -> anyhow::Result<Mem
 }
 
 /// Takes over the files of a disk.
-fn keep(alloc: Global, files: &mut Vec<Named>, disk: &mut MemDisk) -> anyhow::Result<()> {
+fn keep(alloc: Global, files: &mut [Named], disk: &mut MemDisk) -> anyhow::Result<()> {
     let mut number = 0u32;
     for file in files.iter_mut() {
         file.bytes = read(alloc, disk, number)?;
