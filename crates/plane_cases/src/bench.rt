@@ -46,7 +46,7 @@ impl Stage for Bench {
             return Err(anyhow::anyhow!("a step without words"));
         };
         match *kind {
-            "file" | "staged" | "word" | "image" | "look" => self.put(kind, rest, input),
+            "file" | "staged" | "word" | "words" | "image" | "look" => self.put(kind, rest, input),
             "plane" | "quietly" => self.run(kind, rest, input, out),
             "each" | "statuses" | "pieces" | "stops" => self.sweep(kind, rest, input, out),
             _ if !input.is_empty() => Err(anyhow::anyhow!("this step has no input")),
@@ -71,6 +71,12 @@ impl Bench {
             ("word", []) => {
                 let word = String::from_str(self.alloc, str::from_utf8(input)?)?;
                 self.words.push(word)?;
+                Ok(())
+            }
+            ("words", []) => {
+                for word in str::from_utf8(input)?.split_whitespace() {
+                    self.words.push(String::from_str(self.alloc, word)?)?;
+                }
                 Ok(())
             }
             ("image", [name]) => self.images.push(name, input),
@@ -150,7 +156,8 @@ impl Bench {
     ) -> anyhow::Result<()> {
         match (kind, rest) {
             ("each", [device, more, words @ ..]) => {
-                self.sweep_of(device, words, input)?.each(more.parse()?, out)
+                self.sweep_of(device, words, input)?
+                    .each(more.parse()?, out)
             }
             ("statuses", [device, words @ ..]) => {
                 self.sweep_of(device, words, input)?.statuses(out)
@@ -158,19 +165,13 @@ impl Bench {
             ("pieces", words) => self.pieces_of(words).cut(str::from_utf8(input)?, out),
             ("stops", [more, words @ ..]) => {
                 let asked = Asked::new(self.alloc, words, input)?;
-                Stops::new(self.alloc, &self.folder, &self.images)
-                    .play(&asked, more.parse()?, out)
+                Stops::new(self.alloc, &self.folder, &self.images).play(&asked, more.parse()?, out)
             }
             _ => unknown(),
         }
     }
 
-    fn sweep_of(
-        &self,
-        device: &str,
-        words: &[&str],
-        input: &[u8],
-    ) -> anyhow::Result<Sweep<'_>> {
+    fn sweep_of(&self, device: &str, words: &[&str], input: &[u8]) -> anyhow::Result<Sweep<'_>> {
         Ok(Sweep {
             alloc: self.alloc,
             folder: &self.folder,

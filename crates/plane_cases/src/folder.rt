@@ -4,7 +4,7 @@ use plane_io::Text;
 use std::alloc::Global;
 
 /// How many files a folder has at most.
-const MOST_FILES: usize = 66;
+const MOST_FILES: usize = 4096;
 
 /// How often a file is read at most, until a read does not fail.
 const TRIES: u32 = 1000;
@@ -91,11 +91,17 @@ fn with_file(
 ) -> anyhow::Result<Vec<MemFile>> {
     let new = bytes.or(bytes_of(files, name)).unwrap_or(b"");
     let mut list = Vec::new(alloc);
-    for one in files.iter().filter(|one| one.name.as_bytes() < name.as_bytes()) {
+    for one in files
+        .iter()
+        .filter(|one| one.name.as_bytes() < name.as_bytes())
+    {
         list.push(file(alloc, one.name.as_bytes(), one.bytes.as_bytes())?)?;
     }
     list.push(file(alloc, name.as_bytes(), new)?)?;
-    for one in files.iter().filter(|one| one.name.as_bytes() > name.as_bytes()) {
+    for one in files
+        .iter()
+        .filter(|one| one.name.as_bytes() > name.as_bytes())
+    {
         list.push(file(alloc, one.name.as_bytes(), one.bytes.as_bytes())?)?;
     }
     Ok(list)

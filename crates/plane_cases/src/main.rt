@@ -9,7 +9,7 @@
 //! - `failing DEVICE N ..`: the calls of these numbers fail in the next run, from 1 on. A device is `input`, `out`, `err`, `files`,
 //!   `staged`, `apply` (calls of the kernel) or `environment` (its devices that come, go and change).
 //! - `stopping N`: the disk of packages does N calls in the next run, and fails behind them.
-//! - `word` |: a word that stands behind the words of the next run.
+//! - `word` |: the input is a word, and `words` |: its words between blanks are words, that stand behind those of the next run.
 //! - `plane WORDS` |: a run of the program with these words and this input. It gives what is written to the output, then a line
 //!   `err TEXT` for each line of the error output, and `status N`.
 //! - `quietly WORDS` |: the same, which does not give the output. `head N` and `tail N` give the first and the last lines of what

@@ -113,7 +113,9 @@ impl Pieces<'_> {
 
     fn tell(&self, first: usize, last: usize, sent: Sent, out: &mut Vec<u8>) -> anyhow::Result<()> {
         let Sent { first: one, second } = sent;
-        let line = format!(in self.alloc; "cut at {first} to {last}: {one} lines, then {second}\n")?;
+        let line = format!(in self.alloc;
+            "cut at {first} to {last}: {one} lines, then {second}\n"
+        )?;
         out.extend_from_slice(line.as_bytes())?;
         Ok(())
     }

@@ -152,7 +152,9 @@ impl<'a> Stops<'a> {
 
     /// Looks at the folder with these files.
     fn look(&mut self, kind: &str, list: &[Text]) -> anyhow::Result<()> {
-        let gates = list.first().map_or("none", |gates| gates_text(gates.as_bytes()));
+        let gates = list
+            .first()
+            .map_or("none", |gates| gates_text(gates.as_bytes()));
         for look in &self.images.looks {
             let mut files = self.disk_of(list)?;
             let failing = Failing::new(self.alloc);
@@ -160,7 +162,11 @@ impl<'a> Stops<'a> {
                 .asked
                 .run_over(self.alloc, &self.folder.staged, &failing, &mut files)?;
             let mut line = String::new(self.alloc);
-            write!(line, "{kind}, {gates}, {}: status {}", look.name, ran.status)?;
+            write!(
+                line,
+                "{kind}, {gates}, {}: status {}",
+                look.name, ran.status
+            )?;
             push_lines(&mut line, &ran.out, 0)?;
             self.told.insert(line)?;
         }

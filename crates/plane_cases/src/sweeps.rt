@@ -56,7 +56,9 @@ impl Sweep<'_> {
             let ran = self.run(number)?;
             let is_over = is_same(&whole, &ran);
             let status = if is_over { None } else { Some(ran.status) };
-            if let Some(old) = last && (is_over || status != last) {
+            if let Some(old) = last
+                && (is_over || status != last)
+            {
                 let before = number.saturating_sub(1);
                 let line = format!(in self.alloc; "{first} to {before}: status {old}\n")?;
                 out.extend_from_slice(line.as_bytes())?;
