@@ -1,0 +1,137 @@
+//! A run of the program.
+use crate::failing::{Device, Failing};
+use crate::folder::{Folder, disk, files_of};
+use kern_memory::MemKernel;
+use kern_model::{Call, Object};
+use plane_disk::MemDisk;
+use plane_io::{MemSink, MemSource};
+use plane_main::plane;
+use plane_outside::{MemHub, SeededRandom, SetClock, never_falls};
+use std::alloc::Global;
+use uci_store::have_same_packages;
+
+/// The words and the input of a run.
+#[derive(Drop)]
+pub(crate) struct Asked {
+    pub(crate) words: Vec<String>,
+    pub(crate) input: Vec<u8>,
+}
+
+/// What a run left of its devices, and its status.
+#[derive(Drop)]
+pub(crate) struct Ran {
+    pub(crate) out: Vec<u8>,
+    pub(crate) err: Vec<u8>,
+    pub(crate) status: u8,
+    /// What the kernel did, and what it holds.
+    pub(crate) calls: Vec<Call>,
+    pub(crate) objects: Vec<Object>,
+}
+
+impl Asked {
+    /// These words and this input.
+    pub(crate) fn new(alloc: Global, words: &[&str], input: &[u8]) -> anyhow::Result<Asked> {
+        let mut list = Vec::new(alloc);
+        for word in words {
+            list.push(String::from_str(alloc, word)?)?;
+        }
+        Ok(Asked {
+            words: list,
+            input: Vec::from_slice(alloc, input)?,
+        })
+    }
+
+    /// Runs the program over a folder that stays as it is, at the moment 100.
+    pub(crate) fn try_over(
+        &self,
+        alloc: Global,
+        folder: &Folder,
+        failing: &Failing,
+    ) -> anyhow::Result<Ran> {
+        let mut files = disk(
+            alloc,
+            &folder.files,
+            failing.of(Device::Files)?,
+            failing.passed,
+        )?;
+        self.run_over(alloc, &folder.staged, failing, &mut files)
+    }
+
+    /// The same, over a disk of packages.
+    pub(crate) fn run_over(
+        &self,
+        alloc: Global,
+        staged: &[plane_disk::MemFile],
+        failing: &Failing,
+        files: &mut MemDisk,
+    ) -> anyhow::Result<Ran> {
+        let mut staged = disk(alloc, staged, failing.of(Device::Staged)?, None)?;
+        self.run(alloc, &[100], failing, files, &mut staged)
+    }
+
+    /// Runs the program over a folder, which has then what the run left of it.
+    pub(crate) fn change(
+        &self,
+        alloc: Global,
+        moments: &[u64],
+        failing: &Failing,
+        folder: &mut Folder,
+    ) -> anyhow::Result<Ran> {
+        let mut files = disk(
+            alloc,
+            &folder.files,
+            failing.of(Device::Files)?,
+            failing.passed,
+        )?;
+        let mut staged = disk(alloc, &folder.staged, failing.of(Device::Staged)?, None)?;
+        let ran = self.run(alloc, moments, failing, &mut files, &mut staged)?;
+        if failing.passed.is_none() {
+            folder.files = files_of(alloc, &mut files)?;
+            folder.staged = files_of(alloc, &mut staged)?;
+        }
+        Ok(ran)
+    }
+
+    /// Runs the program over two disks.
+    fn run(
+        &self,
+        alloc: Global,
+        moments: &[u64],
+        failing: &Failing,
+        files: &mut MemDisk,
+        staged: &mut MemDisk,
+    ) -> anyhow::Result<Ran> {
+        if !never_falls(moments) || !have_same_packages(files, staged) {
+            return Err(anyhow::anyhow!("the clock falls, or the folders differ"));
+        }
+        let bytes = Vec::from_slice(alloc, &self.input)?;
+        let mut input = MemSource::new(bytes, failing.of(Device::Input)?);
+        let mut out = MemSink::new(alloc, failing.of(Device::Out)?);
+        let mut err = MemSink::new(alloc, failing.of(Device::Err)?);
+        let apply = failing.of(Device::Apply)?;
+        let mut kernel = MemKernel::new(alloc, apply, failing.of(Device::Environment)?);
+        let mut hub = MemHub::new(alloc, Vec::new(alloc), Vec::new(alloc));
+        let mut clock = SetClock::new(Vec::from_slice(alloc, moments)?);
+        let mut random = SeededRandom::new([0; 32]);
+        let status = plane(
+            alloc,
+            &self.words,
+            &mut input,
+            &mut out,
+            &mut err,
+            files,
+            staged,
+            &mut kernel,
+            &mut hub,
+            &mut clock,
+            &mut random,
+        );
+        Ok(Ran {
+            out: Vec::from_slice(alloc, out.bytes())?,
+            err: Vec::from_slice(alloc, err.bytes())?,
+            status,
+            calls: Vec::from_slice(alloc, kernel.calls())?,
+            objects: Vec::from_slice(alloc, kernel.objects())?,
+        })
+    }
+}
