@@ -9,5 +9,6 @@ mod radios;
 mod values;
 
 pub use devices::device_status;
+pub use faults::fault_word;
 pub use interfaces::{dump, interface_status};
 pub use radios::radio_status;

@@ -118,7 +118,7 @@ impl Bench {
 
     fn radios(&self, out: &mut Vec<u8>) -> anyhow::Result<()> {
         let rows = radio_rows(self.alloc, self.wireless.sections.as_slice())?;
-        put_radios(self.alloc, out, rows.as_slice())
+        put_radios(out, rows.as_slice())
     }
 
     fn counts(&self, out: &mut Vec<u8>) -> anyhow::Result<()> {
@@ -161,7 +161,7 @@ fn put_counts(alloc: Global, out: &mut Vec<u8>, conf: &Conf) -> anyhow::Result<(
 }
 
 fn put_error(alloc: Global, out: &mut Vec<u8>, error: ConfError) -> anyhow::Result<()> {
-    if error == ConfError::Memory {
+    if let ConfError::Memory = error {
         return Err(error.into());
     }
     let number = error.number();

@@ -13,7 +13,7 @@ pub(crate) fn put_devices(
     for row in rows {
         out.extend_from_slice(b"device")?;
         put_name(out, &row.name)?;
-        put_faults(alloc, out, row.faults.as_slice())?;
+        put_faults(out, row.faults.as_slice())?;
     }
     Ok(())
 }
@@ -35,7 +35,7 @@ pub(crate) fn put_names(alloc: Global, out: &mut Vec<u8>, rows: &[NameRow]) -> a
         put_counted(alloc, out, b"level", u64::from(row.level))?;
         put_if(out, row.broken, b"broken")?;
         put_values(alloc, out, row)?;
-        put_faults(alloc, out, row.faults.as_slice())?;
+        put_faults(out, row.faults.as_slice())?;
     }
     Ok(())
 }

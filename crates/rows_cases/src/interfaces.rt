@@ -22,7 +22,7 @@ pub(crate) fn put_interfaces(
         put_said(out, row)?;
         put_given(out, row)?;
         put_options(out, row.options.as_slice())?;
-        put_faults(alloc, out, row.faults.as_slice())?;
+        put_faults(out, row.faults.as_slice())?;
     }
     Ok(())
 }
@@ -64,7 +64,7 @@ pub(crate) fn put_routes(
         put_counted(alloc, out, b"metric", u64::from(row.metric))?;
         put_counted(alloc, out, b"table", u64::from(row.table))?;
         put_if(out, row.disabled, b"disabled")?;
-        put_faults(alloc, out, row.faults.as_slice())?;
+        put_faults(out, row.faults.as_slice())?;
     }
     Ok(())
 }

@@ -1,6 +1,7 @@
 //! How a row is told: words on a line.
 use net_addr::{Addr, Cidr, print_addr, print_cidr};
 use net_rows::RowFault;
+use net_status::fault_word;
 use std::alloc::Global;
 use uci_tree::Opt;
 
@@ -61,15 +62,10 @@ pub(crate) fn put_options(out: &mut Vec<u8>, options: &[Opt]) -> anyhow::Result<
 }
 
 /// Puts each fault behind ` !`, with what it is about, and ends the line.
-pub(crate) fn put_faults(
-    alloc: Global,
-    out: &mut Vec<u8>,
-    faults: &[RowFault],
-) -> anyhow::Result<()> {
+pub(crate) fn put_faults(out: &mut Vec<u8>, faults: &[RowFault]) -> anyhow::Result<()> {
     for fault in faults {
-        let name = fault.name;
-        let word = format!(in alloc; "!{name:?}")?;
-        put_word(out, word.as_bytes())?;
+        out.extend_from_slice(b" !")?;
+        out.extend_from_slice(fault_word(fault.name))?;
         if let Some(argument) = &fault.argument {
             out.push(b'(')?;
             out.extend_from_slice(argument.as_bytes())?;

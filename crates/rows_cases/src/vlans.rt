@@ -15,7 +15,7 @@ pub(crate) fn put_vlans(alloc: Global, out: &mut Vec<u8>, rows: &[VlanRow]) -> a
         for entry in row.entries.as_slice() {
             put_entry(out, entry)?;
         }
-        put_faults(alloc, out, row.faults.as_slice())?;
+        put_faults(out, row.faults.as_slice())?;
     }
     Ok(())
 }
