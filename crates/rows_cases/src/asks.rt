@@ -2,6 +2,7 @@
 use ask_lines::append_ask_line;
 use kern_model::{DevName, read_name};
 use net_conf::read_conf;
+use net_rows::Conf;
 use net_rules::Notice;
 use std::alloc::Global;
 use uci_tree::Package;
@@ -14,28 +15,31 @@ pub(crate) fn put_ask(
     wireless: &Package,
     words: &[&str],
 ) -> anyhow::Result<()> {
-    let notice = notice(words)?;
     let conf = read_conf(alloc, network, wireless)?;
-    append_ask_line(alloc, &conf, &notice, out)?;
-    Ok(())
+    put_notice(alloc, out, &conf, words)
 }
 
-fn notice(words: &[&str]) -> anyhow::Result<Notice> {
-    match words {
-        ["interface", number, row, device] => Ok(Notice::Interface {
+fn put_notice(alloc: Global, out: &mut Vec<u8>, conf: &Conf, words: &[&str]) -> anyhow::Result<()> {
+    let notice = match words {
+        ["interface", number, row, device] => {
+            let device = device_of(device)?;
+            Notice::Interface {
+                number: number.parse()?,
+                row: row.parse()?,
+                device,
+            }
+        }
+        ["radio", number, row] => Notice::Radio {
             number: number.parse()?,
             row: row.parse()?,
-            device: device_of(device)?,
-        }),
-        ["radio", number, row] => Ok(Notice::Radio {
+        },
+        ["drop", number] => Notice::Dropped {
             number: number.parse()?,
-            row: row.parse()?,
-        }),
-        ["drop", number] => Ok(Notice::Dropped {
-            number: number.parse()?,
-        }),
+        },
         _ => anyhow::bail!("no ask"),
-    }
+    };
+    append_ask_line(alloc, conf, &notice, out)?;
+    Ok(())
 }
 
 fn device_of(word: &str) -> anyhow::Result<Option<DevName>> {
