@@ -21,7 +21,7 @@
 //! Steps on a store over two disks, of which the first one has the files of `disk file`:
 //! - `store staged NAME`: puts the input as a file of the second disk. `store staged-passes N`: its calls behind so many fail.
 //! - `store open MOMENT`, `store commit HOLDER PACKAGE`, `store replace HOLDER PACKAGE`, `store apply HOLDER DEADLINE` or `never`,
-//!   `store confirm HOLDER`, `store rollback HOLDER`, `store tick MOMENT`, `store forget HOLDER`, `store stage HOLDER LINE`,
+//!   `store confirm HOLDER`, `store rollback HOLDER`, `store tick MOMENT`, `store stage HOLDER LINE`,
 //!   `store revert HOLDER PATH`: `ok`, or what it refuses. LINE is that of a delta file, and a package is replaced by itself.
 //! - `store changes HOLDER PACKAGE`, `store view HOLDER PACKAGE`, `store committed PACKAGE`, `store pending`, `store packages`.
 //! - `store read NAME`, `store read-staged NAME`: the bytes of a file of the disks, or nothing where it fails. Both close the store.

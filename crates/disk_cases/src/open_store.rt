@@ -123,15 +123,6 @@ impl OpenStore {
         self.store.tick(&mut self.files, now)
     }
 
-    #[tactic(auto, using(uci_store::proofs::DiskLemmas::files_stay, uci_store::proofs::DiskLemmas::staged_stay))]
-    pub(crate) fn forget(&mut self, holder: u128) -> bool {
-        if holder == 0 {
-            return false;
-        }
-        self.store.forget(holder);
-        true
-    }
-
     pub(crate) fn changes(
         &self,
         alloc: Global,

@@ -145,10 +145,6 @@ fn on_open(
             Ok(done) => put_choice(out, done, "undone", "nothing is due"),
             Err(error) => refuse(alloc, error, out),
         },
-        ["forget", holder] => {
-            let done = open.forget(holder.parse()?);
-            put_choice(out, done, "ok", "the command line")
-        }
         words => look(alloc, open, words, out),
     }
 }
