@@ -4,7 +4,7 @@ use Rattle.net_cases.proofs.history.tell.Given as goal
 
 -- only notices were handed out
 abbrev pub invariant-loop-notice : goal.invariant-loop-notice
-invariant-loop-notice g l = HasSameKernel l.fn.net l.net
+invariant-loop-notice l = HasSameKernel l.fn.net l.net
 
 abbrev pub decreases-loop-notice : goal.decreases-loop-notice
-decreases-loop-notice g l = length l.net.notices
+decreases-loop-notice l = length l.net.notices
