@@ -101,37 +101,90 @@ impl Asked {
         files: &mut MemDisk,
         staged: &mut MemDisk,
     ) -> anyhow::Result<Ran> {
-        if !never_falls(moments) || !have_same_packages(files, staged) {
-            return Err(anyhow::anyhow!("the clock falls, or the folders differ"));
+        let given = Given {
+            input: Vec::from_slice(alloc, &self.input)?,
+            reads: failing.of(Device::Input)?,
+            writes: failing.of(Device::Out)?,
+            errors: failing.of(Device::Err)?,
+            calls: failing.of(Device::Apply)?,
+            events: failing.of(Device::Environment)?,
+            moments: Vec::from_slice(alloc, moments)?,
+        };
+        match carry_out(alloc, &self.words, given, files, staged) {
+            Some(left) => left.ran(alloc),
+            None => Err(anyhow::anyhow!("the clock falls, or the folders differ")),
         }
-        let bytes = Vec::from_slice(alloc, &self.input)?;
-        let mut input = MemSource::new(bytes, failing.of(Device::Input)?);
-        let mut out = MemSink::new(alloc, failing.of(Device::Out)?);
-        let mut err = MemSink::new(alloc, failing.of(Device::Err)?);
-        let apply = failing.of(Device::Apply)?;
-        let mut kernel = MemKernel::new(alloc, apply, failing.of(Device::Environment)?);
-        let mut hub = MemHub::new(alloc, Vec::new(alloc), Vec::new(alloc));
-        let mut clock = SetClock::new(Vec::from_slice(alloc, moments)?);
-        let mut random = SeededRandom::new([0; 32]);
-        let status = plane(
-            alloc,
-            &self.words,
-            &mut input,
-            &mut out,
-            &mut err,
-            files,
-            staged,
-            &mut kernel,
-            &mut hub,
-            &mut clock,
-            &mut random,
-        );
+    }
+}
+
+/// What a run is given: its input, the numbers of the calls of each device that fail, and the moments of its clock.
+#[derive(Drop)]
+struct Given {
+    input: Vec<u8>,
+    reads: Vec<u64>,
+    writes: Vec<u64>,
+    errors: Vec<u64>,
+    calls: Vec<u64>,
+    events: Vec<u64>,
+    moments: Vec<u64>,
+}
+
+/// The devices that a run left, and its status.
+#[derive(Drop)]
+struct Left {
+    out: MemSink,
+    err: MemSink,
+    kernel: MemKernel,
+    status: u8,
+}
+
+impl Left {
+    fn ran(&self, alloc: Global) -> anyhow::Result<Ran> {
         Ok(Ran {
-            out: Vec::from_slice(alloc, out.bytes())?,
-            err: Vec::from_slice(alloc, err.bytes())?,
-            status,
-            calls: Vec::from_slice(alloc, kernel.calls())?,
-            objects: Vec::from_slice(alloc, kernel.objects())?,
+            out: Vec::from_slice(alloc, self.out.bytes())?,
+            err: Vec::from_slice(alloc, self.err.bytes())?,
+            status: self.status,
+            calls: Vec::from_slice(alloc, self.kernel.calls())?,
+            objects: Vec::from_slice(alloc, self.kernel.objects())?,
         })
     }
+}
+
+/// Runs the program over two disks, where the clock does not fall and the disks have the same packages.
+fn carry_out(
+    alloc: Global,
+    words: &[String],
+    given: Given,
+    files: &mut MemDisk,
+    staged: &mut MemDisk,
+) -> Option<Left> {
+    if !never_falls(&given.moments) || !have_same_packages(files, staged) {
+        return None;
+    }
+    let mut input = MemSource::new(given.input, given.reads);
+    let mut out = MemSink::new(alloc, given.writes);
+    let mut err = MemSink::new(alloc, given.errors);
+    let mut kernel = MemKernel::new(alloc, given.calls, given.events);
+    let mut hub = MemHub::new(alloc, Vec::new(alloc), Vec::new(alloc));
+    let mut clock = SetClock::new(given.moments);
+    let mut random = SeededRandom::new([0; 32]);
+    let status = plane(
+        alloc,
+        words,
+        &mut input,
+        &mut out,
+        &mut err,
+        files,
+        staged,
+        &mut kernel,
+        &mut hub,
+        &mut clock,
+        &mut random,
+    );
+    Some(Left {
+        out,
+        err,
+        kernel,
+        status,
+    })
 }
