@@ -14,11 +14,11 @@ use Rattle.net_rules.specs.Inputs.{facts_of, open_interface}
 use Rattle.net_rules.specs.Need.{same_interface_ask}
 use Rattle.net_rules.specs.After.{is_same_need}
 use Rattle.net_rules.proofs.NeedLemmas.{same_need_of}
-use Rattle.net_asked.specs.Touched.{is_needed}
-use Rattle.net_asked.proofs.AskedLemmas.{left_found}
+use Rattle.net_rules.specs.Touched.{is_needed}
+use Rattle.net_rules.proofs.AskedLemmas.{left_found}
 use Rattle.known_inputs.specs.Steps.{place_of}
-use Rattle.net_claims.specs.States.{is_first}
-use Rattle.net_claims.proofs.PairLemmas.{filter_twice, all_pass}
+use Rattle.net_rules.specs.States.{is_first}
+use Rattle.net_rules.proofs.PairLemmas.{filter_twice, all_pass}
 use Rattle.asked_places.specs.Touched.{has, names_of_rows, is_touched}
 use Rattle.asked_places.specs.Losing.{lost_number, lost_row, lost_at, lost_at_places, left_at}
 use Rattle.asked_places.proofs.PlaceLemmas.{touched_behind, place_of_first}

@@ -9,13 +9,13 @@ use Rattle.net_rules.specs.declared.inputs.Inputs.{Inputs}
 use Rattle.net_rules.specs.declared.inputs.OpenInterface.{OpenInterface}
 use Rattle.net_rules.specs.Inputs.{facts_of, open_interface}
 use Rattle.net_rules.proofs.OnceLemmas.{all_kept}
-use Rattle.net_asked.specs.Touched.{is_needed}
-use Rattle.net_asked.proofs.AskedLemmas.{filter_alike}
+use Rattle.net_rules.specs.Touched.{is_needed}
+use Rattle.net_rules.proofs.AskedLemmas.{filter_alike}
 use Rattle.known_inputs.specs.Known.{StandOnce}
 use Rattle.known_inputs.specs.Steps.{place_of, has_number, ask_of, without_ask}
 use Rattle.known_inputs.proofs.FoundLemmas.{found_numbered, found_named}
-use Rattle.net_claims.specs.States.{is_first}
-use Rattle.net_claims.proofs.MoveLemmas.{some_is}
+use Rattle.net_rules.specs.States.{is_first}
+use Rattle.net_rules.proofs.MoveLemmas.{some_is}
 use Rattle.asked_places.specs.Touched.{names_of_rows, is_touched}
 use Rattle.asked_places.specs.Losing.{lost_number, lost_row, lost_at, left_at}
 use Rattle.asked_places.proofs.PlaceLemmas.{place_of_first, first_at_place, touched_one, touches_one}

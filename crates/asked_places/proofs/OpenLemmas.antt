@@ -18,10 +18,10 @@ use Rattle.net_rules.specs.After.{opened_interfaces}
 use Rattle.net_rules.specs.Notices.{interface_notice}
 use Rattle.net_rules.proofs.TableLemmas.{first_some, found_behind}
 use Rattle.net_rules.proofs.NeedLemmas.{same_need, interface_named_as}
-use Rattle.net_asked.specs.Touched.{touched_asks}
-use Rattle.net_claims.specs.States.{is_first}
-use Rattle.net_claims.proofs.PairLemmas.{give_firsts}
-use Rattle.net_claims.proofs.MoveLemmas.{some_is}
+use Rattle.net_rules.specs.Touched.{touched_asks}
+use Rattle.net_rules.specs.States.{is_first}
+use Rattle.net_rules.proofs.PairLemmas.{give_firsts}
+use Rattle.net_rules.proofs.MoveLemmas.{some_is}
 use Rattle.known_inputs.specs.Steps.{place_of, with_ask}
 use Rattle.asked_places.specs.Touched.{has, names_of_rows, is_touched}
 use Rattle.asked_places.specs.Opening.{opened_row, opened_at, with_opened, opened_after, opened_notices, told_of_all}

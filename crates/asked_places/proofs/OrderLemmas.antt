@@ -19,12 +19,12 @@ use Rattle.net_rules.specs.Numbers.{AreRising}
 use Rattle.net_rules.specs.Inputs.{facts_of, open_interface}
 use Rattle.net_rules.proofs.ListLemmas.{within_filter}
 use Rattle.net_rules.proofs.TableLemmas.{found_member}
-use Rattle.net_asked.specs.Touched.{is_needed, lost_numbers}
-use Rattle.net_asked.proofs.NumberLemmas.{between, rising_kept}
+use Rattle.net_rules.specs.Touched.{is_needed, lost_numbers}
+use Rattle.net_rules.proofs.TouchNumberLemmas.{between, rising_kept}
 use Rattle.known_inputs.specs.Known.{StandOnce}
 use Rattle.known_inputs.specs.Steps.{place_of}
-use Rattle.net_claims.specs.States.{is_first}
-use Rattle.net_claims.proofs.MoveLemmas.{some_is}
+use Rattle.net_rules.specs.States.{is_first}
+use Rattle.net_rules.proofs.MoveLemmas.{some_is}
 use Rattle.asked_places.specs.Touched.{has, names_of_rows, is_touched}
 use Rattle.asked_places.specs.Losing.{lost_number, lost_row, lost_at, lost_at_places}
 use Rattle.asked_places.proofs.PlaceLemmas.{place_of_first, first_at_place}

@@ -8,8 +8,8 @@ use Rattle.kern_model.proofs.TestLemmas.{bytes_same, same_bytes}
 use Rattle.uci_tree.proofs.FoldLemmas.{position-cons}
 use Rattle.net_rows.specs.declared.rows.InterfaceRow.{InterfaceRow}
 use Rattle.known_inputs.specs.Steps.{place_of}
-use Rattle.net_claims.specs.States.{is_first}
-use Rattle.net_claims.proofs.MoveLemmas.{some_is}
+use Rattle.net_rules.specs.States.{is_first}
+use Rattle.net_rules.proofs.MoveLemmas.{some_is}
 use Rattle.asked_places.specs.Touched.{has, names_of_rows, is_touched}
 
 -- the place in a list that begins with a name

@@ -6,7 +6,7 @@ use Rattle.std.proofs.lemmas.Bool.Decides.{Decides-eqb}
 use Rattle.kern_model.proofs.MemberLemmas.{first_or_later, none_in_nil}
 use Rattle.kern_model.proofs.TestLemmas.{false_of_not}
 use Rattle.net_rules.specs.Numbers.{AreRising}
-use Rattle.net_asked.proofs.AskedLemmas.{filter_alike}
+use Rattle.net_rules.proofs.AskedLemmas.{filter_alike}
 use Rattle.asked_places.specs.Touched.{has}
 
 -- so many numbers from one on

@@ -9,7 +9,7 @@ use Rattle.net_rules.specs.Numbers.{AreRising}
 use Rattle.net_rules.specs.Inputs.{facts_of, open_interface}
 use Rattle.net_rules.specs.Need.{interface_need}
 use Rattle.net_rules.proofs.NeedLemmas.{same_need}
-use Rattle.net_asked.specs.Touched.{touched_rows, touched_asks}
+use Rattle.net_rules.specs.Touched.{touched_rows, touched_asks}
 use Rattle.asked_places.specs.Touched.{is_touched}
 use Rattle.asked_places.specs.Losing.{left_at}
 use Rattle.asked_places.specs.Opening.{opened_at}

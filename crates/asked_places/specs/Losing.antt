@@ -6,8 +6,8 @@ use Rattle.net_rules.specs.declared.inputs.Inputs.{Inputs}
 use Rattle.net_rules.specs.declared.inputs.OpenInterface.{OpenInterface}
 use Rattle.net_rules.specs.Facts.{Facts}
 use Rattle.net_rules.specs.Inputs.{facts_of, open_interface}
-use Rattle.net_asked.specs.Touched.{is_needed, left_asks}
-use Rattle.net_claims.specs.States.{is_first}
+use Rattle.net_rules.specs.Touched.{is_needed, left_asks}
+use Rattle.net_rules.specs.States.{is_first}
 use Rattle.asked_places.specs.Touched.{is_touched}
 
 -- the number of an open ask that is no longer needed

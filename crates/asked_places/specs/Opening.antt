@@ -10,7 +10,7 @@ use Rattle.net_rules.specs.Need.{interface_need}
 use Rattle.net_rules.specs.After.{opened_interfaces}
 use Rattle.net_rules.specs.Notices.{interface_notice}
 use Rattle.known_inputs.specs.Steps.{with_ask}
-use Rattle.net_claims.specs.States.{is_first}
+use Rattle.net_rules.specs.States.{is_first}
 
 -- the need of a row, where the row is the first of its name and has no open ask
 abbrev pub opened_row : Inputs → ℕ → InterfaceRow → Option InterfaceAsk

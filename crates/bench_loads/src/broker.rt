@@ -2,7 +2,8 @@
 //! the other is called by a client, and its owner answers by STATUS. Given is how many answers came back to the callers.
 use plane_io::{Memory, Text};
 use std::alloc::Global;
-use ubus_broker::{Acl, Broker, BrokerError};
+use ubus_acl::Acl;
+use ubus_broker::{Broker, BrokerError};
 use ubus_frames::Frame;
 
 const INVOKE: u8 = 5;

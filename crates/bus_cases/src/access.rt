@@ -1,4 +1,4 @@
-use bus_access::{Acl, fits_front};
+use ubus_acl::{Acl, fits_front};
 
 /// `yes` or `no`.
 fn put_answer(is_so: bool, out: &mut Vec<u8>) -> anyhow::Result<()> {

@@ -1,8 +1,9 @@
 use crate::access::{fits, may};
-use bus_access::{Acl, AclError};
+use bus_clients::ScriptBus;
 use case_files::{Stage, words};
-use script_clients::{LocalCall, ScriptBus};
 use std::alloc::Global;
+use ubus_acl::{Acl, AclError};
+use ubus_table::LocalCall;
 
 /// A bus with its clients, and the calls that it handed out.
 #[derive(Drop)]

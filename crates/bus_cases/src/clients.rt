@@ -1,6 +1,6 @@
 use crate::bench::Bench;
 use crate::told::put_sent;
-use script_clients::ClientError;
+use bus_clients::ClientError;
 use ubus_broker::BrokerError;
 
 impl Bench {

@@ -2,9 +2,9 @@ use crate::bench::Bench;
 use crate::told::{put_call, put_sent};
 use blob_codec::Attr;
 use bus_words::{attributes_of, message_of};
-use script_clients::LocalCall;
 use sqlite_items::Items;
 use ubus_broker::{BrokerError, Served};
+use ubus_table::LocalCall;
 
 impl Bench {
     /// A client sends a message.

@@ -1,10 +1,10 @@
 use blob_codec::json_string;
-use bus_outbox::Outgoing;
 use bus_words::{KINDS, put_frame, put_json};
 use std::alloc::Global;
 use std::fmt::Write;
-use ubus_broker::LocalCall;
 use ubus_frames::Frame;
+use ubus_send::Outgoing;
+use ubus_table::LocalCall;
 
 /// Puts a line for each frame that is sent.
 pub(crate) fn put_sent(

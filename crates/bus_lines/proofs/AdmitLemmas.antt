@@ -12,8 +12,8 @@ use Rattle.rpc_session.specs.SessionList.{SessionList}
 use Rattle.rpc_session.specs.Session.{is_live, may, used_at}
 use Rattle.rpc_session.specs.Sessions.{session_of, only_live, changed, where_present, used, denial, denial_of, Does, IsDenialOf}
 use Rattle.call_texts.specs.Arguments.{with_session}
-use Rattle.local_answers.specs.declared.local_answer.LocalAnswer.{LocalAnswer}
-use Rattle.local_answers.specs.LocalAnswer.{refused, denied}
+use Rattle.rpc_objects.specs.declared.local_answer.LocalAnswer.{LocalAnswer}
+use Rattle.rpc_objects.specs.LocalAnswer.{refused, denied}
 use Rattle.bus_lines.specs.CallLine.{Call, Admits, method_grant}
 
 or_true : (a b : Bool) → (a ≡ false → b ≡ true) → (a || b) ≡ true

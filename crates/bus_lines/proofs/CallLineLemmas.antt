@@ -5,23 +5,23 @@ use Rattle.std.specs.Option.{option_map}
 use Rattle.blob_codec.specs.declared.blob.Attr.{Attr}
 use Rattle.uci_tool.specs.Folder.{Folder}
 use Rattle.rpc_session.specs.SessionList.{SessionList}
-use Rattle.line_texts.specs.declared.line_error.LineError.{LineError}
-use Rattle.line_texts.specs.declared.line_error.LineError.TheVariants as error
-use Rattle.line_texts.specs.declared.call_status.CallStatus.{CallStatus}
-use Rattle.line_texts.specs.ErrorLine.{error_line}
-use Rattle.local_objects.specs.LineMoved.{Telling}
-use Rattle.local_objects.specs.LineTaken.{Asks}
+use Rattle.script_lines.specs.declared.line_error.LineError.{LineError}
+use Rattle.script_lines.specs.declared.line_error.LineError.TheVariants as error
+use Rattle.script_lines.specs.declared.call_status.CallStatus.{CallStatus}
+use Rattle.script_lines.specs.ErrorLine.{error_line}
+use Rattle.step_net.specs.Moved.{Telling}
+use Rattle.step_net.specs.Taken.{Asks}
 use Rattle.call_texts.specs.Arguments.{arguments_of}
 use Rattle.call_texts.specs.ReplyLine.{reply_line}
-use Rattle.local_answers.specs.declared.local_answer.LocalAnswer.{LocalAnswer}
-use Rattle.local_answers.specs.declared.uci_answer.CallStop.{CallStop}
-use Rattle.local_answers.specs.declared.uci_answer.CallStop.TheVariants as stop
-use Rattle.local_answers.specs.LocalAnswer.{refused}
-use Rattle.local_objects.specs.declared.local_object.LocalObject.{LocalObject}
-use Rattle.local_objects.specs.declared.outcome.Outcome.{Outcome}
-use Rattle.local_objects.specs.Object.{of_path}
-use Rattle.local_objects.specs.Calls.{Called, quiet}
-use Rattle.local_objects.specs.Cut.{Cut, CallCuts, IsCutSo, behind_call, untouched}
+use Rattle.rpc_objects.specs.declared.local_answer.LocalAnswer.{LocalAnswer}
+use Rattle.rpc_objects.specs.declared.uci_answer.CallStop.{CallStop}
+use Rattle.rpc_objects.specs.declared.uci_answer.CallStop.TheVariants as stop
+use Rattle.rpc_objects.specs.LocalAnswer.{refused}
+use Rattle.rpc_objects.specs.declared.local_object.LocalObject.{LocalObject}
+use Rattle.rpc_objects.specs.declared.outcome.Outcome.{Outcome}
+use Rattle.rpc_objects.specs.Object.{of_path}
+use Rattle.rpc_objects.specs.Calls.{Called, quiet}
+use Rattle.rpc_objects.specs.Cut.{Cut, CallCuts, IsCutSo, behind_call, untouched}
 use Rattle.bus_lines.specs.declared.caller_line.CallWords.{CallWords}
 use Rattle.bus_lines.specs.declared.handled.Handled.{Handled}
 use Rattle.bus_lines.specs.World.{World, parts_of, with_parts}

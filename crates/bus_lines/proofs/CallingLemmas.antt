@@ -3,17 +3,17 @@ use Rattle.std.proofs.Common.{ℕ, ◌≡◌, List, Bool, refl, ap, subst, sym, 
 use Rattle.std.specs.Prelude.{Result, Err}
 use Rattle.blob_codec.specs.declared.blob.Attr.{Attr}
 use Rattle.uci_tool.specs.Folder.{Folder}
-use Rattle.net_objects.specs.declared.net_object.NetObject.{NetObject}
-use Rattle.local_answers.specs.declared.local_answer.LocalAnswer.{LocalAnswer}
-use Rattle.local_answers.specs.declared.uci_answer.CallStop.{CallStop}
-use Rattle.local_answers.specs.declared.uci_answer.CallStop.TheVariants as stop
-use Rattle.local_objects.specs.declared.local_object.LocalObject.{LocalObject}
-use Rattle.local_objects.specs.declared.local_object.LocalObject.TheVariants.{Session, Uci, Network}
-use Rattle.local_objects.specs.declared.outcome.Outcome.{Outcome}
-use Rattle.local_objects.specs.Calls.{Parts, Called, CallsTo, Reloads, NetworkCalled}
-use Rattle.local_objects.specs.Passed.{CallPasses}
-use Rattle.local_objects.specs.Cut.{Cut, CallCuts, IsCutSo, untouched}
-use Rattle.local_objects.specs.Ended.{Asked, IsCalled, Ends}
+use Rattle.rpc_network.specs.declared.net_object.NetObject.{NetObject}
+use Rattle.rpc_objects.specs.declared.local_answer.LocalAnswer.{LocalAnswer}
+use Rattle.rpc_objects.specs.declared.uci_answer.CallStop.{CallStop}
+use Rattle.rpc_objects.specs.declared.uci_answer.CallStop.TheVariants as stop
+use Rattle.rpc_objects.specs.declared.local_object.LocalObject.{LocalObject}
+use Rattle.rpc_objects.specs.declared.local_object.LocalObject.TheVariants.{Session, Uci, Network}
+use Rattle.rpc_objects.specs.declared.outcome.Outcome.{Outcome}
+use Rattle.rpc_objects.specs.Calls.{Parts, Called, CallsTo, Reloads, NetworkCalled}
+use Rattle.rpc_objects.specs.Passed.{CallPasses}
+use Rattle.rpc_objects.specs.Cut.{Cut, CallCuts, IsCutSo, untouched}
+use Rattle.rpc_objects.specs.Ended.{Asked, IsCalled, Ends}
 use Rattle.bus_lines.specs.World.{World, parts_of, with_parts}
 use Rattle.bus_lines.specs.Words.{Uses, used_by}
 use Rattle.bus_lines.specs.Ended.{Seen, IsHalted}

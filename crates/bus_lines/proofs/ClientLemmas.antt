@@ -5,18 +5,18 @@ use Rattle.std.specs.Option.{option_map}
 use Rattle.kern_model.specs.declared.kernel.Asked.{Asked}
 use Rattle.ubus_frames.specs.declared.frame_error.FrameError.{FrameError}
 use Rattle.uci_tool.specs.Folder.{Folder}
-use Rattle.line_texts.specs.ErrorLine.{error_line}
-use Rattle.local_objects.specs.LineMoved.{Telling}
-use Rattle.script_clients.specs.declared.client_error.ClientError.{ClientError}
-use Rattle.script_clients.specs.declared.client_error.ClientError.TheVariants as client
-use Rattle.script_clients.specs.declared.clients.Fed.{Fed}
-use Rattle.script_clients.specs.declared.clients.ScriptClient.{ScriptClient}
-use Rattle.script_clients.specs.Clients.{client_at}
-use Rattle.script_clients.specs.Fed.{HasFed}
-use Rattle.script_clients.specs.Bus.{BusPart, Came, closed}
-use Rattle.local_answers.specs.declared.uci_answer.CallStop.{CallStop}
-use Rattle.local_answers.specs.declared.uci_answer.CallStop.TheVariants as stop
-use Rattle.local_objects.specs.Cut.{IsCutSo, untouched}
+use Rattle.script_lines.specs.ErrorLine.{error_line}
+use Rattle.step_net.specs.Moved.{Telling}
+use Rattle.bus_clients.specs.declared.client_error.ClientError.{ClientError}
+use Rattle.bus_clients.specs.declared.client_error.ClientError.TheVariants as client
+use Rattle.bus_clients.specs.declared.clients.Fed.{Fed}
+use Rattle.bus_clients.specs.declared.clients.ScriptClient.{ScriptClient}
+use Rattle.bus_clients.specs.Clients.{client_at}
+use Rattle.bus_clients.specs.Fed.{HasFed}
+use Rattle.bus_clients.specs.Bus.{BusPart, Came, closed}
+use Rattle.rpc_objects.specs.declared.uci_answer.CallStop.{CallStop}
+use Rattle.rpc_objects.specs.declared.uci_answer.CallStop.TheVariants as stop
+use Rattle.rpc_objects.specs.Cut.{IsCutSo, untouched}
 use Rattle.bus_lines.specs.declared.gathered.Gathered.{Gathered}
 use Rattle.bus_lines.specs.declared.handled.Handled.{Handled}
 use Rattle.bus_lines.specs.World.{World}

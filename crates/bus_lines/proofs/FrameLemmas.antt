@@ -3,20 +3,20 @@ use Rattle.std.proofs.Common.{ℕ, ◌≡◌, List, [], ◌++◌, Option, Some, 
 use Rattle.std.specs.Prelude.{Result, Ok, Err}
 use Rattle.std.specs.Option.{option_map}
 use Rattle.ubus_frames.specs.declared.frame.Frame.{Frame}
-use Rattle.bus_table.specs.declared.rows.LocalCall.{LocalCall}
-use Rattle.bus_table.specs.Served.{frame as frame_event, local_reply}
+use Rattle.ubus_table.specs.declared.rows.LocalCall.{LocalCall}
+use Rattle.ubus_table.specs.Served.{frame as frame_event, local_reply}
 use Rattle.uci_tool.specs.Folder.{Folder}
-use Rattle.line_texts.specs.ErrorLine.{error_line}
-use Rattle.local_objects.specs.LineTaken.{Asks}
-use Rattle.script_clients.specs.Bus.{BusPart, Came, came_by}
-use Rattle.local_answers.specs.declared.local_answer.LocalAnswer.{LocalAnswer}
-use Rattle.local_answers.specs.declared.uci_answer.CallStop.{CallStop}
-use Rattle.local_answers.specs.declared.uci_answer.CallStop.TheVariants as stop
-use Rattle.local_objects.specs.declared.local_object.LocalObject.{LocalObject}
-use Rattle.local_objects.specs.declared.outcome.Outcome.{Outcome}
-use Rattle.local_objects.specs.Object.{of_number}
-use Rattle.local_objects.specs.Calls.{Called}
-use Rattle.local_objects.specs.Cut.{Cut, CallCuts, behind_call}
+use Rattle.script_lines.specs.ErrorLine.{error_line}
+use Rattle.step_net.specs.Taken.{Asks}
+use Rattle.bus_clients.specs.Bus.{BusPart, Came, came_by}
+use Rattle.rpc_objects.specs.declared.local_answer.LocalAnswer.{LocalAnswer}
+use Rattle.rpc_objects.specs.declared.uci_answer.CallStop.{CallStop}
+use Rattle.rpc_objects.specs.declared.uci_answer.CallStop.TheVariants as stop
+use Rattle.rpc_objects.specs.declared.local_object.LocalObject.{LocalObject}
+use Rattle.rpc_objects.specs.declared.outcome.Outcome.{Outcome}
+use Rattle.rpc_objects.specs.Object.{of_number}
+use Rattle.rpc_objects.specs.Calls.{Called}
+use Rattle.rpc_objects.specs.Cut.{Cut, CallCuts, behind_call}
 use Rattle.bus_lines.specs.declared.gathered.Gathered.{Gathered}
 use Rattle.bus_lines.specs.World.{World}
 use Rattle.bus_lines.specs.Words.{Uses}

@@ -6,15 +6,15 @@ use Rattle.plane_words.specs.Causes.{RoseBy}
 use Rattle.kern_model.specs.declared.kernel.Asked.{Asked}
 use Rattle.kern_model.specs.Kernel.{Records}
 use Rattle.ubus_frames.specs.declared.frame.Frame.{Frame}
-use Rattle.bus_table.specs.declared.rows.LocalCall.{LocalCall}
-use Rattle.bus_table.specs.Served.{frame as frame_event}
-use Rattle.line_texts.specs.ErrorLine.{error_line}
-use Rattle.local_objects.specs.LineMoved.{failed_events}
-use Rattle.script_clients.specs.Bus.{BusPart, came_by}
-use Rattle.local_answers.specs.declared.uci_answer.CallStop.{CallStop}
-use Rattle.local_answers.specs.declared.uci_answer.CallStop.TheVariants as stop
-use Rattle.local_objects.specs.Cut.{Cut, untouched}
-use Rattle.local_objects.specs.Kept.{DiskFaults, DiskRose}
+use Rattle.ubus_table.specs.declared.rows.LocalCall.{LocalCall}
+use Rattle.ubus_table.specs.Served.{frame as frame_event}
+use Rattle.script_lines.specs.ErrorLine.{error_line}
+use Rattle.step_net.specs.Moved.{failed_events}
+use Rattle.bus_clients.specs.Bus.{BusPart, came_by}
+use Rattle.rpc_objects.specs.declared.uci_answer.CallStop.{CallStop}
+use Rattle.rpc_objects.specs.declared.uci_answer.CallStop.TheVariants as stop
+use Rattle.rpc_objects.specs.Cut.{Cut, untouched}
+use Rattle.rpc_objects.specs.Kept.{DiskFaults, DiskRose}
 use Rattle.bus_lines.specs.declared.gathered.Gathered.{Gathered}
 use Rattle.bus_lines.specs.World.{World, parts_of}
 use Rattle.bus_lines.specs.Words.{Supply, Uses}

@@ -14,10 +14,10 @@ use Rattle.uci_store.specs.Store.{snap_of}
 use Rattle.uci_tool.specs.Answers.{IsOpen}
 use Rattle.uci_tool.specs.Folder.{Folder}
 use Rattle.uci_tool.proofs.StageLemmas.{follows_itself}
-use Rattle.local_answers.specs.declared.uci_answer.CallStop.{CallStop}
-use Rattle.local_answers.specs.declared.uci_answer.CallStop.TheVariants as stop
-use Rattle.local_objects.specs.Kept.{StaysOn, DiskRose}
-use Rattle.local_objects.specs.Passed.{OpensIn, StopsIn, StaysOrStopsIn}
+use Rattle.rpc_objects.specs.declared.uci_answer.CallStop.{CallStop}
+use Rattle.rpc_objects.specs.declared.uci_answer.CallStop.TheVariants as stop
+use Rattle.rpc_objects.specs.Kept.{StaysOn, DiskRose}
+use Rattle.rpc_objects.specs.Passed.{OpensIn, StopsIn, StaysOrStopsIn}
 
 -- nothing was done
 pub stays_itself : {X : Type 0} (result : Result X CallStop) (store : Store) (files staged : View)

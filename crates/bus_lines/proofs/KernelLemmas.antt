@@ -3,10 +3,10 @@ use Rattle.std.proofs.Common.{arith, ℕ, ◌≡◌, ◌+◌, List, [], ◌∷�
 use Rattle.plane_words.specs.Causes.{RoseBy}
 use Rattle.kern_model.specs.declared.kernel.Asked.{Asked}
 use Rattle.net_rules.specs.Moment.{Moment}
-use Rattle.local_objects.specs.LineMoved.{once_if, failed_events}
-use Rattle.local_objects.specs.LineTaken.{Telled, Asks}
-use Rattle.local_objects.proofs.GrowthLemmas.{records_none, records_more}
-use Rattle.local_objects.specs.Cut.{Cut, IsCutSo, untouched}
+use Rattle.step_net.specs.Moved.{once_if, failed_events}
+use Rattle.step_net.specs.Taken.{Telled, Asks}
+use Rattle.step_net.proofs.GrowthLemmas.{records_none, records_more}
+use Rattle.rpc_objects.specs.Cut.{Cut, IsCutSo, untouched}
 use Rattle.bus_lines.specs.Ended.{AsksBy}
 
 -- a kernel that is the same

@@ -18,5 +18,3 @@ pub mod FramesLemmas
 pub mod ToldLemmas
 -- lines of clients
 pub mod ClientLemmas
--- calls of local objects, as their crate tells them
-pub use Rattle.local_objects.proofs.StoreLemmas as ObjectsStoreLemmas

@@ -3,10 +3,10 @@ use Rattle.std.proofs.Common.{ℕ, ◌≡◌, List, [], Option, Some, None, refl
 use Rattle.std.specs.Prelude.{Result, Ok, Err, IfOk}
 use Rattle.std.specs.Option.{option_map}
 use Rattle.ubus_frames.specs.declared.frame_error.FrameError.{FrameError}
-use Rattle.line_texts.specs.ErrorLine.{error_line}
-use Rattle.script_clients.specs.declared.client_error.ClientError.{ClientError}
-use Rattle.script_clients.specs.declared.client_error.ClientError.TheVariants as client
-use Rattle.script_clients.specs.Bus.{BusPart, Came, Answers}
+use Rattle.script_lines.specs.ErrorLine.{error_line}
+use Rattle.bus_clients.specs.declared.client_error.ClientError.{ClientError}
+use Rattle.bus_clients.specs.declared.client_error.ClientError.TheVariants as client
+use Rattle.bus_clients.specs.Bus.{BusPart, Came, Answers}
 use Rattle.bus_lines.specs.declared.handled.Handled.{Handled}
 use Rattle.bus_lines.specs.ClientLine.{error_of, fault_error}
 use Rattle.bus_lines.specs.Replied.{TellsError}

@@ -7,18 +7,18 @@ use Rattle.rpc_session.specs.declared.denied.Denied.TheVariants.{Missing}
 use Rattle.rpc_session.specs.declared.session_error.SessionError.{SessionError}
 use Rattle.rpc_session.specs.SessionList.{SessionList}
 use Rattle.rpc_session.specs.Sessions.{used, denial}
-use Rattle.line_texts.specs.declared.call_status.CallStatus.{CallStatus}
-use Rattle.line_texts.specs.declared.call_status.CallStatus.TheVariants as status
-use Rattle.line_texts.specs.declared.line_error.LineError.{LineError}
-use Rattle.line_texts.specs.declared.line_error.LineError.TheVariants as error
-use Rattle.local_objects.specs.LineMoved.{fails_first}
+use Rattle.script_lines.specs.declared.call_status.CallStatus.{CallStatus}
+use Rattle.script_lines.specs.declared.call_status.CallStatus.TheVariants as status
+use Rattle.script_lines.specs.declared.line_error.LineError.{LineError}
+use Rattle.script_lines.specs.declared.line_error.LineError.TheVariants as error
+use Rattle.step_net.specs.Moved.{fails_first}
 use Rattle.call_texts.specs.Arguments.{arguments_of, with_session}
 use Rattle.call_texts.specs.ReplyLine.{reply_line}
-use Rattle.local_answers.specs.declared.local_answer.LocalAnswer.{LocalAnswer}
-use Rattle.local_answers.specs.LocalAnswer.{refused as answers_status, denied}
-use Rattle.local_objects.specs.declared.local_object.LocalObject.{LocalObject}
-use Rattle.local_objects.specs.Object.{of_path}
-use Rattle.local_objects.specs.Calls.{Parts, Called, CallsTo, quiet}
+use Rattle.rpc_objects.specs.declared.local_answer.LocalAnswer.{LocalAnswer}
+use Rattle.rpc_objects.specs.LocalAnswer.{refused as answers_status, denied}
+use Rattle.rpc_objects.specs.declared.local_object.LocalObject.{LocalObject}
+use Rattle.rpc_objects.specs.Object.{of_path}
+use Rattle.rpc_objects.specs.Calls.{Parts, Called, CallsTo, quiet}
 use Rattle.bus_lines.specs.declared.caller_line.CallWords.{CallWords}
 use Rattle.bus_lines.specs.World.{World, parts_of, with_parts}
 use Rattle.bus_lines.specs.Words.{used_by, first_word}

@@ -1,6 +1,6 @@
 -- What a line of a call or of a client does.
 use Rattle.std.specs.Prelude.{ℕ, ◌≡◌, List, Bool}
-use Rattle.local_objects.specs.LineMoved.{fails_first}
+use Rattle.step_net.specs.Moved.{fails_first}
 use Rattle.bus_lines.specs.declared.caller_line.CallerLine.{CallerLine}
 use Rattle.bus_lines.specs.declared.caller_line.CallerLine.TheVariants as line
 use Rattle.bus_lines.specs.World.{World}

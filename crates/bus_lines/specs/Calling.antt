@@ -3,16 +3,16 @@ use Rattle.std.specs.Prelude.{ℕ, ◌≡◌, List, Bool, Result, Ok, Err}
 use Rattle.std.specs.Option.{option_map}
 use Rattle.blob_codec.specs.declared.blob.Attr.{Attr}
 use Rattle.uci_tool.specs.Folder.{Folder}
-use Rattle.line_texts.specs.ErrorLine.{error_line}
-use Rattle.local_objects.specs.LineTaken.{Telled, Asks}
-use Rattle.local_answers.specs.declared.uci_answer.CallStop.{CallStop}
-use Rattle.local_answers.specs.declared.uci_answer.CallStop.TheVariants as stop
-use Rattle.local_objects.specs.declared.local_object.LocalObject.{LocalObject}
-use Rattle.local_objects.specs.declared.outcome.Outcome.{Outcome}
-use Rattle.local_objects.specs.Calls.{Called, CallsTo}
-use Rattle.local_objects.specs.Passed.{CallPasses}
-use Rattle.local_objects.specs.Cut.{Cut, CallCuts}
-use Rattle.local_objects.specs.Kept.{DiskFaults}
+use Rattle.script_lines.specs.ErrorLine.{error_line}
+use Rattle.step_net.specs.Taken.{Telled, Asks}
+use Rattle.rpc_objects.specs.declared.uci_answer.CallStop.{CallStop}
+use Rattle.rpc_objects.specs.declared.uci_answer.CallStop.TheVariants as stop
+use Rattle.rpc_objects.specs.declared.local_object.LocalObject.{LocalObject}
+use Rattle.rpc_objects.specs.declared.outcome.Outcome.{Outcome}
+use Rattle.rpc_objects.specs.Calls.{Called, CallsTo}
+use Rattle.rpc_objects.specs.Passed.{CallPasses}
+use Rattle.rpc_objects.specs.Cut.{Cut, CallCuts}
+use Rattle.rpc_objects.specs.Kept.{DiskFaults}
 use Rattle.bus_lines.specs.declared.callers.Callers.{Callers}
 use Rattle.bus_lines.specs.World.{World, parts_of, with_parts}
 use Rattle.bus_lines.specs.Words.{Supply, Uses, used_by, supply_of}

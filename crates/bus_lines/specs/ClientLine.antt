@@ -3,22 +3,22 @@ use Rattle.std.specs.Prelude.{ℕ, ◌≡◌, List, [], ◌∷◌, ◌++◌, Boo
 use Rattle.ubus_frames.specs.declared.frame.Frame.{Frame}
 use Rattle.ubus_frames.specs.declared.frame_error.FrameError.{FrameError}
 use Rattle.ubus_frames.specs.declared.frame_error.FrameError.TheVariants as fault
-use Rattle.bus_table.specs.declared.rows.LocalCall.{LocalCall}
-use Rattle.bus_table.specs.Served.{frame as frame_event, local_reply}
-use Rattle.line_texts.specs.declared.line_error.LineError.{LineError}
-use Rattle.line_texts.specs.declared.line_error.LineError.TheVariants as error
-use Rattle.script_clients.specs.declared.client_error.ClientError.{ClientError}
-use Rattle.script_clients.specs.declared.client_error.ClientError.TheVariants as client
-use Rattle.script_clients.specs.declared.clients.Fed.{Fed}
-use Rattle.script_clients.specs.declared.clients.ScriptClient.{ScriptClient}
-use Rattle.script_clients.specs.Clients.{client_at}
-use Rattle.script_clients.specs.Fed.{HasFed}
-use Rattle.script_clients.specs.Bus.{Came, came_by, opened, closed}
-use Rattle.local_answers.specs.declared.uci_answer.CallStop.{CallStop}
-use Rattle.local_answers.specs.declared.uci_answer.CallStop.TheVariants as stop
-use Rattle.local_objects.specs.declared.local_object.LocalObject.{LocalObject}
-use Rattle.local_objects.specs.Object.{of_number}
-use Rattle.local_objects.specs.Calls.{Called, CallsTo}
+use Rattle.ubus_table.specs.declared.rows.LocalCall.{LocalCall}
+use Rattle.ubus_table.specs.Served.{frame as frame_event, local_reply}
+use Rattle.script_lines.specs.declared.line_error.LineError.{LineError}
+use Rattle.script_lines.specs.declared.line_error.LineError.TheVariants as error
+use Rattle.bus_clients.specs.declared.client_error.ClientError.{ClientError}
+use Rattle.bus_clients.specs.declared.client_error.ClientError.TheVariants as client
+use Rattle.bus_clients.specs.declared.clients.Fed.{Fed}
+use Rattle.bus_clients.specs.declared.clients.ScriptClient.{ScriptClient}
+use Rattle.bus_clients.specs.Clients.{client_at}
+use Rattle.bus_clients.specs.Fed.{HasFed}
+use Rattle.bus_clients.specs.Bus.{Came, came_by, opened, closed}
+use Rattle.rpc_objects.specs.declared.uci_answer.CallStop.{CallStop}
+use Rattle.rpc_objects.specs.declared.uci_answer.CallStop.TheVariants as stop
+use Rattle.rpc_objects.specs.declared.local_object.LocalObject.{LocalObject}
+use Rattle.rpc_objects.specs.Object.{of_number}
+use Rattle.rpc_objects.specs.Calls.{Called, CallsTo}
 use Rattle.bus_lines.specs.World.{World, parts_of, with_parts}
 use Rattle.bus_lines.specs.Words.{used_by}
 use Rattle.bus_lines.specs.Did.{Did, nothing_did, refused_did, followed}

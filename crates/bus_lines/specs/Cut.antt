@@ -2,18 +2,18 @@
 use Rattle.std.specs.Prelude.{ℕ, ◌≡◌, ◌+◌, List, ◌∷◌, ◌++◌, Bool, Some, Ok}
 use Rattle.blob_codec.specs.declared.blob.Attr.{Attr}
 use Rattle.ubus_frames.specs.declared.frame.Frame.{Frame}
-use Rattle.bus_table.specs.declared.rows.LocalCall.{LocalCall}
-use Rattle.bus_table.specs.Served.{frame as frame_event}
+use Rattle.ubus_table.specs.declared.rows.LocalCall.{LocalCall}
+use Rattle.ubus_table.specs.Served.{frame as frame_event}
 use Rattle.rpc_session.specs.SessionList.{SessionList}
-use Rattle.local_objects.specs.LineMoved.{failed_events}
+use Rattle.step_net.specs.Moved.{failed_events}
 use Rattle.call_texts.specs.Arguments.{arguments_of}
-use Rattle.script_clients.specs.declared.clients.Fed.{Fed}
-use Rattle.script_clients.specs.declared.clients.ScriptClient.{ScriptClient}
-use Rattle.script_clients.specs.Fed.{HasFed}
-use Rattle.script_clients.specs.Bus.{came_by}
-use Rattle.local_objects.specs.declared.local_object.LocalObject.{LocalObject}
-use Rattle.local_objects.specs.Object.{of_path, of_number}
-use Rattle.local_objects.specs.Cut.{Cut, untouched, CallCuts}
+use Rattle.bus_clients.specs.declared.clients.Fed.{Fed}
+use Rattle.bus_clients.specs.declared.clients.ScriptClient.{ScriptClient}
+use Rattle.bus_clients.specs.Fed.{HasFed}
+use Rattle.bus_clients.specs.Bus.{came_by}
+use Rattle.rpc_objects.specs.declared.local_object.LocalObject.{LocalObject}
+use Rattle.rpc_objects.specs.Object.{of_path, of_number}
+use Rattle.rpc_objects.specs.Cut.{Cut, untouched, CallCuts}
 use Rattle.bus_lines.specs.declared.caller_line.CallWords.{CallWords}
 use Rattle.bus_lines.specs.declared.caller_line.CallerLine.{CallerLine}
 use Rattle.bus_lines.specs.declared.caller_line.CallerLine.TheVariants as line

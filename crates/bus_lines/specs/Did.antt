@@ -1,7 +1,7 @@
 -- What a line did before its settling.
 use Rattle.std.specs.Prelude.{ℕ, List, [], ◌++◌, Option, Some, None}
 use Rattle.kern_model.specs.declared.kernel.Asked.{Asked}
-use Rattle.line_texts.specs.declared.line_error.LineError.{LineError}
+use Rattle.script_lines.specs.declared.line_error.LineError.{LineError}
 use Rattle.bus_lines.specs.World.{World}
 
 -- The world behind it, what the kernel was asked, the lines of sends, of asks and of the reply, why the line is refused, if it is, and the

@@ -6,15 +6,15 @@ use Rattle.kern_model.specs.declared.kernel.Asked.{Asked}
 use Rattle.kern_model.specs.Kernel.{Records}
 use Rattle.uci_store.specs.declared.store.Store.{Store}
 use Rattle.uci_tool.specs.Folder.{Folder, folder_of}
-use Rattle.local_objects.specs.Network.{Network, moment_of}
-use Rattle.line_texts.specs.ErrorLine.{error_line}
-use Rattle.local_objects.specs.LineMoved.{failed_events}
-use Rattle.local_objects.specs.LineTaken.{Telled}
-use Rattle.local_answers.specs.declared.uci_answer.CallStop.{CallStop}
-use Rattle.local_answers.specs.declared.uci_answer.CallStop.TheVariants as stop
-use Rattle.script_clients.specs.Bus.{part_of}
-use Rattle.local_objects.specs.Cut.{Cut, IsCutSo}
-use Rattle.local_objects.specs.Kept.{DiskFaults, DiskRose}
+use Rattle.net_plane.specs.Network.{Network, moment_of}
+use Rattle.script_lines.specs.ErrorLine.{error_line}
+use Rattle.step_net.specs.Moved.{failed_events}
+use Rattle.step_net.specs.Taken.{Telled}
+use Rattle.rpc_objects.specs.declared.uci_answer.CallStop.{CallStop}
+use Rattle.rpc_objects.specs.declared.uci_answer.CallStop.TheVariants as stop
+use Rattle.bus_clients.specs.Bus.{part_of}
+use Rattle.rpc_objects.specs.Cut.{Cut, IsCutSo}
+use Rattle.rpc_objects.specs.Kept.{DiskFaults, DiskRose}
 use Rattle.bus_lines.specs.declared.callers.Callers.{Callers}
 use Rattle.bus_lines.specs.declared.handled.Handled.{Handled}
 use Rattle.bus_lines.specs.World.{World}

@@ -2,16 +2,16 @@
 use Rattle.std.specs.Prelude.{ℕ, ◌≡◌, List, Bool, Some, Result, Ok, Err}
 use Rattle.std.specs.Option.{option_map}
 use Rattle.ubus_frames.specs.declared.frame.Frame.{Frame}
-use Rattle.bus_table.specs.declared.rows.LocalCall.{LocalCall}
+use Rattle.ubus_table.specs.declared.rows.LocalCall.{LocalCall}
 use Rattle.uci_tool.specs.Folder.{Folder}
-use Rattle.line_texts.specs.ErrorLine.{error_line}
-use Rattle.local_objects.specs.LineTaken.{Asks}
-use Rattle.local_answers.specs.declared.uci_answer.CallStop.{CallStop}
-use Rattle.local_answers.specs.declared.uci_answer.CallStop.TheVariants as stop
-use Rattle.script_clients.specs.declared.clients.Fed.{Fed}
-use Rattle.local_objects.specs.declared.local_object.LocalObject.{LocalObject}
-use Rattle.local_objects.specs.Object.{of_number}
-use Rattle.local_objects.specs.Cut.{Cut, CallCuts, untouched}
+use Rattle.script_lines.specs.ErrorLine.{error_line}
+use Rattle.step_net.specs.Taken.{Asks}
+use Rattle.rpc_objects.specs.declared.uci_answer.CallStop.{CallStop}
+use Rattle.rpc_objects.specs.declared.uci_answer.CallStop.TheVariants as stop
+use Rattle.bus_clients.specs.declared.clients.Fed.{Fed}
+use Rattle.rpc_objects.specs.declared.local_object.LocalObject.{LocalObject}
+use Rattle.rpc_objects.specs.Object.{of_number}
+use Rattle.rpc_objects.specs.Cut.{Cut, CallCuts, untouched}
 use Rattle.bus_lines.specs.declared.gathered.Gathered.{Gathered}
 use Rattle.bus_lines.specs.World.{World, parts_of}
 use Rattle.bus_lines.specs.Words.{Uses}

@@ -1,9 +1,9 @@
 -- What is gathered of the frames of a line: the lines of sends and of asks, and the first refusal.
 use Rattle.std.specs.Prelude.{◌≡◌, ◌++◌}
 use Rattle.std.specs.Option.{option_map}
-use Rattle.line_texts.specs.ErrorLine.{error_line}
-use Rattle.script_clients.specs.Bus.{BusPart, Came, IsTold}
-use Rattle.local_objects.specs.declared.outcome.Outcome.{Outcome}
+use Rattle.script_lines.specs.ErrorLine.{error_line}
+use Rattle.bus_clients.specs.Bus.{BusPart, Came, IsTold}
+use Rattle.rpc_objects.specs.declared.outcome.Outcome.{Outcome}
 use Rattle.bus_lines.specs.declared.gathered.Gathered.{Gathered}
 use Rattle.bus_lines.specs.Did.{Did, first_of}
 

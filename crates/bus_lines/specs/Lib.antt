@@ -28,9 +28,3 @@ pub mod Frames
 pub mod Replied
 -- clients that open and close, and the end of a line of bytes
 pub mod Told
--- calls of local objects, as their crate tells them
-pub use Rattle.local_objects.specs.Cut as ObjectsCut
-pub use Rattle.local_objects.specs.Kept as ObjectsKept
-pub use Rattle.local_objects.specs.Passed as ObjectsPassed
--- what scripts keep of the message bus
-pub use Rattle.script_clients.specs.Bus as ClientBus

@@ -1,15 +1,15 @@
 -- What is told of a line that calls a method.
 use Rattle.std.specs.Prelude.{ℕ, ◌≡◌, ◌++◌, List, [], Option, None, false}
 use Rattle.std.specs.Option.{option_map}
-use Rattle.line_texts.specs.declared.line_error.LineError.{LineError}
-use Rattle.line_texts.specs.declared.line_error.LineError.TheVariants as error
-use Rattle.line_texts.specs.ErrorLine.{error_line}
-use Rattle.local_objects.specs.LineTold.{Told}
-use Rattle.local_objects.specs.LineTells.{refused}
-use Rattle.local_objects.specs.LineTaken.{telling_in}
+use Rattle.script_lines.specs.declared.line_error.LineError.{LineError}
+use Rattle.script_lines.specs.declared.line_error.LineError.TheVariants as error
+use Rattle.script_lines.specs.ErrorLine.{error_line}
+use Rattle.step_net.specs.declared.told.Told.{Told}
+use Rattle.step_net.specs.Told.{refused}
+use Rattle.step_net.specs.Taken.{telling_in}
 use Rattle.call_texts.specs.ReplyLine.{reply_line}
-use Rattle.local_answers.specs.declared.local_answer.LocalAnswer.{LocalAnswer}
-use Rattle.local_objects.specs.declared.outcome.Outcome.{Outcome}
+use Rattle.rpc_objects.specs.declared.local_answer.LocalAnswer.{LocalAnswer}
+use Rattle.rpc_objects.specs.declared.outcome.Outcome.{Outcome}
 use Rattle.bus_lines.specs.declared.handled.Handled.{Handled}
 use Rattle.bus_lines.specs.Did.{first_of}
 use Rattle.bus_lines.specs.CallLine.{status_at}

@@ -2,13 +2,13 @@
 use Rattle.std.specs.Prelude.{ℕ, ◌≡◌, ◌≢◌, ◌++◌, List, [], Option, Some, None, Result, Ok, Err}
 use Rattle.std.specs.Option.{option_map}
 use Rattle.ubus_frames.specs.declared.frame_error.FrameError.{FrameError}
-use Rattle.line_texts.specs.declared.line_error.LineError.{LineError}
-use Rattle.line_texts.specs.ErrorLine.{error_line}
-use Rattle.local_objects.specs.LineTells.{shown}
-use Rattle.local_objects.specs.LineTaken.{telling_in}
-use Rattle.script_clients.specs.declared.client_error.ClientError.{ClientError}
-use Rattle.script_clients.specs.declared.client_error.ClientError.TheVariants as client
-use Rattle.script_clients.specs.Bus.{BusPart, Came, closed}
+use Rattle.script_lines.specs.declared.line_error.LineError.{LineError}
+use Rattle.script_lines.specs.ErrorLine.{error_line}
+use Rattle.step_net.specs.Told.{shown}
+use Rattle.step_net.specs.Taken.{telling_in}
+use Rattle.bus_clients.specs.declared.client_error.ClientError.{ClientError}
+use Rattle.bus_clients.specs.declared.client_error.ClientError.TheVariants as client
+use Rattle.bus_clients.specs.Bus.{BusPart, Came, closed}
 use Rattle.bus_lines.specs.declared.handled.Handled.{Handled}
 use Rattle.bus_lines.specs.declared.gathered.Gathered.{Gathered}
 use Rattle.bus_lines.specs.ClientLine.{error_of, fault_error}

@@ -3,8 +3,8 @@ use Rattle.std.specs.Prelude.{ℕ}
 use Rattle.uci_tool.specs.Folder.{Folder}
 use Rattle.rpc_session.specs.SessionList.{SessionList}
 use Rattle.net_rules.specs.Moment.{Moment}
-use Rattle.script_clients.specs.Bus.{BusPart}
-use Rattle.local_objects.specs.Calls.{Parts}
+use Rattle.bus_clients.specs.Bus.{BusPart}
+use Rattle.rpc_objects.specs.Calls.{Parts}
 
 -- the moment in seconds, the files, the sessions, the message bus with the clients of the script, and the plane of interfaces with what
 -- the kernel holds

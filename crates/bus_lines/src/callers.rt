@@ -1,14 +1,14 @@
 ghost use Rattle.std.specs.Prelude.{◌≡◌, [], Some, None, IfOk, if◌then◌else◌};
 ghost use Rattle.rpc_session.specs.Sessions as sessions_spec;
-ghost use Rattle.script_clients.specs.Bus.{part_of, begun};
+ghost use Rattle.bus_clients.specs.Bus.{part_of, begun};
 ghost use Rattle.bus_lines.specs.Words as spec;
 
-use bus_access::Acl;
+use bus_clients::ScriptBus;
 use plane_io::Memory;
 use plane_outside::Random;
 use rpc_session::Sessions;
-use script_clients::ScriptBus;
 use std::alloc::Global;
+use ubus_acl::Acl;
 
 /// A random word that was taken from a source and not used yet, if there is one.
 #[derive(Clone, Copy)]

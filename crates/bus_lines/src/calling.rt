@@ -1,20 +1,20 @@
 //! Calls with the next random word.
 ghost use Rattle.std.specs.Prelude.{◌≡◌, [], OnOk};
 ghost use Rattle.uci_tool.specs.Answers.{IsOpen};
-ghost use Rattle.local_objects.specs.Network.{IsOf};
-ghost use Rattle.local_objects.specs.LineTaken.{telled_of};
-ghost use Rattle.local_objects.specs.Passed.{StaysOrStopsIn};
-ghost use Rattle.local_objects.specs.Kept.{StaysOn, faults_of};
+ghost use Rattle.net_plane.specs.Network.{IsOf};
+ghost use Rattle.step_net.specs.Taken.{telled_of};
+ghost use Rattle.rpc_objects.specs.Passed.{StaysOrStopsIn};
+ghost use Rattle.rpc_objects.specs.Kept.{StaysOn, faults_of};
 ghost use Rattle.bus_lines.specs.Ended.{world_of};
 ghost use Rattle.bus_lines.specs.Calling as spec;
 
 use crate::callers::Callers;
 use blob_codec::Attr;
 use kern_model::Kernel;
-use local_answers::CallStop;
-use local_objects::{LocalObject, Net, Outcome, call_object};
+use net_plane::Net;
 use plane_disk::Disk;
 use plane_outside::Random;
+use rpc_objects::{CallStop, LocalObject, Outcome, call_object};
 use std::alloc::Global;
 use uci_store::Store;
 

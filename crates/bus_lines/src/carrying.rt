@@ -1,9 +1,9 @@
 ghost use Rattle.std.specs.Prelude.{◌≡◌, [], OnOk};
 ghost use Rattle.uci_tool.specs.Answers.{IsOpen};
-ghost use Rattle.local_objects.specs.Network.{IsOf};
-ghost use Rattle.local_objects.specs.LineTaken.{telled_of};
-ghost use Rattle.local_objects.specs.Passed.{StaysOrStopsIn};
-ghost use Rattle.local_objects.specs.Kept.{StaysOn, faults_of};
+ghost use Rattle.net_plane.specs.Network.{IsOf};
+ghost use Rattle.step_net.specs.Taken.{telled_of};
+ghost use Rattle.rpc_objects.specs.Passed.{StaysOrStopsIn};
+ghost use Rattle.rpc_objects.specs.Kept.{StaysOn, faults_of};
 ghost use Rattle.bus_lines.specs.Words.{supply_of};
 ghost use Rattle.bus_lines.specs.CallerLine.{LineDoes};
 ghost use Rattle.bus_lines.specs.Passed.{LinePasses};
@@ -17,10 +17,10 @@ use crate::client_line::{client_bytes, or_memory};
 use crate::handled::Handled;
 use crate::told::{close_client, open_client};
 use kern_model::Kernel;
-use local_answers::CallStop;
-use local_objects::Net;
+use net_plane::Net;
 use plane_disk::Disk;
 use plane_outside::Random;
+use rpc_objects::CallStop;
 use std::alloc::Global;
 use uci_store::Store;
 

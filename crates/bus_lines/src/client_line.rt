@@ -1,10 +1,10 @@
 //! Lines of bytes that a client sends.
 ghost use Rattle.std.specs.Prelude.{◌≡◌, [], OnOk};
 ghost use Rattle.uci_tool.specs.Answers.{IsOpen};
-ghost use Rattle.local_objects.specs.Network.{IsOf};
-ghost use Rattle.local_objects.specs.LineTaken.{telled_of};
-ghost use Rattle.local_objects.specs.Passed.{StaysOrStopsIn};
-ghost use Rattle.local_objects.specs.Kept.{StaysOn, faults_of};
+ghost use Rattle.net_plane.specs.Network.{IsOf};
+ghost use Rattle.step_net.specs.Taken.{telled_of};
+ghost use Rattle.rpc_objects.specs.Passed.{StaysOrStopsIn};
+ghost use Rattle.rpc_objects.specs.Kept.{StaysOn, faults_of};
 ghost use Rattle.bus_lines.specs.Ended.{Ends, world_of};
 ghost use Rattle.bus_lines.specs.Calling.{seen_by};
 ghost use Rattle.bus_lines.specs.Cut.{BytesCut, FramesCut};
@@ -16,13 +16,13 @@ use crate::callers::Callers;
 use crate::frames::serve_frames;
 use crate::handled::Handled;
 use crate::told::{end_bytes, refuse_client};
+use bus_clients::{ClientError, Fed};
 use kern_model::Kernel;
-use local_answers::CallStop;
-use local_objects::Net;
+use net_plane::Net;
 use plane_disk::Disk;
 use plane_io::{Memory, Text};
 use plane_outside::Random;
-use script_clients::{ClientError, Fed};
+use rpc_objects::CallStop;
 use std::alloc::Global;
 use uci_store::Store;
 

@@ -1,10 +1,10 @@
 //! Frames that are served.
 ghost use Rattle.std.specs.Prelude.{◌≡◌, [], OnOk};
 ghost use Rattle.uci_tool.specs.Answers.{IsOpen};
-ghost use Rattle.local_objects.specs.Network.{IsOf};
-ghost use Rattle.local_objects.specs.LineTaken.{telled_of};
-ghost use Rattle.local_objects.specs.Passed.{StaysOrStopsIn};
-ghost use Rattle.local_objects.specs.Kept.{StaysOn, faults_of};
+ghost use Rattle.net_plane.specs.Network.{IsOf};
+ghost use Rattle.step_net.specs.Taken.{telled_of};
+ghost use Rattle.rpc_objects.specs.Passed.{StaysOrStopsIn};
+ghost use Rattle.rpc_objects.specs.Kept.{StaysOn, faults_of};
 ghost use Rattle.bus_lines.specs.Ended.{world_of};
 ghost use Rattle.bus_lines.specs.Calling.{seen_by};
 ghost use Rattle.bus_lines.specs.Cut.{FramesCut};
@@ -15,13 +15,13 @@ use crate::callers::Callers;
 use crate::calling::call_with_word;
 use crate::gathered::Gathered;
 use kern_model::Kernel;
-use local_answers::CallStop;
-use local_objects::{LocalObject, Net};
+use net_plane::Net;
 use plane_disk::Disk;
 use plane_outside::Random;
-use script_clients::LocalCall;
+use rpc_objects::{CallStop, LocalObject};
 use std::alloc::Global;
 use ubus_frames::Frame;
+use ubus_table::LocalCall;
 use uci_store::Store;
 
 /// Serves the frames of the client of this number of the bus, one after the other.

@@ -1,15 +1,15 @@
 //! What is gathered of the frames of a line.
 ghost use Rattle.std.specs.Prelude.{◌≡◌, ◌++◌, OnOk, IfOk, [], None};
-ghost use Rattle.bus_table.specs.Served.{local_reply};
-ghost use Rattle.script_clients.specs.Bus.{part_of, came_by};
+ghost use Rattle.ubus_table.specs.Served.{local_reply};
+ghost use Rattle.bus_clients.specs.Bus.{part_of, came_by};
 ghost use Rattle.bus_lines.specs.Did.{first_of};
 ghost use Rattle.bus_lines.specs.Gathered as spec;
 
-use local_answers::LocalAnswer;
-use local_objects::Outcome;
+use bus_clients::ScriptBus;
 use plane_io::{Memory, Text};
-use script_clients::{LocalCall, ScriptBus};
+use rpc_objects::{LocalAnswer, Outcome};
 use std::alloc::Global;
+use ubus_table::LocalCall;
 
 /// The lines of sends, the lines of asks, and the line of the first refusal.
 #[derive(Drop)]

@@ -5,11 +5,11 @@ ghost use Rattle.bus_lines.specs.Replied as spec;
 
 use crate::handled::Handled;
 use call_texts::append_reply;
-use line_texts::{CallStatus, LineError};
-use local_answers::LocalAnswer;
-use local_objects::{Outcome, Told, refuse, tell_text};
 use plane_io::{Memory, Text};
+use rpc_objects::{LocalAnswer, Outcome};
+use script_lines::{CallStatus, LineError};
 use std::alloc::Global;
+use step_net::{Told, refuse, tell_text};
 
 /// What comes of a call that is answered so, and asks nothing.
 pub(crate) fn quiet(alloc: Global, answer: LocalAnswer) -> Outcome

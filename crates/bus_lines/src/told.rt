@@ -1,18 +1,18 @@
 //! What is told of a line of a client.
 ghost use Rattle.std.specs.Prelude.{◌≡◌, IfOk, OnOk};
 ghost use Rattle.std.specs.Option.{option_map};
-ghost use Rattle.script_clients.specs.Bus.{part_of, opened, closed, IsTold};
+ghost use Rattle.bus_clients.specs.Bus.{part_of, opened, closed, IsTold};
 ghost use Rattle.bus_lines.specs.ClientLine.{error_of, fault_error};
 ghost use Rattle.bus_lines.specs.Told as spec;
 
 use crate::gathered::Gathered;
 use crate::handled::Handled;
 use crate::replied::refuse_line;
-use line_texts::LineError;
-use local_objects::{Told, tell_nothing, tell_text};
+use bus_clients::{ClientError, ScriptBus};
 use plane_io::{Memory, Text};
-use script_clients::{ClientError, ScriptBus};
+use script_lines::LineError;
 use std::alloc::Global;
+use step_net::{Told, tell_nothing, tell_text};
 use ubus_frames::FrameError;
 
 /// A client opens, as this user and group.

@@ -9,8 +9,8 @@ use Rattle.blob_json.specs.declared.json_error.JsonError.{JsonError}
 use Rattle.blob_json.specs.declared.json_error.JsonError.TheVariants as fault
 use Rattle.blob_json.specs.FromJson.{attrs_of}
 use Rattle.rpc_session.specs.Arguments.{id_text}
-use Rattle.line_texts.specs.declared.line_error.LineError.{LineError}
-use Rattle.line_texts.specs.declared.line_error.LineError.TheVariants as error
+use Rattle.script_lines.specs.declared.line_error.LineError.{LineError}
+use Rattle.script_lines.specs.declared.line_error.LineError.TheVariants as error
 
 -- the JSON value that a text is, if it is one (RFC 8259)
 abbrev pub json_of : List ℕ → Option Data

@@ -1,14 +1,14 @@
 ghost use Rattle.std.specs.Prelude.{◌≡◌, ◌≢◌, Ok, Err, IfOk};
 ghost use Rattle.std.specs.Option.{option_map};
 ghost use Rattle.serde_json.specs.View.{view};
-ghost use Rattle.line_texts.specs.declared.line_error.LineError.TheVariants as error;
+ghost use Rattle.script_lines.specs.declared.line_error.LineError.TheVariants as error;
 ghost use Rattle.call_texts.specs.Arguments as spec;
 
 use blob_codec::{Attr, Blob};
 use blob_json::{JsonError, blob_of_json};
-use line_texts::LineError;
 use plane_io::{Memory, Text};
 use rpc_session::id_text;
+use script_lines::LineError;
 use serde_json::Value;
 use sqlite_items::Items;
 use std::alloc::Global;

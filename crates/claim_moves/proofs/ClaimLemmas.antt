@@ -4,8 +4,8 @@ use Rattle.std.specs.Prelude.{◌&&◌, ◌||◌, bytes_eq, is_some, position}
 use Rattle.kern_model.proofs.TestLemmas.{either, of_left, of_right, false_of_not, bytes_same}
 use Rattle.net_rules.specs.Rows.{is_name}
 use Rattle.graph_rules.specs.State.{Known, State, claims_in, place_among}
-use Rattle.net_claims.specs.declared.state.InterfaceState.{InterfaceState}
-use Rattle.net_claims.specs.Claims.{uses_by, claim_of}
+use Rattle.net_rules.specs.declared.state.InterfaceState.{InterfaceState}
+use Rattle.net_rules.specs.Claims.{uses_by, claim_of}
 use Rattle.claim_moves.specs.Claiming.{DiffersInClaims, CanMove, claim_where, MovesNamed, Moves, apart_from, one, one_at}
 
 -- ---- names apart from others

@@ -5,9 +5,9 @@ use Rattle.kern_model.proofs.TestLemmas.{bytes_same}
 use Rattle.net_rules.specs.Rows.{is_name}
 use Rattle.graph_rules.specs.State.{Known, claims_in, place_among}
 use Rattle.graph_names.proofs.NameLemmas.{no_claims_told}
-use Rattle.net_claims.specs.declared.state.InterfaceState.{InterfaceState}
-use Rattle.net_claims.specs.Claims.{uses_by, claim_of, claims_of}
-use Rattle.net_claims.proofs.MoveLemmas.{length_kept}
+use Rattle.net_rules.specs.declared.state.InterfaceState.{InterfaceState}
+use Rattle.net_rules.specs.Claims.{uses_by, claim_of, claims_of}
+use Rattle.net_rules.proofs.MoveLemmas.{length_kept}
 use Rattle.claim_moves.proofs.ClaimLemmas.{unused}
 
 -- an unknown name has no claims, nor has one that was told so

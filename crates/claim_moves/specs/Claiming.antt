@@ -2,8 +2,8 @@
 use Rattle.std.specs.Prelude.{ℕ, ◌≡◌, ◌<◌, ◌≤◌, ◌+◌, List, Bool, ◌||◌, true, Option, Some, None, is_some, if◌then◌else◌, bytes_eq}
 use Rattle.net_rules.specs.Rows.{is_name}
 use Rattle.graph_rules.specs.State.{Known, State, names_in, device_in, claims_in, place_among}
-use Rattle.net_claims.specs.declared.state.InterfaceState.{InterfaceState}
-use Rattle.net_claims.specs.Claims.{uses_by, claim_of, claims_of}
+use Rattle.net_rules.specs.declared.state.InterfaceState.{InterfaceState}
+use Rattle.net_rules.specs.Claims.{uses_by, claim_of, claims_of}
 
 -- nothing but the claims of names differs
 pub record DiffersInClaims (before now : State) : Type 0 where

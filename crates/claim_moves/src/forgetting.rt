@@ -2,12 +2,12 @@
 ghost use Rattle.std.specs.Prelude.{◌≡◌, ◌<◌, ℕ, List, true, false, bytes_eq};
 ghost use Rattle.net_rules.specs.Rows as rows;
 ghost use Rattle.graph_rules.specs.State.{claims_in};
-ghost use Rattle.net_claims.specs.Claims.{claims_of};
+ghost use Rattle.net_rules.specs.Claims.{claims_of};
 ghost use Rattle.claim_moves.specs.Claiming.{DiffersInClaims};
 
 use dev_graph::Graph;
 use kern_model::DevName;
-use net_claims::InterfaceState;
+use net_rules::InterfaceState;
 use std::sync::ledger::Ledger;
 use use_counts::Steps;
 

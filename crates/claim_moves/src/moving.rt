@@ -2,13 +2,13 @@
 ghost use Rattle.std.specs.Prelude.{◌≡◌, ◌<◌, ◌≤◌, ◌+◌, ℕ, List, true, is_some};
 ghost use Rattle.net_rules.specs.Rows as rows;
 ghost use Rattle.graph_rules.specs.State.{claims_in, place_among};
-ghost use Rattle.net_claims.specs.Claims.{uses_by, claim_of};
+ghost use Rattle.net_rules.specs.Claims.{uses_by, claim_of};
 ghost use Rattle.claim_moves.specs.Claiming.{DiffersInClaims, CanMove, MovesNamed, Moves};
 ghost use Rattle.claim_moves.specs.Claiming as spec;
 
 use dev_graph::Graph;
 use kern_model::DevName;
-use net_claims::InterfaceState;
+use net_rules::InterfaceState;
 use net_view::is_name;
 use std::sync::ledger::Ledger;
 use use_counts::Steps;

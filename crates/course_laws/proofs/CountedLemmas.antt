@@ -5,10 +5,10 @@ use Rattle.net_rules.specs.Inputs.{facts_of}
 use Rattle.graph_rules.specs.State.{claims_in}
 use Rattle.graph_counts.specs.Sound.{IsSound}
 use Rattle.graph_laws.specs.Below.{AgreesBelow}
-use Rattle.net_claims.specs.declared.state.InterfaceState.{InterfaceState}
-use Rattle.net_claims.specs.Claims.{claims_of}
-use Rattle.net_claims.specs.States.{AreStates}
-use Rattle.net_claims.proofs.ClaimLemmas.{claims_are}
+use Rattle.net_rules.specs.declared.state.InterfaceState.{InterfaceState}
+use Rattle.net_rules.specs.Claims.{claims_of}
+use Rattle.net_rules.specs.States.{AreStates}
+use Rattle.net_rules.proofs.ClaimLemmas.{claims_are}
 use Rattle.net_gifts.specs.Giving.{times_in, HasGivers}
 use Rattle.net_gifts.proofs.GivenLemmas.{gives_are}
 use Rattle.graph_settle.specs.Course.{Course}

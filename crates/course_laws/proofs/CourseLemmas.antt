@@ -14,8 +14,8 @@ use Rattle.kern_model.proofs.TestLemmas.{of_both, of_right, same_bytes}
 use Rattle.kern_calls.specs.Calls.{calls}
 use Rattle.kern_calls.specs.Lower.{lower_part}
 use Rattle.kern_calls.proofs.CallsLemmas.{are_the_calls}
-use Rattle.calls_parts.specs.Upper.{upper_part}
-use Rattle.calls_parts.proofs.FollowLemmas.{parts_are_whole}
+use Rattle.kern_calls.specs.Upper.{upper_part}
+use Rattle.kern_calls.proofs.FollowLemmas.{parts_are_whole}
 use Rattle.net_rules.specs.declared.inputs.Inputs.{Inputs}
 use Rattle.net_rules.specs.Facts.{Facts}
 use Rattle.net_rules.specs.Rows.{is_name, interfaces_of}

@@ -10,7 +10,7 @@ use Rattle.kern_model.specs.ObjectOrder.{object_cmp, Has}
 use Rattle.kern_model.proofs.SetLemmas.{same_object, has_retained, of_retained, same_members}
 use Rattle.kern_model.proofs.TestLemmas.{not_true, false_of_not}
 use Rattle.kern_calls.specs.Lower.{is_lower}
-use Rattle.calls_parts.specs.Upper.{is_upper, upper_part}
+use Rattle.kern_calls.specs.Upper.{is_upper, upper_part}
 use Rattle.net_rules.specs.Facts.{Facts}
 use Rattle.net_rules.specs.Rows.{interfaces_of}
 use Rattle.net_rules.specs.Want.{given, want}

@@ -2,7 +2,7 @@
 use Rattle.std.specs.Prelude.{◌≡◌, List, true}
 use Rattle.std.specs.List.{flat_map}
 use Rattle.kern_model.specs.declared.object.Object.{Object}
-use Rattle.calls_parts.specs.Upper.{is_upper}
+use Rattle.kern_calls.specs.Upper.{is_upper}
 use Rattle.net_rules.specs.Facts.{Facts}
 use Rattle.net_rules.specs.Rows.{interfaces_of}
 use Rattle.net_rules.specs.Want.{given}

@@ -14,7 +14,7 @@ use Rattle.kern_model.proofs.MemberLemmas.{here, there, none_in_nil, first_or_la
 use Rattle.kern_model.proofs.SetLemmas.{set_of_member, member_of_set}
 use Rattle.kern_model.proofs.TestLemmas.{below_test, above_test, bytes_same}
 use Rattle.kern_calls.proofs.FilterLemmas.{from_filter, in_filter}
-use Rattle.net_options.specs.Dotted.{vlan_parts}
+use Rattle.net_rows.specs.Dotted.{vlan_parts}
 use Rattle.net_rows.specs.declared.rows.NameKind.TheVariants.{Plain, Vlan}
 use Rattle.net_rows.specs.declared.rows.NameRow.{NameRow}
 use Rattle.net_rules.specs.Rows.{row_at, rowless}

@@ -1,6 +1,6 @@
 //! One more plain name.
 ghost use Rattle.std.specs.Prelude.{◌≡◌, [], map, is_some, None, IfOk, OnOk, OnErr};
-ghost use Rattle.net_options.specs.Dotted.{vlan_parts};
+ghost use Rattle.net_rows.specs.Dotted.{vlan_parts};
 ghost use Rattle.net_rules.specs.Inputs as inputs;
 ghost use Rattle.graph_rules.specs.State.{nothing_known, place_among};
 ghost use Rattle.graph_rules.specs.After.{with_name};
@@ -14,8 +14,7 @@ use graph_counts::CountedNames;
 use graph_names::Names;
 use graph_objects::{DeviceObjects, Wish};
 use kern_model::{DevName, Object};
-use net_options::vlan_parts;
-use net_rows::Conf;
+use net_rows::{Conf, vlan_parts};
 use plane_io::{Items, Memory};
 use std::alloc::Global;
 

@@ -5,7 +5,7 @@ use Rattle.std.proofs.lemmas.List.Elements.{Contains-append_cases}
 use Rattle.std.proofs.lemmas.List.Sums.{fold-append}
 use Rattle.kern_model.specs.declared.object.Object.{Object}
 use Rattle.kern_model.proofs.MemberLemmas.{first_or_later, none_in_nil}
-use Rattle.calls_parts.specs.Upper.{is_upper}
+use Rattle.kern_calls.specs.Upper.{is_upper}
 use Rattle.given_objects.specs.Gifts.{Gifts}
 use Rattle.given_objects.specs.Changes.{with_place}
 use Rattle.gift_places.specs.Expecting.{with_places, HasMorePlaces}

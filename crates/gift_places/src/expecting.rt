@@ -3,7 +3,7 @@ ghost use Rattle.std.specs.Prelude.{◌≡◌, map, Some, true, OnOk, if◌then�
 ghost use Rattle.std.specs.List.{filter_map, slice_get};
 ghost use Rattle.std.specs.Option.{option_copied};
 ghost use Rattle.kern_model.specs.declared.object.Object.TheVariants as object;
-ghost use Rattle.calls_parts.specs.Upper.{is_upper};
+ghost use Rattle.kern_calls.specs.Upper.{is_upper};
 ghost use Rattle.net_rules.specs.Rows as rows;
 ghost use Rattle.net_rules.specs.Want.{of_options, of_answer, default_route};
 ghost use Rattle.net_wants.specs.Given.{answer_route, route_on};

@@ -1,6 +1,6 @@
 //! What is held of gifts, and nobody gives it.
 ghost use Rattle.std.specs.Prelude.{◌≡◌, true, false, OnOk, IfOk};
-ghost use Rattle.calls_parts.specs.Upper.{is_upper};
+ghost use Rattle.kern_calls.specs.Upper.{is_upper};
 ghost use Rattle.given_objects.specs.Gifts.{has_place};
 ghost use Rattle.gift_places.specs.Expecting.{all_held_alone, with_held_alone};
 

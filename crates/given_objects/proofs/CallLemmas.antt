@@ -23,8 +23,8 @@ use Rattle.kern_model.proofs.TouchLemmas.{taken_held, put_wanted}
 use Rattle.kern_model.proofs.LeadLemmas.{taken_call, carries, is_own, call_of_taken}
 use Rattle.kern_calls.specs.Calls.{own_take, calls}
 use Rattle.kern_calls.proofs.CallsLemmas.{are_the_calls}
-use Rattle.calls_parts.specs.Upper.{is_upper, upper_part, is_upper_take, is_upper_put}
-use Rattle.calls_parts.proofs.UpperLemmas.{upper_taken, upper_put}
+use Rattle.kern_calls.specs.Upper.{is_upper, upper_part, is_upper_take, is_upper_put}
+use Rattle.kern_calls.proofs.UpperLemmas.{upper_taken, upper_put}
 use Rattle.given_objects.specs.declared.gift.Gift.{Gift}
 use Rattle.given_objects.specs.Gifts.{Gifts, is_given, held_of, given_of, AreGifts}
 use Rattle.given_objects.specs.First.{is_take_due, is_put_due, plain_take, IsFirstGift, NoneDue, KnowFalls}

@@ -13,7 +13,7 @@ use Rattle.kern_model.proofs.OrderLemmas.{objects_total}
 use Rattle.kern_model.proofs.MemberLemmas.{here, there, first_or_later, none_in_nil, map_member, member_of_map, member_of_all}
 use Rattle.kern_model.proofs.SetLemmas.{same_object, same_or_other, set_of_member, member_of_set, has_itself, has_before, new_or_before, has_without, of_without, same_members}
 use Rattle.kern_model.proofs.TestLemmas.{false_of_not}
-use Rattle.calls_parts.specs.Upper.{is_upper}
+use Rattle.kern_calls.specs.Upper.{is_upper}
 use Rattle.given_objects.specs.declared.gift.Gift.{Gift}
 use Rattle.given_objects.specs.Gifts.{Gifts, is_of, gift_of, has_place, givers_of, objects_by, AreGifts}
 use Rattle.given_objects.specs.Changes.{changed}

@@ -11,7 +11,7 @@ use Rattle.kern_model.specs.declared.object.Object.{Object}
 use Rattle.kern_model.specs.CallOrder.{call_cmp}
 use Rattle.kern_model.proofs.OrderLemmas.{calls_total}
 use Rattle.kern_model.proofs.MemberLemmas.{here, there, first_or_later, none_in_nil}
-use Rattle.calls_parts.specs.Upper.{is_upper}
+use Rattle.kern_calls.specs.Upper.{is_upper}
 use Rattle.given_objects.specs.declared.gift.Gift.{Gift}
 use Rattle.given_objects.specs.declared.first.Turn.{Turn}
 use Rattle.given_objects.specs.Gifts.{Gifts, AreGifts}

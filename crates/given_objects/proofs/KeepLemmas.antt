@@ -16,7 +16,7 @@ use Rattle.kern_model.specs.Kernel.{replaces, after_call}
 use Rattle.kern_model.specs.Line.{IsPrintable}
 use Rattle.kern_model.proofs.MemberLemmas.{here, there, first_or_later, none_in_nil, member_of_map, all_members, member_of_all}
 use Rattle.kern_model.proofs.SetLemmas.{same_object, has_retained, of_retained, same_members}
-use Rattle.calls_parts.specs.Upper.{is_upper}
+use Rattle.kern_calls.specs.Upper.{is_upper}
 use Rattle.given_objects.specs.declared.gift.Gift.{Gift}
 use Rattle.given_objects.specs.Gifts.{Gifts, is_of, gift_of, has_place, givers_of, is_given, objects_by, held_of, given_of, AreGifts}
 use Rattle.given_objects.specs.Changes.{empty_gift, with_place, changed, given_once_more, given_once_less, noted, with_falls}

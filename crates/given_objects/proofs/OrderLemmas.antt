@@ -16,7 +16,7 @@ use Rattle.kern_model.specs.ObjectOrder.{Objects, call_key}
 use Rattle.kern_model.specs.Line.{line_of, put_line, take_line, IsPrintable, HaveOneVlan, HaveOneName}
 use Rattle.kern_model.specs.CallOrder.{rank, height_of, height_place, call_cmp}
 use Rattle.kern_model.proofs.LineLemmas.{object_of_line, taken_of_line}
-use Rattle.calls_parts.specs.Upper.{is_upper}
+use Rattle.kern_calls.specs.Upper.{is_upper}
 use Rattle.given_objects.specs.declared.first.Turn.{Turn}
 use Rattle.given_objects.specs.declared.first.Turn.TheVariants.{Takes, Puts}
 use Rattle.given_objects.specs.Turns.{call_of}

@@ -17,7 +17,7 @@ use Rattle.std.proofs.lemmas.List.Sorted.{IsPermutation-sym, Contains-permutatio
 use Rattle.std.proofs.lemmas.Option.{slice_get_within, get_or_from_slice_get}
 use Rattle.kern_model.specs.declared.object.Object.{Object}
 use Rattle.kern_model.specs.Line.{IsPrintable}
-use Rattle.calls_parts.specs.Upper.{is_upper}
+use Rattle.kern_calls.specs.Upper.{is_upper}
 use Rattle.kern_model.proofs.MemberLemmas.{first_or_later, none_in_nil}
 use Rattle.given_objects.specs.declared.key.GiftKey.{GiftKey}
 use Rattle.given_objects.specs.declared.gift.Gift.{Gift}

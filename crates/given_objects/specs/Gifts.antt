@@ -7,7 +7,7 @@ use Rattle.plane_words.specs.Distinct.{AreDistinct}
 use Rattle.kern_model.specs.declared.object.Object.{Object}
 use Rattle.kern_model.specs.ObjectOrder.{Objects, object_cmp, set_of}
 use Rattle.kern_model.specs.Line.{IsPrintable}
-use Rattle.calls_parts.specs.Upper.{is_upper}
+use Rattle.kern_calls.specs.Upper.{is_upper}
 use Rattle.given_objects.specs.declared.gift.Gift.{Gift}
 
 abbrev pub Gifts : Type 0

@@ -4,7 +4,7 @@ ghost use Rattle.std.specs.Ordering.{nat_cmp, ordering_then};
 ghost use Rattle.std.specs.Cmp.Lexicographic.{slice_cmp};
 ghost use Rattle.kern_model.specs.Line.{line_of};
 ghost use Rattle.kern_model.specs.CallOrder.{rank};
-ghost use Rattle.calls_parts.specs.Upper.{is_upper};
+ghost use Rattle.kern_calls.specs.Upper.{is_upper};
 ghost use Rattle.given_objects.specs.First.{IsFirstGift, NoneDue};
 ghost use Rattle.given_objects.specs.Turns as spec;
 

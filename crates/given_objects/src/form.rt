@@ -4,7 +4,7 @@ ghost use Rattle.net_addr.specs.Octets.{IsAddr};
 ghost use Rattle.net_addr.specs.Width.{IsCidr};
 ghost use Rattle.kern_model.specs.Name.{is_name};
 ghost use Rattle.kern_model.specs.Line.{IsGateway, IsRoute, IsPrintable};
-ghost use Rattle.calls_parts.specs.Upper.{is_upper};
+ghost use Rattle.kern_calls.specs.Upper.{is_upper};
 
 use kern_model::{DevName, Object, RouteObject};
 use net_addr::{Addr, Cidr};

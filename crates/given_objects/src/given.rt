@@ -2,7 +2,7 @@ ghost use Rattle.std.specs.Prelude.{◌≡◌, ◌<◌, ◌^◌, Some, length, f
 ghost use Rattle.kern_model.specs.declared.object.Object.{Object};
 ghost use Rattle.kern_model.specs.declared.object.Call.TheVariants.{Put};
 ghost use Rattle.kern_calls.specs.Due.{due_count};
-ghost use Rattle.calls_parts.specs.Upper.{is_upper};
+ghost use Rattle.kern_calls.specs.Upper.{is_upper};
 ghost use Rattle.given_objects.specs.Gifts.{has_place, givers_of, held_of, given_of, AreGifts};
 ghost use Rattle.given_objects.specs.Changes.{with_place, given_once_more, given_once_less, noted, with_falls, is_live, with_live, kept_for};
 ghost use Rattle.given_objects.specs.First.{is_take_due, is_put_due, plain_take, IsFirstGift, NoneDue};

@@ -10,7 +10,7 @@ ghost use Rattle.kern_model.specs.ObjectOrder.{Objects};
 ghost use Rattle.kern_model.specs.Line.{IsPrintable};
 ghost use Rattle.kern_model.specs.Kernel.{Devices, after_call};
 ghost use Rattle.kern_calls.specs.Calls.{own_take, calls};
-ghost use Rattle.calls_parts.specs.Upper.{is_upper, upper_part, is_upper_take, is_upper_put};
+ghost use Rattle.kern_calls.specs.Upper.{is_upper, upper_part, is_upper_take, is_upper_put};
 ghost use Rattle.given_objects.specs.Gifts.{Gifts, AreGifts, has_place, givers_of, held_of, given_of};
 ghost use Rattle.given_objects.specs.Changes.{with_place, given_once_more, given_once_less, noted, with_falls};
 ghost use Rattle.given_objects.specs.First.{is_take_due, is_put_due, plain_take, IsFirstGift, NoneDue, KnowFalls};

@@ -5,7 +5,7 @@ use Rattle.std.proofs.lemmas.List.Elements.{Contains-append_left, Contains-appen
 use Rattle.kern_model.proofs.MemberLemmas.{here, there, first_or_later, none_in_nil, all_members}
 use Rattle.kern_model.proofs.TestLemmas.{bytes_same}
 use Rattle.plane_words.specs.Distinct.{AreDistinct}
-use Rattle.net_options.specs.Dotted.{vlan_parts}
+use Rattle.net_rows.specs.Dotted.{vlan_parts}
 use Rattle.net_rows.specs.declared.rows.NameRow.{NameRow}
 use Rattle.net_rows.specs.declared.rows.NameKind.{NameKind}
 use Rattle.net_rows.specs.declared.rows.NameKind.TheVariants.{Plain, Bridge, Vlan}

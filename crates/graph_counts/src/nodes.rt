@@ -3,8 +3,7 @@ ghost use Rattle.net_rules.specs.Rows.{rowless};
 ghost use Rattle.graph_counts.specs.Counted as spec;
 
 use kern_model::DevName;
-use net_options::vlan_parts;
-use net_rows::{NameKind, NameRow};
+use net_rows::{NameKind, NameRow, vlan_parts};
 use plane_io::Memory;
 use std::alloc::Global;
 use use_counts::{Kind, Row};

@@ -6,7 +6,7 @@ use Rattle.kern_model.specs.declared.object.Device.{Device}
 use Rattle.kern_model.proofs.MemberLemmas.{here, there, first_or_later, none_in_nil}
 use Rattle.kern_model.proofs.TestLemmas.{bytes_same, same_bytes}
 use Rattle.uci_tree.proofs.FoldLemmas.{position-cons}
-use Rattle.net_options.specs.Dotted.{vlan_parts}
+use Rattle.net_rows.specs.Dotted.{vlan_parts}
 use Rattle.net_rows.specs.declared.rows.NameRow.{NameRow}
 use Rattle.net_rows.specs.declared.rows.NameKind.{NameKind}
 use Rattle.net_rows.specs.declared.rows.NameKind.TheVariants.{Plain, Vlan}

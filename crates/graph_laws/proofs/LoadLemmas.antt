@@ -13,12 +13,12 @@ use Rattle.net_devices.specs.Counted.{counted, all_said}
 use Rattle.net_devices.specs.Devices.{all_names}
 use Rattle.net_conf.specs.Conf.{conf}
 use Rattle.net_conf.specs.Limits.{passed_limit}
-use Rattle.net_sound.proofs.ReadLemmas.{said_are_read}
-use Rattle.net_sound.proofs.LevelLemmas.{sound_levels}
-use Rattle.net_sound.proofs.NameLemmas.{sound_names}
-use Rattle.net_sound.proofs.VlanLemmas.{sound_vlans}
-use Rattle.conf_laws.proofs.OnceLemmas.{names_read_once, ports_read_once}
-use Rattle.conf_laws.proofs.LimitLemmas.{are_few}
+use Rattle.net_conf.proofs.ReadLemmas.{said_are_read}
+use Rattle.net_conf.proofs.LevelLemmas.{sound_levels}
+use Rattle.net_conf.proofs.NameLemmas.{sound_names}
+use Rattle.net_conf.proofs.VlanLemmas.{sound_vlans}
+use Rattle.net_conf.proofs.OnceLemmas.{names_read_once, ports_read_once}
+use Rattle.net_conf.proofs.ConfLimitLemmas.{are_few}
 use Rattle.graph_rules.specs.declared.ids.RadioPort.{RadioPort}
 use Rattle.graph_rules.specs.Answers.{port_of}
 use Rattle.graph_rules.specs.Conditions.{ArePorts, CanLoad}

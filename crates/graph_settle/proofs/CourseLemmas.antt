@@ -12,11 +12,11 @@ use Rattle.kern_model.proofs.SetLemmas.{member_of_set}
 use Rattle.kern_calls.specs.Calls.{calls}
 use Rattle.kern_calls.specs.Lower.{is_lower, lower_part}
 use Rattle.kern_calls.specs.Due.{due_count}
-use Rattle.calls_parts.specs.Upper.{is_upper, upper_part, is_upper_take, is_upper_put}
-use Rattle.calls_parts.proofs.PartLemmas.{first_in_parts}
-use Rattle.calls_parts.proofs.UpperLemmas.{falls_in_parts}
-use Rattle.calls_parts.proofs.FollowLemmas.{joined_parts}
-use Rattle.calls_parts.proofs.CountLemmas.{due_in_parts}
+use Rattle.kern_calls.specs.Upper.{is_upper, upper_part, is_upper_take, is_upper_put}
+use Rattle.kern_calls.proofs.PartLemmas.{first_in_parts}
+use Rattle.kern_calls.proofs.UpperLemmas.{falls_in_parts}
+use Rattle.kern_calls.proofs.FollowLemmas.{joined_parts}
+use Rattle.kern_calls.proofs.CountLemmas.{due_in_parts}
 use Rattle.graph_rules.specs.State.{Known}
 use Rattle.graph_rules.specs.Wanted.{want_in}
 use Rattle.graph_rules.specs.Calls.{calls_in, falls_in, due_in}

@@ -20,7 +20,7 @@ use Rattle.kern_model.proofs.LeadLemmas.{reached, call_of_taken}
 use Rattle.kern_calls.specs.Calls.{own_take}
 use Rattle.kern_calls.specs.Lower.{lower_part}
 use Rattle.kern_calls.proofs.CallsLemmas.{are_the_calls}
-use Rattle.calls_parts.specs.Upper.{upper_part}
+use Rattle.kern_calls.specs.Upper.{upper_part}
 use Rattle.graph_rules.specs.State.{State, empty, nothing_known, devices_in}
 use Rattle.graph_rules.specs.Wanted.{want_in}
 use Rattle.graph_rules.specs.Calls.{falls_in}

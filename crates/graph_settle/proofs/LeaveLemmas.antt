@@ -14,8 +14,8 @@ use Rattle.kern_model.proofs.MemberLemmas.{here, there, map_member, member_of_ma
 use Rattle.kern_model.proofs.SetLemmas.{same_object, has_retained, of_retained, same_members}
 use Rattle.kern_model.proofs.TestLemmas.{both, of_both, not_true, false_of_not}
 use Rattle.kern_calls.specs.Lower.{is_lower, lower_part}
-use Rattle.calls_parts.specs.Upper.{is_upper, upper_part}
-use Rattle.calls_parts.proofs.FollowLemmas.{parts_are_whole, lower_goes, goes_with_up}
+use Rattle.kern_calls.specs.Upper.{is_upper, upper_part}
+use Rattle.kern_calls.proofs.FollowLemmas.{parts_are_whole, lower_goes, goes_with_up}
 use Rattle.graph_rules.specs.State.{State}
 use Rattle.graph_rules.specs.Calls.{is_held, falls_in}
 use Rattle.graph_rules.specs.After.{left_by}

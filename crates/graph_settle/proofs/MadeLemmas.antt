@@ -26,10 +26,10 @@ use Rattle.kern_calls.specs.Calls.{own_take, calls}
 use Rattle.kern_calls.specs.Lower.{is_lower, lower_part, is_lower_call}
 use Rattle.kern_calls.proofs.CallsLemmas.{are_the_calls, no_other_calls}
 use Rattle.kern_calls.proofs.GoOnLemmas.{go_on}
-use Rattle.calls_parts.specs.Upper.{is_upper, upper_part, is_upper_take, is_upper_put}
-use Rattle.calls_parts.proofs.PartLemmas.{first_take_or_put}
-use Rattle.calls_parts.proofs.UpperLemmas.{upper_taken}
-use Rattle.calls_parts.proofs.FollowLemmas.{lower_follows, upper_follows, parts_are_whole}
+use Rattle.kern_calls.specs.Upper.{is_upper, upper_part, is_upper_take, is_upper_put}
+use Rattle.kern_calls.proofs.PartLemmas.{first_take_or_put}
+use Rattle.kern_calls.proofs.UpperLemmas.{upper_taken}
+use Rattle.kern_calls.proofs.FollowLemmas.{lower_follows, upper_follows, parts_are_whole}
 use Rattle.graph_rules.specs.State.{State, devices_in}
 use Rattle.graph_rules.specs.Wanted.{want_in}
 use Rattle.graph_rules.specs.Calls.{calls_in, falls_in, is_take, next_take_in, next_put_in}

@@ -7,8 +7,8 @@ use Rattle.kern_model.specs.declared.object.Object.{Object}
 use Rattle.kern_model.specs.declared.object.Call.{Call}
 use Rattle.kern_model.specs.declared.object.Call.TheVariants.{Put}
 use Rattle.kern_calls.specs.Calls.{own_take}
-use Rattle.calls_parts.specs.Upper.{is_upper_take, is_upper_put}
-use Rattle.calls_parts.proofs.PartLemmas.{first_take_or_put}
+use Rattle.kern_calls.specs.Upper.{is_upper_take, is_upper_put}
+use Rattle.kern_calls.proofs.PartLemmas.{first_take_or_put}
 use Rattle.graph_rules.specs.State.{State, devices_in}
 use Rattle.graph_rules.specs.Wanted.{want_in}
 use Rattle.graph_rules.specs.Calls.{calls_in, is_take, next_take_in, next_put_in}

@@ -2,7 +2,7 @@
 ghost use Rattle.std.specs.Prelude.{◌≡◌, ◌∷◌, Some, slice_get, true};
 ghost use Rattle.kern_model.specs.Kernel.{object_of, after_call};
 ghost use Rattle.kern_calls.specs.Due.{due_count};
-ghost use Rattle.calls_parts.specs.Upper as upper;
+ghost use Rattle.kern_calls.specs.Upper as upper;
 ghost use Rattle.graph_rules.specs.Calls.{calls_in};
 ghost use Rattle.given_objects.specs.Gifts.{AreGifts, has_place};
 ghost use Rattle.graph_settle.specs.Course.{held_of, wanted_of, calls_of, noted_call, IsReady, IsAlike};

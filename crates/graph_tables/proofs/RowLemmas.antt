@@ -5,7 +5,7 @@ use Rattle.std.proofs.lemmas.List.Elements.{Contains-get_or}
 use Rattle.kern_model.specs.declared.object.Mac.{Mac}
 use Rattle.kern_model.specs.declared.object.Object.TheVariants as object
 use Rattle.plane_words.specs.Distinct.{AreDistinct}
-use Rattle.net_options.specs.Dotted.{vlan_parts}
+use Rattle.net_rows.specs.Dotted.{vlan_parts}
 use Rattle.net_rows.specs.declared.rows.NameRow.{NameRow}
 use Rattle.net_rows.specs.declared.rows.NameKind.{NameKind}
 use Rattle.net_rows.specs.declared.rows.NameKind.TheVariants.{Plain, Bridge, Vlan}

@@ -1,6 +1,6 @@
 //! What the rows of names, with ports of radios, can ever want, name by name.
 ghost use Rattle.std.specs.Prelude.{◌≡◌, ◌<◌, ◌++◌, ◌∷◌, [], length, map, slice_index_or, is_some, IfOk, OnOk, false};
-ghost use Rattle.net_options.specs.Dotted as dotted;
+ghost use Rattle.net_rows.specs.Dotted as dotted;
 ghost use Rattle.net_rules.specs.Rows.{rowless};
 ghost use Rattle.net_rules.specs.Standing.{Ports, Over};
 ghost use Rattle.graph_rules.specs.State.{name_list};
@@ -15,8 +15,7 @@ use graph_names::Names;
 use graph_objects::Wish;
 use graph_rules::RadioPort;
 use kern_model::{DevName, LinkKind, Object};
-use net_options::vlan_parts;
-use net_rows::{NameKind, NameRow, VlanRow};
+use net_rows::{NameKind, NameRow, VlanRow, vlan_parts};
 use plane_io::Memory;
 use std::alloc::Global;
 

@@ -6,3 +6,8 @@ pub mod GoOnLemmas
 pub mod LowerLemmas
 pub mod SizeLemmas
 pub mod DueLemmas
+pub mod SplitLemmas
+pub mod PartLemmas
+pub mod UpperLemmas
+pub mod FollowLemmas
+pub mod CountLemmas

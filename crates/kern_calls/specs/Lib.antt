@@ -1,4 +1,4 @@
--- The calls between two sets of objects, as a list, and what holds of them.
+-- The calls between two sets of objects.
 
 -- the calls as a list that computes
 pub mod Calls
@@ -12,3 +12,5 @@ pub mod Lower
 pub mod Due
 -- by which number calls of one rank are ordered
 pub mod Between
+-- which objects these are, and the calls of them
+pub mod Upper

@@ -1,6 +1,6 @@
 use kern_model::{DevName, LinkKind, Mac, Object, RouteObject, read_name};
 use net_addr::{read_addr, read_cidr};
-use net_options::read_mac;
+use net_rows::read_mac;
 
 /// The table of the routes that name none.
 const MAIN_TABLE: u32 = 254;

@@ -20,7 +20,7 @@ use Rattle.net_view.proofs.PortLemmas.{more_is}
 use Rattle.net_wants.specs.Given.{route_on}
 use Rattle.net_wants.specs.Grouped.{is_route_named}
 use Rattle.net_wants.proofs.GroupLemmas.{items_are}
-use Rattle.net_claims.proofs.MoveLemmas.{count_few}
+use Rattle.net_rules.proofs.MoveLemmas.{count_few}
 use Rattle.given_objects.specs.Gifts.{Gifts, has_place, givers_of, held_of}
 use Rattle.net_gifts.specs.Giving.{HavePlaces}
 use Rattle.gift_places.specs.Expecting.{listed_given, with_places, all_held_alone, HasMorePlaces}

@@ -11,9 +11,9 @@ use Rattle.net_rules.specs.Inputs.{facts_of}
 use Rattle.graph_rules.specs.State.{claims_in}
 use Rattle.given_objects.specs.Gifts.{givers_of}
 use Rattle.net_follow.specs.Course.{Course}
-use Rattle.net_claims.specs.declared.state.InterfaceState.{InterfaceState}
-use Rattle.net_claims.specs.Claims.{uses_by, claims_of}
-use Rattle.net_claims.specs.States.{IsIdle}
+use Rattle.net_rules.specs.declared.state.InterfaceState.{InterfaceState}
+use Rattle.net_rules.specs.Claims.{uses_by, claims_of}
+use Rattle.net_rules.specs.States.{IsIdle}
 use Rattle.net_gifts.specs.Giving.{times_in, all_gives}
 use Rattle.net_follow.specs.Load.{AreIdle}
 use Rattle.net_follow.specs.Counted.{AgreesWith, HasGiftRoom, IsCountedBy}

@@ -14,7 +14,7 @@ use Rattle.graph_laws.proofs.UsedLemmas.{knows_loaded}
 use Rattle.net_follow.specs.Course.{held_of}
 use Rattle.net_follow.proofs.CourseLoadLemmas.{loaded_below, loaded_claims}
 use Rattle.load_parts.proofs.FurtherLemmas.{devices_are_there}
-use Rattle.net_claims.specs.Claims.{claims_of}
+use Rattle.net_rules.specs.Claims.{claims_of}
 use Rattle.net_follow.specs.Counted.{AgreesWith}
 use Rattle.net_follow.specs.declared.follower.Follower.{Follower}
 use Rattle.net_follow.specs.InStep.{inputs_of, IsInStep}

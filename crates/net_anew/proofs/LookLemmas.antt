@@ -15,7 +15,7 @@ use Rattle.given_objects.specs.Gifts as gift
 use Rattle.given_objects.specs.Gifts.{Gifts, is_of, gift_of, has_place, givers_of, AreGifts}
 use Rattle.net_follow.specs.Course.{Course, held_of, IsReady}
 use Rattle.net_follow.specs.Leaving.{looked_at, all_looked_at}
-use Rattle.net_claims.specs.declared.state.InterfaceState.{InterfaceState}
+use Rattle.net_rules.specs.declared.state.InterfaceState.{InterfaceState}
 use Rattle.net_follow.specs.Claiming.{HasClaims}
 use Rattle.net_follow.specs.Beside.{HoldsLower, IsCourseOf}
 use Rattle.net_follow.proofs.CourseLemmas.{looked_ready}

@@ -30,8 +30,8 @@ use Rattle.net_follow.proofs.CountedLemmas.{counted_beside}
 use Rattle.net_follow.proofs.FurtherLemmas.{beside_grown, ready_grown, below_grown, same_claims, more_names}
 use Rattle.load_parts.specs.Further.{further_names}
 use Rattle.load_parts.proofs.FurtherLemmas.{ports_are_there}
-use Rattle.net_claims.specs.declared.state.InterfaceState.{InterfaceState}
-use Rattle.net_claims.specs.Claims.{claims_of}
+use Rattle.net_rules.specs.declared.state.InterfaceState.{InterfaceState}
+use Rattle.net_rules.specs.Claims.{claims_of}
 use Rattle.net_follow.specs.Counted.{AgreesWith, IsCountedBy}
 use Rattle.net_follow.specs.declared.follower.Follower.{Follower}
 use Rattle.net_follow.specs.InStep.{inputs_of, IsInStep, LooksAs}

@@ -1,1 +1,11 @@
 pub mod LimitLemmas
+pub mod RowLemmas
+pub mod KindLemmas
+pub mod LevelLemmas
+pub mod VlanLemmas
+pub mod ReadLemmas
+pub mod ClosedLemmas
+pub mod NameLemmas
+pub mod DistinctLemmas
+pub mod OnceLemmas
+pub mod ConfLimitLemmas

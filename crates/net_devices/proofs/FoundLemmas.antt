@@ -9,8 +9,8 @@ use Rattle.std.proofs.lemmas.Slice.Eq.{bytes_eq-Decides}
 use Rattle.uci_tree.specs.Index.{first_place}
 use Rattle.uci_tree.proofs.FoldLemmas.{position-cons}
 use Rattle.uci_tree.proofs.SectionLemmas.{position-push}
-use Rattle.net_options.specs.declared.stated.Stated.{Stated}
-use Rattle.net_options.specs.declared.stated.Stated.TheVariants.{Absent, Unread, Read}
+use Rattle.net_rows.specs.declared.stated.Stated.{Stated}
+use Rattle.net_rows.specs.declared.stated.Stated.TheVariants.{Absent, Unread, Read}
 use Rattle.net_devices.specs.declared.said.DeviceSection.{DeviceSection}
 use Rattle.net_devices.specs.declared.said.Said.{Said}
 use Rattle.net_devices.specs.declared.said.Said.TheVariants.{Device, Interface}

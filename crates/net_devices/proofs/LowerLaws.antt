@@ -3,9 +3,9 @@ use Rattle.std.proofs.Common.{ℕ, zero, suc, ◌≡◌, ◌<◌, ◌≤◌, Boo
 use Rattle.std.proofs.lemmas.Grind.{common_steps}
 use Rattle.std.specs.Prelude.{◌==◌, if◌then◌else◌, IfSome}
 use Rattle.kern_model.specs.Name.{is_name}
-use Rattle.net_options.specs.declared.dotted.VlanParts.{VlanParts}
-use Rattle.net_options.specs.Cut.{last_cut, cut_at_or_behind}
-use Rattle.net_options.specs.Dotted.{dot, id_of, parts_of, parts_at, vlan_parts}
+use Rattle.net_rows.specs.declared.dotted.VlanParts.{VlanParts}
+use Rattle.net_rows.specs.Cut.{last_cut, cut_at_or_behind}
+use Rattle.net_rows.specs.Dotted.{dot, id_of, parts_of, parts_at, vlan_parts}
 use Rattle.net_devices.specs.declared.said.Said.{Said}
 use Rattle.net_devices.specs.declared.said.DeviceSection.{DeviceSection}
 use Rattle.net_devices.specs.declared.said.StatedKind.{StatedKind}

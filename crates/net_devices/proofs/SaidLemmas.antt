@@ -5,8 +5,8 @@ use Rattle.std.specs.List.{cons_option}
 use Rattle.std.proofs.lemmas.List.{reverse-append}
 use Rattle.std.proofs.lemmas.Slice.Eq.{bytes_eq-Decides}
 use Rattle.uci_tree.specs.declared.package.Section.{Section}
-use Rattle.net_options.specs.declared.stated.Stated.{Stated}
-use Rattle.net_options.specs.declared.stated.Stated.TheVariants.{Absent, Unread, Read}
+use Rattle.net_rows.specs.declared.stated.Stated.{Stated}
+use Rattle.net_rows.specs.declared.stated.Stated.TheVariants.{Absent, Unread, Read}
 use Rattle.net_devices.specs.declared.said.Said.{Said}
 use Rattle.net_devices.specs.EachOnce.{has}
 use Rattle.net_devices.specs.Said.{said_in, said_by}

@@ -4,12 +4,12 @@ use Rattle.std.specs.List.{list_any}
 use Rattle.uci_tree.specs.declared.package.Opt.{Opt}
 use Rattle.uci_tree.specs.declared.package.Section.{Section}
 use Rattle.kern_model.specs.declared.vlan_name.TheConstants.{LEAST_VLAN_ID, MOST_VLAN_ID}
-use Rattle.net_options.specs.declared.stated.Stated.{Stated}
-use Rattle.net_options.specs.declared.stated.Stated.TheVariants.{Absent, Unread, Read}
-use Rattle.net_options.specs.Number.{number_within}
-use Rattle.net_options.specs.Options.{value_of, text_of}
-use Rattle.net_options.specs.Stated.{stated, name_of}
-use Rattle.net_options.specs.Truth.{truth}
+use Rattle.net_rows.specs.declared.stated.Stated.{Stated}
+use Rattle.net_rows.specs.declared.stated.Stated.TheVariants.{Absent, Unread, Read}
+use Rattle.net_rows.specs.Number.{number_within}
+use Rattle.net_rows.specs.Options.{value_of, text_of}
+use Rattle.net_rows.specs.Stated.{stated, name_of}
+use Rattle.net_rows.specs.Truth.{truth}
 use Rattle.net_rows.specs.declared.fault_name.FaultName.TheVariants as fault
 use Rattle.net_rows.specs.declared.rows.RowFault.{RowFault}
 use Rattle.net_rows.specs.declared.rows.VlanEntry.{VlanEntry}

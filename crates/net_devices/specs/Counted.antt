@@ -2,10 +2,10 @@
 use Rattle.std.specs.Prelude.{ℕ, Bool, false, List, [], ◌∷◌, ◌++◌, if◌then◌else◌, codes, bytes_eq}
 use Rattle.std.specs.List.{list_any}
 use Rattle.uci_tree.specs.declared.package.Section.{Section}
-use Rattle.net_options.specs.declared.stated.Stated.{Stated}
-use Rattle.net_options.specs.declared.stated.Stated.TheVariants.{Absent, Unread, Read}
-use Rattle.net_options.specs.Options.{value_of}
-use Rattle.net_options.specs.Stated.{stated, name_of}
+use Rattle.net_rows.specs.declared.stated.Stated.{Stated}
+use Rattle.net_rows.specs.declared.stated.Stated.TheVariants.{Absent, Unread, Read}
+use Rattle.net_rows.specs.Options.{value_of}
+use Rattle.net_rows.specs.Stated.{stated, name_of}
 use Rattle.net_devices.specs.declared.said.Said.{Said}
 use Rattle.net_devices.specs.Said.{said_by}
 use Rattle.net_devices.specs.Names.{is_read}

@@ -2,8 +2,8 @@
 use Rattle.std.specs.Prelude.{ℕ, Bool, true, false, not, List, [], ◌∷◌, ◌++◌, filter, Option, Some, None, is_some, if◌then◌else◌, codes, bytes_eq}
 use Rattle.std.specs.List.{filter_map}
 use Rattle.net_addr.specs.Byte.{colon}
-use Rattle.net_options.specs.Cut.{first_cut}
-use Rattle.net_options.specs.Stated.{name_of}
+use Rattle.net_rows.specs.Cut.{first_cut}
+use Rattle.net_rows.specs.Stated.{name_of}
 use Rattle.net_rows.specs.declared.rows.VlanEntry.{VlanEntry}
 use Rattle.net_devices.specs.EachOnce.{has, each_once}
 

@@ -1,8 +1,8 @@
 -- What is wrong with `device` sections, in the order in which a row tells it (OpenWrt's network configuration; the names of the
 -- faults are our own).
 use Rattle.std.specs.Prelude.{ℕ, Bool, true, false, not, List, [], ◌∷◌, ◌++◌, map, filter, Some, None, if◌then◌else◌}
-use Rattle.net_options.specs.declared.stated.Stated.{Stated}
-use Rattle.net_options.specs.declared.stated.Stated.TheVariants.{Absent, Unread, Read}
+use Rattle.net_rows.specs.declared.stated.Stated.{Stated}
+use Rattle.net_rows.specs.declared.stated.Stated.TheVariants.{Absent, Unread, Read}
 use Rattle.net_rows.specs.declared.fault_name.FaultName.{FaultName}
 use Rattle.net_rows.specs.declared.fault_name.FaultName.TheVariants as fault
 use Rattle.net_rows.specs.declared.rows.RowFault.{RowFault}

@@ -2,7 +2,7 @@
 use Rattle.std.specs.Prelude.{ℕ, ◌≡◌, Bool, false, ◌||◌, List, Option, Some, None}
 use Rattle.std.specs.List.{list_any}
 use Rattle.std.specs.BTreeSet.{BTreeSet, contains}
-use Rattle.net_options.specs.declared.dotted.VlanParts.{VlanParts}
+use Rattle.net_rows.specs.declared.dotted.VlanParts.{VlanParts}
 use Rattle.net_devices.specs.declared.said.Said.{Said}
 use Rattle.net_devices.specs.Kinds.{kind_of}
 use Rattle.net_devices.specs.NameRows.{vlan_of, is_vlan_at}

@@ -1,9 +1,9 @@
 -- The kinds of names, with the own ports of bridges (OpenWrt's network configuration).
 use Rattle.std.specs.Prelude.{ℕ, Bool, false, List, [], ◌∷◌, filter, Option, Some, None, if◌then◌else◌, bytes_eq}
-use Rattle.net_options.specs.declared.stated.Stated.{Stated}
-use Rattle.net_options.specs.declared.stated.Stated.TheVariants.{Absent, Unread, Read}
-use Rattle.net_options.specs.declared.dotted.VlanParts.{VlanParts}
-use Rattle.net_options.specs.Dotted.{vlan_parts}
+use Rattle.net_rows.specs.declared.stated.Stated.{Stated}
+use Rattle.net_rows.specs.declared.stated.Stated.TheVariants.{Absent, Unread, Read}
+use Rattle.net_rows.specs.declared.dotted.VlanParts.{VlanParts}
+use Rattle.net_rows.specs.Dotted.{vlan_parts}
 use Rattle.net_rows.specs.declared.rows.NameKind.{NameKind}
 use Rattle.net_rows.specs.declared.rows.NameKind.TheVariants as is
 use Rattle.net_devices.specs.declared.said.StatedKind.{StatedKind}

@@ -1,10 +1,10 @@
 -- Which names stand on which, and how high (OpenWrt's network configuration; that no name is higher than 8 levels is a rule of
 -- our own).
 use Rattle.std.specs.Prelude.{ℕ, zero, suc, ◌≡◌, ◌+◌, Bool, true, false, not, max, List, [], ◌∷◌, map, filter, fold, Option, Some, None, if◌then◌else◌}
-use Rattle.net_options.specs.declared.stated.Stated.{Stated}
-use Rattle.net_options.specs.declared.stated.Stated.TheVariants.{Absent, Unread, Read}
-use Rattle.net_options.specs.declared.dotted.VlanParts.{VlanParts}
-use Rattle.net_options.specs.Dotted.{vlan_parts}
+use Rattle.net_rows.specs.declared.stated.Stated.{Stated}
+use Rattle.net_rows.specs.declared.stated.Stated.TheVariants.{Absent, Unread, Read}
+use Rattle.net_rows.specs.declared.dotted.VlanParts.{VlanParts}
+use Rattle.net_rows.specs.Dotted.{vlan_parts}
 use Rattle.net_devices.specs.declared.said.StatedKind.{StatedKind}
 use Rattle.net_devices.specs.declared.said.StatedKind.TheVariants.{Untyped, Wrong, Bridge, Vlan}
 use Rattle.net_devices.specs.declared.said.DeviceSection.{DeviceSection}

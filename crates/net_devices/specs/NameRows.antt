@@ -3,7 +3,7 @@ use Rattle.std.specs.Prelude.{ℕ, Bool, true, false, ◌==◌, ◌&&◌, nat_lt
 use Rattle.std.specs.List.{list_any}
 use Rattle.uci_tree.specs.declared.package.Section.{Section}
 use Rattle.kern_model.specs.declared.object.Mac.{Mac}
-use Rattle.net_options.specs.declared.dotted.VlanParts.{VlanParts}
+use Rattle.net_rows.specs.declared.dotted.VlanParts.{VlanParts}
 use Rattle.net_rows.specs.declared.fault_name.FaultName.{FaultName}
 use Rattle.net_rows.specs.declared.fault_name.FaultName.TheVariants as fault
 use Rattle.net_devices.specs.declared.levels.TheConstants.{MOST_LEVELS}

@@ -2,10 +2,10 @@
 -- of our own).
 use Rattle.std.specs.Prelude.{ℕ, zero, suc, Bool, false, List, [], ◌∷◌, ◌++◌, Option, Some, None, if◌then◌else◌, bytes_eq}
 use Rattle.std.specs.List.{flat_map}
-use Rattle.net_options.specs.declared.stated.Stated.{Stated}
-use Rattle.net_options.specs.declared.stated.Stated.TheVariants.{Absent, Unread, Read}
-use Rattle.net_options.specs.declared.dotted.VlanParts.{VlanParts}
-use Rattle.net_options.specs.Dotted.{vlan_parts}
+use Rattle.net_rows.specs.declared.stated.Stated.{Stated}
+use Rattle.net_rows.specs.declared.stated.Stated.TheVariants.{Absent, Unread, Read}
+use Rattle.net_rows.specs.declared.dotted.VlanParts.{VlanParts}
+use Rattle.net_rows.specs.Dotted.{vlan_parts}
 use Rattle.net_devices.specs.declared.said.StatedKind.{StatedKind}
 use Rattle.net_devices.specs.declared.said.StatedKind.TheVariants.{Untyped, Wrong, Bridge, Vlan}
 use Rattle.net_devices.specs.declared.said.DeviceSection.{DeviceSection}

@@ -7,14 +7,14 @@ use Rattle.uci_tree.specs.declared.package.Opt.{Opt}
 use Rattle.uci_tree.specs.declared.package.Section.{Section}
 use Rattle.kern_model.specs.Name.{is_name}
 use Rattle.kern_model.specs.declared.vlan_name.TheConstants.{LEAST_VLAN_ID, MOST_VLAN_ID}
-use Rattle.net_options.specs.declared.stated.Stated.{Stated}
-use Rattle.net_options.specs.declared.stated.Stated.TheVariants.{Absent, Unread, Read}
-use Rattle.net_options.specs.Options.{value_of, text_of}
-use Rattle.net_options.specs.Stated.{stated, name_of}
-use Rattle.net_options.specs.Words.{item_words}
-use Rattle.net_options.specs.Truth.{truth}
-use Rattle.net_options.specs.Number.{number_within}
-use Rattle.net_options.specs.HardwareAddress.{mac_of}
+use Rattle.net_rows.specs.declared.stated.Stated.{Stated}
+use Rattle.net_rows.specs.declared.stated.Stated.TheVariants.{Absent, Unread, Read}
+use Rattle.net_rows.specs.Options.{value_of, text_of}
+use Rattle.net_rows.specs.Stated.{stated, name_of}
+use Rattle.net_rows.specs.Words.{item_words}
+use Rattle.net_rows.specs.Truth.{truth}
+use Rattle.net_rows.specs.Number.{number_within}
+use Rattle.net_rows.specs.HardwareAddress.{mac_of}
 use Rattle.net_devices.specs.declared.said.StatedKind.{StatedKind}
 use Rattle.net_devices.specs.declared.said.StatedKind.TheVariants as kind
 use Rattle.net_devices.specs.declared.said.DeviceSection.{DeviceSection}

@@ -13,8 +13,9 @@ use crate::said::port_words;
 use crate::said_index::SaidIndex;
 use crate::vlan_table::VlanTable;
 use kern_model::DevName;
-use net_options::{Stated, stated_name, stated_vlan_id, truth_of};
-use net_rows::{FaultName, RowFault, VlanEntry, VlanRow};
+use net_rows::{
+    FaultName, RowFault, Stated, VlanEntry, VlanRow, stated_name, stated_vlan_id, truth_of,
+};
 use plane_io::{Items, Memory, Text};
 use std::alloc::Global;
 use uci_tree::{Opt, Section};

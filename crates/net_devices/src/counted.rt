@@ -8,7 +8,7 @@ use crate::each_once::NamesOnce;
 use crate::kinds::name_if_read;
 use crate::said::{Said, said_in};
 use kern_model::DevName;
-use net_options::stated_name;
+use net_rows::stated_name;
 use plane_io::{Items, Memory};
 use std::alloc::Global;
 use uci_tree::Section;

@@ -4,8 +4,7 @@ ghost use Rattle.net_devices.specs.Entries as spec;
 
 use crate::each_once::{NamesOnce, TextsOnce};
 use kern_model::{DevName, read_name};
-use net_options::cut_first;
-use net_rows::VlanEntry;
+use net_rows::{VlanEntry, cut_first};
 use plane_io::{Items, Memory, Text};
 use std::alloc::Global;
 

@@ -7,8 +7,7 @@ use crate::levels::is_bridge;
 use crate::said::{DeviceSection, StatedKind};
 use crate::said_index::SaidIndex;
 use kern_model::DevName;
-use net_options::Stated;
-use net_rows::{FaultName, RowFault};
+use net_rows::{FaultName, RowFault, Stated};
 use plane_io::{Items, Memory, Text};
 use std::alloc::Global;
 

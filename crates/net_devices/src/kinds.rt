@@ -1,13 +1,12 @@
 ghost use Rattle.std.specs.Prelude.{◌≡◌, IfOk};
-ghost use Rattle.net_options.specs.Dotted as vlan_name;
+ghost use Rattle.net_rows.specs.Dotted as vlan_name;
 ghost use Rattle.net_devices.specs.Kinds as spec;
 
 use crate::levels::is_bridge;
 use crate::said::StatedKind;
 use crate::said_index::SaidIndex;
 use kern_model::DevName;
-use net_options::{Stated, vlan_parts};
-use net_rows::NameKind;
+use net_rows::{NameKind, Stated, vlan_parts};
 use plane_io::{Items, Memory};
 use std::alloc::Global;
 

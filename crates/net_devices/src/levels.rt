@@ -1,5 +1,5 @@
 ghost use Rattle.std.specs.Prelude.{◌≡◌, ◌≤◌, ◌+◌, List, IfOk, OnOk, max};
-ghost use Rattle.net_options.specs.Dotted as vlan_name;
+ghost use Rattle.net_rows.specs.Dotted as vlan_name;
 ghost use Rattle.net_devices.specs.Levels as spec;
 ghost use Rattle.net_devices.specs.FoundLevels.{AreLevels};
 ghost use Rattle.net_devices.specs.declared.said.Said.{Said};
@@ -7,7 +7,7 @@ ghost use Rattle.net_devices.specs.declared.said.Said.{Said};
 use crate::said::StatedKind;
 use crate::said_index::SaidIndex;
 use kern_model::DevName;
-use net_options::{Stated, vlan_parts};
+use net_rows::{Stated, vlan_parts};
 use plane_io::{Items, Memory};
 use std::alloc::Global;
 use std::collections::BTreeMap;

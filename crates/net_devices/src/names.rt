@@ -7,7 +7,7 @@ use crate::each_once::NamesOnce;
 use crate::said::{DeviceSection, Said, StatedKind};
 use crate::said_index::SaidIndex;
 use kern_model::DevName;
-use net_options::{Stated, VlanParts, vlan_parts};
+use net_rows::{Stated, VlanParts, vlan_parts};
 use plane_io::{Items, Memory};
 use std::alloc::Global;
 

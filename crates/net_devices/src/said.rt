@@ -3,7 +3,7 @@ ghost use Rattle.net_devices.specs.Said as spec;
 
 use crate::each_once::{NamesOnce, TextsOnce};
 use kern_model::{DevName, Mac, read_name};
-use net_options::{
+use net_rows::{
     Stated, item_words, stated_mac, stated_name, stated_number, stated_vlan_id, truth_of, value_of,
 };
 use plane_io::{Items, Memory, Text};

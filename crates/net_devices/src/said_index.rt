@@ -8,7 +8,7 @@ ghost use Rattle.net_devices.specs.Found as spec;
 use crate::kinds::name_if_read;
 use crate::said::{DeviceSection, Said, StatedKind};
 use kern_model::DevName;
-use net_options::Stated;
+use net_rows::Stated;
 use plane_io::{Items, Memory};
 use std::alloc::Global;
 use std::collections::BTreeMap;

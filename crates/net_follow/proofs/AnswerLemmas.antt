@@ -33,10 +33,10 @@ use Rattle.known_inputs.specs.Steps.{place_of, ask_of}
 use Rattle.known_inputs.proofs.FoundLemmas.{found_numbered}
 use Rattle.given_objects.specs.Gifts.{Gifts}
 use Rattle.state_asks.specs.Course.{Course}
-use Rattle.net_claims.specs.declared.state.InterfaceState.{InterfaceState}
-use Rattle.net_claims.specs.States.{is_first, IsStateAs}
-use Rattle.net_claims.proofs.AnswerLemmas.{state_same}
-use Rattle.net_claims.proofs.MoveLemmas.{some_is, count_few}
+use Rattle.net_rules.specs.declared.state.InterfaceState.{InterfaceState}
+use Rattle.net_rules.specs.States.{is_first, IsStateAs}
+use Rattle.net_rules.proofs.AnswerLemmas.{state_same}
+use Rattle.net_rules.proofs.MoveLemmas.{some_is, count_few}
 use Rattle.net_gifts.specs.Giving.{times_in, gives, HasGivers, HavePlaces}
 use Rattle.net_gifts.proofs.TimesLemmas.{gives_agree}
 use Rattle.net_reach.specs.declared.reach.Reach.{Reach}

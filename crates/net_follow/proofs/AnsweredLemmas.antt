@@ -16,8 +16,8 @@ use Rattle.net_rules.specs.Refusal.{refusal}
 use Rattle.state_asks.specs.Course.{Course, held_of}
 use Rattle.known_inputs.specs.Known.{StandOnce}
 use Rattle.known_inputs.specs.Steps.{ask_of}
-use Rattle.net_claims.specs.declared.state.InterfaceState.{InterfaceState}
-use Rattle.net_claims.proofs.MoveLemmas.{some_is}
+use Rattle.net_rules.specs.declared.state.InterfaceState.{InterfaceState}
+use Rattle.net_rules.proofs.MoveLemmas.{some_is}
 use Rattle.net_gifts.specs.Giving.{HavePlaces}
 use Rattle.net_gifts.proofs.BareLemmas.{places_stay}
 use Rattle.net_reach.specs.declared.reach.Reach.{Reach}

@@ -13,9 +13,9 @@ use Rattle.net_rules.specs.After.{changed}
 use Rattle.net_rules.specs.Refusal.{refusal}
 use Rattle.given_objects.specs.Gifts.{Gifts}
 use Rattle.state_asks.specs.Course.{held_of}
-use Rattle.net_claims.specs.declared.state.InterfaceState.{InterfaceState}
-use Rattle.net_claims.specs.States.{is_first}
-use Rattle.net_claims.proofs.MoveLemmas.{some_is}
+use Rattle.net_rules.specs.declared.state.InterfaceState.{InterfaceState}
+use Rattle.net_rules.specs.States.{is_first}
+use Rattle.net_rules.proofs.MoveLemmas.{some_is}
 use Rattle.net_gifts.specs.Giving.{HavePlaces}
 use Rattle.net_reach.specs.declared.reach.Reach.{Reach}
 use Rattle.net_reach.specs.Groups.{HasRoomAt}

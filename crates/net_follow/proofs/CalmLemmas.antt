@@ -24,7 +24,7 @@ use Rattle.course_laws.specs.Beside.{IsCourseOf, HoldsLower, AreQuiet}
 use Rattle.course_laws.proofs.CountedLemmas.{counted_beside}
 use Rattle.course_laws.proofs.CourseLemmas.{looked_ready, quiet_ready}
 use Rattle.state_asks.specs.Claiming.{HasClaims, DiffersInClaims}
-use Rattle.net_claims.specs.declared.state.InterfaceState.{InterfaceState}
+use Rattle.net_rules.specs.declared.state.InterfaceState.{InterfaceState}
 use Rattle.net_gifts.proofs.BareLemmas.{held_stays}
 use Rattle.state_asks.specs.States.{States}
 use Rattle.state_asks.specs.Kept.{AreStatesOf}

@@ -11,8 +11,8 @@ use Rattle.net_rules.specs.Inputs.{facts_of}
 use Rattle.net_rules.specs.After.{changed, commands_after}
 use Rattle.state_asks.specs.Course.{Course, IsReady}
 use Rattle.known_inputs.specs.Known.{IsNamed}
-use Rattle.net_claims.specs.declared.state.InterfaceState.{InterfaceState}
-use Rattle.net_claims.specs.States.{is_first, IsStateAs}
+use Rattle.net_rules.specs.declared.state.InterfaceState.{InterfaceState}
+use Rattle.net_rules.specs.States.{is_first, IsStateAs}
 use Rattle.net_view.proofs.PlaceLemmas.{at_place}
 use Rattle.net_reach.specs.Reach.{interface_place}
 use Rattle.net_reach.proofs.AlikeLemmas.{alike_reach, command_alike}

@@ -10,7 +10,7 @@ use Rattle.net_rules.specs.Want.{given_by}
 use Rattle.net_rules.specs.Inputs.{facts_of}
 use Rattle.given_objects.specs.Gifts.{Gifts}
 use Rattle.state_asks.specs.Course.{Course}
-use Rattle.net_claims.specs.declared.state.InterfaceState.{InterfaceState}
+use Rattle.net_rules.specs.declared.state.InterfaceState.{InterfaceState}
 use Rattle.net_gifts.specs.Giving.{times_in, gives, HasGivers, HavePlaces}
 use Rattle.net_gifts.proofs.TimesLemmas.{gives_agree}
 use Rattle.net_reach.specs.declared.reach.Reach.{Reach}

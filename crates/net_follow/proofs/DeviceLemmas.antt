@@ -9,11 +9,11 @@ use Rattle.net_rules.specs.declared.event.Event.TheVariants as event
 use Rattle.net_rules.specs.Inputs.{facts_of}
 use Rattle.net_rules.specs.Numbers.{AreRising}
 use Rattle.net_rules.specs.After.{devices_after, changed}
-use Rattle.net_apart.specs.Reach as apart
+use Rattle.net_rules.specs.Reach as apart
 use Rattle.state_asks.specs.Course.{Course}
 use Rattle.known_inputs.specs.Steps as steps
-use Rattle.net_claims.specs.declared.state.InterfaceState.{InterfaceState}
-use Rattle.net_claims.specs.States.{is_first, IsStateAs}
+use Rattle.net_rules.specs.declared.state.InterfaceState.{InterfaceState}
+use Rattle.net_rules.specs.States.{is_first, IsStateAs}
 use Rattle.net_reach.specs.declared.reach.Reach.{Reach}
 use Rattle.net_reach.specs.Reach.{IsReachOf, AreTouched}
 use Rattle.asked_places.proofs.OrderLemmas.{rising_below}

@@ -26,8 +26,8 @@ use Rattle.course_laws.specs.Beside.{HoldsLower, AreQuiet}
 use Rattle.course_laws.proofs.DeviceLemmas.{at_place}
 use Rattle.course_laws.proofs.QuietLemmas.{quiet_left}
 use Rattle.state_asks.specs.Claiming.{HasClaims}
-use Rattle.net_claims.specs.declared.state.InterfaceState.{InterfaceState}
-use Rattle.net_claims.proofs.MoveLemmas.{some_is}
+use Rattle.net_rules.specs.declared.state.InterfaceState.{InterfaceState}
+use Rattle.net_rules.proofs.MoveLemmas.{some_is}
 use Rattle.net_follow.specs.InStep.{IsCalm}
 
 -- ---- the name of an id

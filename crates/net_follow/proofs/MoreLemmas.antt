@@ -23,7 +23,7 @@ use Rattle.graph_rules.specs.Wanted.{want_in}
 use Rattle.state_asks.specs.Course.{Course, held_of, wanted_of, devices_of, IsReady}
 use Rattle.gift_places.specs.Expecting.{listed_given, with_places, HasMorePlaces}
 use Rattle.gift_places.proofs.LawLemmas.{same_held, same_given, same_givers, still_place, all_places, all_old_or_empty}
-use Rattle.net_claims.specs.declared.state.InterfaceState.{InterfaceState}
+use Rattle.net_rules.specs.declared.state.InterfaceState.{InterfaceState}
 use Rattle.net_gifts.specs.Giving.{HavePlaces}
 use Rattle.state_asks.specs.Counted.{IsCountedBy}
 use Rattle.net_follow.specs.declared.follower.Follower.{Follower}

@@ -12,7 +12,7 @@ use Rattle.state_asks.specs.Course.{Course, held_of, IsReady}
 use Rattle.course_laws.specs.Beside.{IsCourseOf}
 use Rattle.course_laws.proofs.CountedLemmas.{counted_beside}
 use Rattle.course_laws.proofs.FurtherLemmas.{ready_grown, below_grown, same_claims, more_names}
-use Rattle.net_claims.specs.declared.state.InterfaceState.{InterfaceState}
+use Rattle.net_rules.specs.declared.state.InterfaceState.{InterfaceState}
 use Rattle.net_reach.specs.declared.reach.Reach.{Reach}
 use Rattle.net_reach.specs.Reach.{IsReachOf}
 use Rattle.state_asks.specs.States.{States}

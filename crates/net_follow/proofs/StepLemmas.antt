@@ -6,7 +6,7 @@ use Rattle.net_rules.specs.declared.event.Event.{Event}
 use Rattle.net_rules.specs.After.{changed, after}
 use Rattle.net_rules.specs.Moment.{Moment, MayCome, held_after, moment_after, IsHistory}
 use Rattle.net_rules.specs.Notices.{notices}
-use Rattle.net_asked.specs.Touched.{asked_of}
+use Rattle.net_rules.specs.Touched.{asked_of}
 use Rattle.touch_laws.specs.Staying.{told_of, FollowTouched}
 use Rattle.known_inputs.specs.Known.{Known}
 use Rattle.state_asks.specs.Course.{held_of, IsReady}

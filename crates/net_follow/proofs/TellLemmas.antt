@@ -21,7 +21,7 @@ use Rattle.state_asks.specs.Leaving.{left_gifts}
 use Rattle.course_laws.proofs.DeviceLemmas.{comes_below, leaves_below, carrier_below}
 use Rattle.state_asks.specs.Claiming.{HasClaims}
 use Rattle.known_inputs.specs.Steps.{name_of}
-use Rattle.net_claims.specs.declared.state.InterfaceState.{InterfaceState}
+use Rattle.net_rules.specs.declared.state.InterfaceState.{InterfaceState}
 use Rattle.net_gifts.specs.Giving.{HasGivers}
 use Rattle.state_asks.specs.Counted.{AgreesWith, HasGiftRoom, IsCountedBy}
 use Rattle.net_follow.specs.InStep.{IsCalm}

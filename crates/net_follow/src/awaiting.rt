@@ -7,7 +7,7 @@ ghost use Rattle.net_rules.specs.declared.event.Event.TheVariants as event;
 ghost use Rattle.net_rules.specs.Interfaces.{device_or_own};
 ghost use Rattle.net_rules.specs.Inputs.{facts_of};
 ghost use Rattle.net_rules.specs.Refusal.{refusal};
-ghost use Rattle.net_claims.specs.declared.state.InterfaceState.{InterfaceState};
+ghost use Rattle.net_rules.specs.declared.state.InterfaceState.{InterfaceState};
 ghost use Rattle.net_gifts.specs.Giving.{HavePlaces};
 ghost use Rattle.gift_places.specs.Expecting.{HasMorePlaces};
 ghost use Rattle.state_asks.specs.Course.{held_of};

@@ -14,7 +14,7 @@ ghost use Rattle.graph_laws.specs.Below.{AgreesBelow};
 ghost use Rattle.state_asks.specs.Course.{held_of, IsReady};
 ghost use Rattle.known_inputs.specs.Known.{StandOnce, device_names};
 ghost use Rattle.known_inputs.specs.Steps.{name_of, place_of, HasDeviceRoom};
-ghost use Rattle.net_claims.specs.declared.state.InterfaceState.{InterfaceState};
+ghost use Rattle.net_rules.specs.declared.state.InterfaceState.{InterfaceState};
 ghost use Rattle.net_reach.specs.Reach.{IsReachOf};
 ghost use Rattle.state_asks.specs.Counted.{IsCountedBy};
 ghost use Rattle.net_follow.specs.InStep.{inputs_of, IsInStep, IsCalm, HasFollowed, LooksAs};

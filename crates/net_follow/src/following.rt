@@ -2,9 +2,9 @@
 ghost use Rattle.std.specs.Prelude.{◌≡◌, ◌≤◌, ◌∷◌, [], List, length, true, false, vec_capacity};
 ghost use Rattle.net_rules.specs.declared.inputs.Inputs.{Inputs};
 ghost use Rattle.net_rules.specs.Moment.{IsHistory};
-ghost use Rattle.net_asked.specs.Touched.{asked_of};
+ghost use Rattle.net_rules.specs.Touched.{asked_of};
 ghost use Rattle.touch_laws.specs.Staying.{told_of};
-ghost use Rattle.net_claims.specs.declared.state.InterfaceState.{InterfaceState};
+ghost use Rattle.net_rules.specs.declared.state.InterfaceState.{InterfaceState};
 ghost use Rattle.net_reach.specs.Reach.{IsReachOf, AreTouched};
 ghost use Rattle.state_asks.specs.Course.{held_of, IsReady};
 ghost use Rattle.state_asks.specs.Leaving.{all_looked_at};

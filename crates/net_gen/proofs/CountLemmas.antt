@@ -12,10 +12,10 @@ use Rattle.kern_model.specs.CallOrder.{after_calls}
 use Rattle.net_settle.specs.Outside.{Outside}
 use Rattle.net_settle.specs.Settle.{SettledAlone, StopsAtCall, StopsAtLine, lines_of, whole_line, done_call, failed_call}
 use Rattle.net_settle.proofs.SettleLemmas.{nothing_settled, settled_more, records_more, grows_more}
-use Rattle.step_net.specs.NetError.{NetError}
-use Rattle.step_net.specs.NetError.TheVariants as error
-use Rattle.step_net.specs.Network.{Network, moment_of, calls_of}
-use Rattle.step_net.specs.PlaneSettled as plane
+use Rattle.net_plane.specs.declared.net_error.NetError.{NetError}
+use Rattle.net_plane.specs.declared.net_error.NetError.TheVariants as error
+use Rattle.net_plane.specs.Network.{Network, moment_of, calls_of}
+use Rattle.net_plane.specs.Settled as plane
 use Rattle.step_net.specs.Moved.{due, failed_at_call, settled}
 use Rattle.kern_model.specs.Line.{line_of}
 use Rattle.net_gen.specs.Counted.{IsCounted, IsBrokenOff}

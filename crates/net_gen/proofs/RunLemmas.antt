@@ -16,7 +16,7 @@ use Rattle.net_conf.specs.Limits.{passed_limit}
 use Rattle.net_rules.specs.Inputs.{no_inputs}
 use Rattle.net_rules.specs.Moment.{Moment, want_of, devices_of}
 use Rattle.net_settle.specs.Outside.{Outside}
-use Rattle.step_net.specs.Network.{Network, IsNew, HasSameKernel, moment_of}
+use Rattle.net_plane.specs.Network.{Network, IsNew, HasSameKernel, moment_of}
 use Rattle.step_net.specs.declared.told.Told.{Told}
 use Rattle.step_net.specs.Taken.{IsActed}
 use Rattle.step_net.specs.NetLine.{load_within, load_line}

@@ -13,7 +13,7 @@ use Rattle.net_conf.specs.Limits.{passed_limit}
 use Rattle.net_rules.specs.Moment.{Moment}
 use Rattle.net_settle.specs.Outside.{Outside}
 use Rattle.net_settle.specs.Settle.{done_call}
-use Rattle.step_net.specs.Network.{Network, moment_of, IsOf, HasSameKernel}
+use Rattle.net_plane.specs.Network.{Network, moment_of, IsOf, HasSameKernel}
 use Rattle.step_net.specs.declared.told.Told.{Told}
 use Rattle.step_net.specs.NetLine.{NetLine, load_within, load_line}
 use Rattle.step_net.specs.Acted.{Acted, acted}

@@ -1,12 +1,12 @@
 ghost use Rattle.std.specs.Prelude.{◌≡◌, ◌^◌, ◌-◌, [], Some, OnOk};
 ghost use Rattle.net_rules.specs.Moment.{want_of};
-ghost use Rattle.step_net.specs.Network.{IsOf, moment_of};
+ghost use Rattle.net_plane.specs.Network.{IsOf, moment_of};
 ghost use Rattle.step_net.specs.Finished.{HoldsOrFailed};
 ghost use Rattle.net_gen.specs.Counted.{CountEnds, kernel_alone};
 
 use kern_model::Kernel;
+use net_plane::{Net, NetError};
 use plane_io::{Failed, Memory, Sink};
-use step_net::{Net, NetError};
 
 /// A sink that takes nothing, and so stops a settling behind each of its calls.
 #[derive(Drop)]

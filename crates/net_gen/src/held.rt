@@ -3,9 +3,9 @@ ghost use Rattle.std.specs.FinSet as set;
 ghost use Rattle.kern_model.specs.ObjectOrder.{set_of};
 
 use crate::packages::no_package;
+use net_plane::Net;
 use plane_io::Memory;
 use std::alloc::Global;
-use step_net::Net;
 
 /// The number of objects that are held. Where no rows are loaded nothing is wanted, and so all of them are due.
 pub(crate) fn count_held(alloc: Global, mut net: Net) -> Result<usize, Memory>

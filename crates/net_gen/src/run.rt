@@ -4,7 +4,7 @@ ghost use Rattle.std.specs.FinMap as finite_map;
 ghost use Rattle.kern_model.specs.ObjectOrder.{set_of};
 ghost use Rattle.net_rules.specs.Moment.{devices_of, want_of};
 ghost use Rattle.net_settle.specs.Outside.{outside_of};
-ghost use Rattle.step_net.specs.Network.{IsOf, moment_of};
+ghost use Rattle.net_plane.specs.Network.{IsOf, moment_of};
 ghost use Rattle.net_start.specs.BringUp.{IsBare};
 ghost use Rattle.step_net.specs.Finished.{HoldsOrFailed};
 ghost use Rattle.net_gen.specs.Steps.{loaded};
@@ -16,9 +16,10 @@ use crate::number_line::write_number;
 use crate::packages::{Standing, network, no_package};
 use crate::steps::{STEPS, take_step};
 use kern_model::Kernel;
+use net_plane::Net;
 use plane_io::{Memory, Sink};
 use std::alloc::Global;
-use step_net::{Net, take_load};
+use step_net::take_load;
 use uci_tree::Package;
 
 /// Runs the network of so many bridges over a kernel that holds nothing: its device comes, goes and comes again, and then the rows are

@@ -1,6 +1,6 @@
 ghost use Rattle.std.specs.Prelude.{◌≡◌, ◌≤◌, [], length, OnOk};
 ghost use Rattle.net_rules.specs.Moment.{want_of};
-ghost use Rattle.step_net.specs.Network.{IsOf, moment_of};
+ghost use Rattle.net_plane.specs.Network.{IsOf, moment_of};
 ghost use Rattle.step_net.specs.Taken.{Tries, telled_of};
 ghost use Rattle.step_net.specs.Finished.{HoldsOrFailed};
 ghost use Rattle.net_gen.specs.Counted.{kernel_alone};
@@ -10,10 +10,11 @@ ghost use Rattle.net_gen.specs.StepEnds.{StepEnds};
 use crate::counted::settle_and_count;
 use crate::packages::no_package;
 use kern_model::{DevEvent, DevName, Kernel, Mac, read_name};
+use net_plane::Net;
 use net_start::ETHERNET_MTU;
 use plane_io::Memory;
 use std::alloc::Global;
-use step_net::{Net, Told, take_device, take_load};
+use step_net::{Told, take_device, take_load};
 use uci_tree::Package;
 
 /// A step of a run.

@@ -10,7 +10,7 @@ use Rattle.given_objects.specs.Gifts.{Gifts, has_place, givers_of}
 use Rattle.given_objects.specs.Changes.{given_once_more, given_once_less}
 use Rattle.given_objects.proofs.ChangeLemmas.{of_itself}
 use Rattle.given_objects.proofs.PlaceLemmas.{give_places, give_givers, withdraw_givers, give_others, withdraw_others}
-use Rattle.net_claims.proofs.MoveLemmas.{one, length_kept}
+use Rattle.net_rules.proofs.MoveLemmas.{one, length_kept}
 use Rattle.net_gifts.specs.Giving.{times_in, HavePlaces}
 
 times_first : (o x : Object) (xs : List Object) → times_in o (x ∷ xs) ≡ one (eq_by_cmp object_cmp o x) + times_in o xs

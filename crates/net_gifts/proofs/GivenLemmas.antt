@@ -7,9 +7,9 @@ use Rattle.net_rules.specs.Facts.{Facts}
 use Rattle.net_rules.specs.Rows.{interfaces_of}
 use Rattle.net_rules.specs.Interfaces.{is_up, layer_of}
 use Rattle.net_rules.specs.Want.{given_by, given}
-use Rattle.net_claims.specs.declared.state.InterfaceState.{InterfaceState}
-use Rattle.net_claims.specs.States.{is_first, IsStateAs, AreStates}
-use Rattle.net_claims.proofs.PairLemmas.{give_all_firsts}
+use Rattle.net_rules.specs.declared.state.InterfaceState.{InterfaceState}
+use Rattle.net_rules.specs.States.{is_first, IsStateAs, AreStates}
+use Rattle.net_rules.proofs.PairLemmas.{give_all_firsts}
 use Rattle.net_gifts.specs.Giving.{gives, all_gives}
 
 gives_as : (facts : Facts) (first : Bool) (row : InterfaceRow) (st : InterfaceState) → IsStateAs first facts row st → gives facts row st ≡ cond first (given facts row) []

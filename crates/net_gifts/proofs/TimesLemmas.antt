@@ -8,7 +8,7 @@ use Rattle.std.proofs.lemmas.List.Elements.{filter-append}
 use Rattle.kern_model.specs.declared.object.Object.{Object}
 use Rattle.kern_model.specs.ObjectOrder.{object_cmp}
 use Rattle.kern_model.proofs.MemberLemmas.{here, there}
-use Rattle.net_claims.proofs.MoveLemmas.{some_is, count_few}
+use Rattle.net_rules.proofs.MoveLemmas.{some_is, count_few}
 use Rattle.net_gifts.specs.Giving.{times_in}
 
 pub times_behind : (o : Object) (xs ys : List Object) → times_in o (xs ++ ys) ≡ times_in o xs + times_in o ys

@@ -7,7 +7,7 @@ use Rattle.kern_model.specs.ObjectOrder.{object_cmp}
 use Rattle.net_rows.specs.declared.rows.InterfaceRow.{InterfaceRow}
 use Rattle.net_rules.specs.Facts.{Facts}
 use Rattle.net_rules.specs.Want.{given_by}
-use Rattle.net_claims.specs.declared.state.InterfaceState.{InterfaceState}
+use Rattle.net_rules.specs.declared.state.InterfaceState.{InterfaceState}
 use Rattle.given_objects.specs.declared.gift.Gift.{Gift}
 use Rattle.given_objects.specs.Gifts.{Gifts, has_place, givers_of}
 

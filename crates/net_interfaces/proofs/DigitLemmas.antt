@@ -7,7 +7,7 @@ use Rattle.std.specs.Str.{all_ascii_digits}
 use Rattle.std.specs.Str.Parse.{IsNumeral, digits_value}
 use Rattle.std.proofs.lemmas.Bool.{eqb-false}
 use Rattle.std.proofs.lemmas.Str.Parse.{IsNumeralModel, numerals_by_value, tells_all_ascii_digits}
-use Rattle.net_options.specs.Number.{is_numeral}
+use Rattle.net_rows.specs.Number.{is_numeral}
 
 all_same : (digits : List ℕ) → list_all is_ascii_digit digits ≡ all_ascii_digits digits
 all_same [] = refl

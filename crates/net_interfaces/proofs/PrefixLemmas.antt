@@ -2,8 +2,8 @@
 use Rattle.std.proofs.Common.{ℕ, ◌≡◌, List, Option, Some, None, refl, sym, ◌∙◌, ap}
 use Rattle.net_addr.specs.declared.address.Addr.{Addr}
 use Rattle.net_addr.specs.Byte.{slash}
-use Rattle.net_options.specs.Cut.{HasNone, CutsAtFirst}
-use Rattle.net_options.proofs.CutLemmas.{no_first_cut, is_first_cut}
+use Rattle.net_rows.specs.Cut.{HasNone, CutsAtFirst}
+use Rattle.net_rows.proofs.CutLemmas.{no_first_cut, is_first_cut}
 use Rattle.net_interfaces.specs.declared.address.Family.{Family}
 use Rattle.net_interfaces.specs.Address.{addr_of}
 use Rattle.net_interfaces.specs.Prefix.{length_of, both, prefix_at, prefix_of}

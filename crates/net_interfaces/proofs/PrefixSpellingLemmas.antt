@@ -11,8 +11,8 @@ use Rattle.net_addr.specs.Width.{bits}
 use Rattle.net_addr.specs.Spelling.{Spells}
 use Rattle.net_addr.specs.CidrSpelling.{SpellsCidr, SpellsLength, before_slash}
 use Rattle.net_addr.proofs.CidrLemmas.{suffix_part}
-use Rattle.net_options.specs.Cut.{HasNone, CutsAtFirst}
-use Rattle.net_options.specs.Number.{is_numeral, of_32_bits, decimal_of, within, number_within}
+use Rattle.net_rows.specs.Cut.{HasNone, CutsAtFirst}
+use Rattle.net_rows.specs.Number.{is_numeral, of_32_bits, decimal_of, within, number_within}
 use Rattle.net_interfaces.specs.declared.address.Family.{Family}
 use Rattle.net_interfaces.specs.declared.address.Family.TheVariants as family
 use Rattle.net_interfaces.specs.Address.{addr_of, bits_of}

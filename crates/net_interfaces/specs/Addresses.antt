@@ -4,9 +4,9 @@ use Rattle.std.specs.Option.{unwrap_or}
 use Rattle.std.specs.List.{list_any}
 use Rattle.net_addr.specs.declared.address.Addr.{Addr}
 use Rattle.uci_tree.specs.declared.package.Opt.{Opt}
-use Rattle.net_options.specs.declared.stated.Stated.{Stated}
-use Rattle.net_options.specs.Options.{value_of, text_of}
-use Rattle.net_options.specs.Stated.{stated}
+use Rattle.net_rows.specs.declared.stated.Stated.{Stated}
+use Rattle.net_rows.specs.Options.{value_of, text_of}
+use Rattle.net_rows.specs.Stated.{stated}
 use Rattle.net_interfaces.specs.declared.kinds.TheConstants.{STATIC, NONE}
 use Rattle.net_interfaces.specs.declared.address.Family.{Family}
 use Rattle.net_interfaces.specs.declared.address.Family.TheVariants.{V4, V6}

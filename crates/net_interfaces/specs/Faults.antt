@@ -2,10 +2,10 @@
 -- the faults are our own).
 use Rattle.std.specs.Prelude.{ℕ, Bool, false, ◌||◌, ◌==◌, List, [], ◌∷◌, ◌++◌, Option, Some, None, codes, if◌then◌else◌}
 use Rattle.uci_tree.specs.declared.package.Opt.{Opt}
-use Rattle.net_options.specs.declared.stated.Stated.{Stated}
-use Rattle.net_options.specs.Options.{value_of, text_of, is_given}
-use Rattle.net_options.specs.Stated.{stated, name_of}
-use Rattle.net_options.specs.Number.{decimal_of}
+use Rattle.net_rows.specs.declared.stated.Stated.{Stated}
+use Rattle.net_rows.specs.Options.{value_of, text_of, is_given}
+use Rattle.net_rows.specs.Stated.{stated, name_of}
+use Rattle.net_rows.specs.Number.{decimal_of}
 use Rattle.net_rows.specs.declared.fault_name.FaultName.TheVariants as fault
 use Rattle.net_rows.specs.declared.rows.RowFault.{RowFault}
 use Rattle.net_interfaces.specs.Given.{is_unread, if_so}

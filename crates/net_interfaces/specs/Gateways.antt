@@ -2,9 +2,9 @@
 use Rattle.std.specs.Prelude.{ℕ, Bool, ◌||◌, List, [], ◌++◌, codes, if◌then◌else◌}
 use Rattle.net_addr.specs.declared.address.Addr.{Addr}
 use Rattle.uci_tree.specs.declared.package.Opt.{Opt}
-use Rattle.net_options.specs.declared.stated.Stated.{Stated}
-use Rattle.net_options.specs.Options.{value_of}
-use Rattle.net_options.specs.Stated.{stated}
+use Rattle.net_rows.specs.declared.stated.Stated.{Stated}
+use Rattle.net_rows.specs.Options.{value_of}
+use Rattle.net_rows.specs.Stated.{stated}
 use Rattle.net_interfaces.specs.declared.address.Family.{Family}
 use Rattle.net_interfaces.specs.declared.address.Family.TheVariants.{V4, V6}
 use Rattle.net_interfaces.specs.Address.{addr_of}

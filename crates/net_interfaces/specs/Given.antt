@@ -2,10 +2,10 @@
 use Rattle.std.specs.Prelude.{ℕ, Bool, true, false, List, [], ◌∷◌, Option, Some, None, if◌then◌else◌}
 use Rattle.uci_tree.specs.declared.package.Value.{Value}
 use Rattle.uci_tree.specs.declared.package.Opt.{Opt}
-use Rattle.net_options.specs.declared.stated.Stated.{Stated}
-use Rattle.net_options.specs.declared.stated.Stated.TheVariants.{Absent, Unread, Read}
-use Rattle.net_options.specs.Options.{value_of}
-use Rattle.net_options.specs.Words.{item_words}
+use Rattle.net_rows.specs.declared.stated.Stated.{Stated}
+use Rattle.net_rows.specs.declared.stated.Stated.TheVariants.{Absent, Unread, Read}
+use Rattle.net_rows.specs.Options.{value_of}
+use Rattle.net_rows.specs.Words.{item_words}
 use Rattle.net_rows.specs.declared.fault_name.FaultName.{FaultName}
 use Rattle.net_rows.specs.declared.rows.RowFault.{RowFault}
 

@@ -2,8 +2,8 @@
 use Rattle.std.specs.Prelude.{Bool, true, false, not, ◌||◌, List, codes, bytes_eq, map, filter}
 use Rattle.uci_tree.specs.declared.package.Opt.{Opt}
 use Rattle.uci_tree.specs.declared.package.Section.{Section}
-use Rattle.net_options.specs.Options.{text_of}
-use Rattle.net_options.specs.Truth.{truth}
+use Rattle.net_rows.specs.Options.{text_of}
+use Rattle.net_rows.specs.Truth.{truth}
 use Rattle.net_rows.specs.declared.rows.InterfaceRow.{InterfaceRow}
 use Rattle.net_interfaces.specs.declared.kinds.TheConstants.{INTERFACE}
 use Rattle.net_interfaces.specs.Given.{if_read, read_or}

@@ -5,7 +5,7 @@ use Rattle.std.specs.Ordering.{nat_cmp}
 use Rattle.std.specs.Cmp.Lexicographic.{slice_cmp}
 use Rattle.std.specs.BTreeMap.{BTreeMap, get}
 use Rattle.uci_tree.specs.declared.package.Opt.{Opt}
-use Rattle.net_options.specs.Options.{text_of}
+use Rattle.net_rows.specs.Options.{text_of}
 
 -- the place of a name, which is that of the first where it stands several times
 abbrev pub place_of : List (List ℕ) → List ℕ → Option ℕ

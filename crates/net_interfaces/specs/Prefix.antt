@@ -2,8 +2,8 @@
 use Rattle.std.specs.Prelude.{ℕ, nat_lt, List, length, Option, Some, None, if◌then◌else◌}
 use Rattle.net_addr.specs.declared.address.Addr.{Addr}
 use Rattle.net_addr.specs.Byte.{slash}
-use Rattle.net_options.specs.Cut.{first_cut}
-use Rattle.net_options.specs.Number.{number_within}
+use Rattle.net_rows.specs.Cut.{first_cut}
+use Rattle.net_rows.specs.Number.{number_within}
 use Rattle.net_interfaces.specs.declared.address.Family.{Family}
 use Rattle.net_interfaces.specs.Address.{addr_of, bits_of}
 

@@ -2,9 +2,9 @@
 use Rattle.std.specs.Prelude.{ℕ, zero, suc, ◌+◌, ◌==◌, Bool, false, List, [], ◌∷◌, ◌++◌, Option, Some, None, codes, bytes_eq, map, filter, if◌then◌else◌}
 use Rattle.uci_tree.specs.declared.package.Value.{Value}
 use Rattle.uci_tree.specs.declared.package.Section.{Section}
-use Rattle.net_options.specs.Options.{value_of, text_of}
-use Rattle.net_options.specs.Words.{words_of}
-use Rattle.net_options.specs.Truth.{truth}
+use Rattle.net_rows.specs.Options.{value_of, text_of}
+use Rattle.net_rows.specs.Words.{words_of}
+use Rattle.net_rows.specs.Truth.{truth}
 use Rattle.net_rows.specs.declared.rows.WifiRow.{WifiRow}
 use Rattle.net_rows.specs.declared.rows.RadioRow.{RadioRow}
 use Rattle.net_interfaces.specs.declared.kinds.TheConstants.{WIFI_DEVICE, WIFI_IFACE}

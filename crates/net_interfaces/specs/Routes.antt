@@ -5,11 +5,11 @@ use Rattle.uci_tree.specs.declared.package.Value.{Value}
 use Rattle.uci_tree.specs.declared.package.Value.TheVariants.{One, Many}
 use Rattle.uci_tree.specs.declared.package.Opt.{Opt}
 use Rattle.uci_tree.specs.declared.package.Section.{Section}
-use Rattle.net_options.specs.declared.stated.Stated.{Stated}
-use Rattle.net_options.specs.Options.{value_of, text_of}
-use Rattle.net_options.specs.Stated.{stated}
-use Rattle.net_options.specs.Number.{decimal_of}
-use Rattle.net_options.specs.Truth.{truth}
+use Rattle.net_rows.specs.declared.stated.Stated.{Stated}
+use Rattle.net_rows.specs.Options.{value_of, text_of}
+use Rattle.net_rows.specs.Stated.{stated}
+use Rattle.net_rows.specs.Number.{decimal_of}
+use Rattle.net_rows.specs.Truth.{truth}
 use Rattle.net_rows.specs.declared.fault_name.FaultName.TheVariants as fault
 use Rattle.net_rows.specs.declared.rows.InterfaceRow.{InterfaceRow}
 use Rattle.net_rows.specs.declared.rows.RouteRow.{RouteRow}

@@ -1,5 +1,5 @@
 ghost use Rattle.std.specs.Prelude.{◌≡◌, ◌≤◌, ◌++◌, ℕ, IfOk, OnOk};
-ghost use Rattle.net_options.specs.declared.stated.Stated.TheVariants.{Read};
+ghost use Rattle.net_rows.specs.declared.stated.Stated.TheVariants.{Read};
 ghost use Rattle.net_interfaces.specs.Address.{bits_of};
 ghost use Rattle.net_interfaces.specs.Addresses as spec;
 
@@ -9,7 +9,7 @@ use crate::kinds::{NONE, STATIC};
 use crate::mask::read_mask;
 use crate::prefix::read_prefix;
 use net_addr::Cidr;
-use net_options::{Stated, text_of, value_of};
+use net_rows::{Stated, text_of, value_of};
 use plane_io::{Items, Memory, Text};
 use std::alloc::Global;
 use uci_tree::{Opt, Value};

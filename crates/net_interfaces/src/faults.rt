@@ -5,8 +5,9 @@ use crate::addresses::{has_bad_address, is_static, stated_mask};
 use crate::gateways::has_bad_gateway;
 use crate::given::{add_if, is_unread};
 use kern_model::DevName;
-use net_options::{Stated, is_given, read_decimal, stated_name, text_of, value_of};
-use net_rows::{FaultName, RowFault};
+use net_rows::{
+    FaultName, RowFault, Stated, is_given, read_decimal, stated_name, text_of, value_of,
+};
 use plane_io::{Items, Memory};
 use std::alloc::Global;
 use uci_tree::{Opt, Value};

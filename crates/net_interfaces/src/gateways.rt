@@ -5,7 +5,7 @@ use crate::address::{Family, read_in};
 use crate::addresses::is_static;
 use crate::given::{add_read, is_unread};
 use net_addr::Addr;
-use net_options::{Stated, value_of};
+use net_rows::{Stated, value_of};
 use plane_io::{Items, Memory};
 use std::alloc::Global;
 use uci_tree::{Opt, Value};

@@ -1,8 +1,7 @@
 ghost use Rattle.std.specs.Prelude.{◌≡◌, ◌++◌, IfOk, OnOk};
 ghost use Rattle.net_interfaces.specs.Given as spec;
 
-use net_options::{Stated, item_words, value_of};
-use net_rows::{FaultName, RowFault};
+use net_rows::{FaultName, RowFault, Stated, item_words, value_of};
 use plane_io::{Items, Memory, Text};
 use std::alloc::Global;
 use uci_tree::Opt;

@@ -2,7 +2,7 @@ ghost use Rattle.std.specs.Prelude.{◌≡◌, ℕ, List, OnOk};
 ghost use Rattle.uci_tree.specs.Index.{HasNoted};
 ghost use Rattle.net_interfaces.specs.Names as spec;
 
-use net_options::value_of;
+use net_rows::value_of;
 use plane_io::{Memory, Text};
 use std::collections::BTreeMap;
 use uci_tree::{Opt, Value};

@@ -4,7 +4,7 @@ ghost use Rattle.net_interfaces.specs.Prefix as spec;
 
 use crate::address::{Family, read_in};
 use net_addr::Cidr;
-use net_options::{cut_first, read_number};
+use net_rows::{cut_first, read_number};
 
 /// How many digits the length of a prefix has at most.
 const MOST_DIGITS: usize = 3;

@@ -1,13 +1,12 @@
 ghost use Rattle.std.specs.Prelude.{◌≡◌, ℕ, List, [], map, codes, IfOk, OnOk};
-ghost use Rattle.net_options.specs.Options as by_name;
+ghost use Rattle.net_rows.specs.Options as by_name;
 ghost use Rattle.net_interfaces.specs.Names.{HasPlaces};
 ghost use Rattle.net_interfaces.specs.Radios as spec;
 
 use crate::copies::copy_options;
 use crate::kinds::{WIFI_DEVICE, WIFI_IFACE};
 use crate::names::{note, place_given};
-use net_options::{truth_of, value_of, words_of};
-use net_rows::{RadioRow, WifiRow};
+use net_rows::{RadioRow, WifiRow, truth_of, value_of, words_of};
 use plane_io::{Items, Memory, Text};
 use std::alloc::Global;
 use std::collections::BTreeMap;

@@ -1,5 +1,5 @@
 ghost use Rattle.std.specs.Prelude.{◌≡◌, ◌≤◌, ◌++◌, ℕ, List, IfOk, OnOk, codes, option_to_list};
-ghost use Rattle.net_options.specs.Options as by_name;
+ghost use Rattle.net_rows.specs.Options as by_name;
 ghost use Rattle.net_interfaces.specs.Address.{bits_of};
 ghost use Rattle.net_interfaces.specs.Names.{HasPlaces};
 ghost use Rattle.net_interfaces.specs.Routes as spec;
@@ -14,8 +14,9 @@ use crate::names::{note, place_given};
 use crate::network::without_host_bits;
 use crate::prefix::read_prefix;
 use net_addr::{Addr, Cidr, V4, V6};
-use net_options::{Stated, read_decimal, truth_of, value_of};
-use net_rows::{FaultName, InterfaceRow, RouteRow, RowFault};
+use net_rows::{
+    FaultName, InterfaceRow, RouteRow, RowFault, Stated, read_decimal, truth_of, value_of,
+};
 use plane_io::{Items, Memory, Text};
 use std::alloc::Global;
 use std::collections::BTreeMap;

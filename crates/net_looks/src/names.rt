@@ -8,8 +8,7 @@ ghost use Rattle.net_looks.specs.Look.{IsLookOf, facts_at};
 
 use crate::look::Look;
 use kern_model::DevName;
-use net_options::vlan_parts;
-use net_rows::{NameKind, NameRow};
+use net_rows::{NameKind, NameRow, vlan_parts};
 
 impl Look<'_> {
     /// The row of a name.

@@ -5,7 +5,7 @@ use Rattle.std.specs.Cmp.Lexicographic.{slice_cmp, texts_ties}
 use Rattle.std.specs.BTreeSet.{BTreeSet, contains}
 use Rattle.std.specs.BTreeMap.{is_at}
 use Rattle.uci_tree.specs.declared.package.Section.{Section}
-use Rattle.net_options.specs.Options.{text_of}
+use Rattle.net_rows.specs.Options.{text_of}
 use Rattle.net_modern.specs.Options.{is_text}
 use Rattle.net_modern.specs.Rules.{is_device, is_device_named}
 use Rattle.net_modern.specs.Names.{is_among, AddsNames}

@@ -9,7 +9,7 @@ use Rattle.uci_tree.specs.declared.package.Value.{Value}
 use Rattle.uci_tree.specs.declared.package.Opt.{Opt}
 use Rattle.uci_tree.specs.Find.{option_place}
 use Rattle.uci_tree.proofs.FoldLemmas.{position-cons}
-use Rattle.net_options.specs.Options.{value_of, is_given}
+use Rattle.net_rows.specs.Options.{value_of, is_given}
 use Rattle.net_modern.specs.Options.{without, option_if, text_option, list_if, ifname_words, moved, of_bridge}
 
 -- an option of a name has no other

@@ -8,7 +8,7 @@ use Rattle.uci_tree.specs.declared.package.Value.{Value}
 use Rattle.uci_tree.specs.declared.package.Value.TheVariants.{One}
 use Rattle.uci_tree.specs.declared.package.Opt.{Opt}
 use Rattle.uci_tree.specs.declared.package.Section.{Section}
-use Rattle.net_options.specs.Options.{value_of, single, is_given}
+use Rattle.net_rows.specs.Options.{value_of, single, is_given}
 use Rattle.net_modern.specs.Options.{is_text, without, option_if, first_if, list_if, ifname_words, with_ports, on_device, on_bridge}
 use Rattle.net_modern.specs.Rules.{is_device, is_device_named, has_device, is_old_bridge, is_on_one_device, has_both, with_options, bridge_name, rewritten, over_bridge, bridge_section}
 use Rattle.net_modern.specs.Names.{is_among, AreNames, AddsNames}

@@ -6,7 +6,7 @@ use Rattle.uci_tree.specs.declared.package.Value.{Value}
 use Rattle.uci_tree.specs.declared.package.Value.TheVariants.{One}
 use Rattle.uci_tree.specs.declared.package.Opt.{Opt}
 use Rattle.uci_tree.specs.declared.package.Section.{Section}
-use Rattle.net_options.specs.Options.{value_of, is_given}
+use Rattle.net_rows.specs.Options.{value_of, is_given}
 use Rattle.net_modern.specs.Options.{without, option_if, list_if, first_if, words_if, ifname_words, with_ports, on_device, on_bridge, of_bridge}
 use Rattle.net_modern.specs.Rules.{is_device, is_bridge, is_named_interface, has, is_old_bridge, is_bridged, is_untyped, is_on_one_device, has_both, with_options, bridge_name, rewritten, over_bridge, bridge_section}
 use Rattle.net_modern.proofs.OptionLemmas.{gone, no_value, given_alone, is_given-without, is_given-with, is_given-behind, given_last}

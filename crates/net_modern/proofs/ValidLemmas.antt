@@ -15,8 +15,8 @@ use Rattle.uci_tree.specs.declared.package.Section.{Section}
 use Rattle.uci_tree.specs.declared.package.Package.{Package}
 use Rattle.uci_tree.specs.Valid.{IsValidValue, IsValidOption, names_of, IsValidSection, IsValid}
 use Rattle.uci_tree.proofs.ValidLemmas.{AreValid, anonymous_named, apart_names}
-use Rattle.net_options.specs.Options.{value_of, is_given}
-use Rattle.net_options.specs.Words.{space, kept, words, words_of}
+use Rattle.net_rows.specs.Options.{value_of, is_given}
+use Rattle.net_rows.specs.Words.{space, kept, words, words_of}
 use Rattle.net_modern.specs.Options.{without, option_if, text_option, list_if, first_if, words_if, ifname_words, with_ports, on_device, on_bridge, of_bridge}
 use Rattle.net_modern.specs.Rules.{is_bridge, is_named_interface, has, is_old_bridge, is_bridged, is_untyped, is_on_one_device, has_both, with_options, bridge_name, rewritten, over_bridge, bridge_section}
 use Rattle.net_modern.specs.Rewriting.{Progress, one_more, sections_now, gets_bridge, after_section, after_sections, at_start, modern}

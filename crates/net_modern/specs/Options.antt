@@ -4,8 +4,8 @@ use Rattle.std.specs.Prelude.{ℕ, Bool, false, not, List, [], ◌∷◌, ◌++�
 use Rattle.uci_tree.specs.declared.package.Value.{Value}
 use Rattle.uci_tree.specs.declared.package.Value.TheVariants.{One, Many}
 use Rattle.uci_tree.specs.declared.package.Opt.{Opt}
-use Rattle.net_options.specs.Options.{value_of, is_given, text_of}
-use Rattle.net_options.specs.Words.{words_of}
+use Rattle.net_rows.specs.Options.{value_of, is_given, text_of}
+use Rattle.net_rows.specs.Words.{words_of}
 
 -- the options but for all of a name
 abbrev pub without : List ℕ → List Opt → List Opt

@@ -5,7 +5,7 @@ use Rattle.std.specs.List.{list_any}
 use Rattle.uci_tree.specs.declared.package.Opt.{Opt}
 use Rattle.uci_tree.specs.declared.package.Section.{Section}
 use Rattle.uci_tree.specs.Anonymous.{anonymous_name}
-use Rattle.net_options.specs.Options.{is_given}
+use Rattle.net_rows.specs.Options.{is_given}
 use Rattle.net_modern.specs.Options.{without, has_text, ifname_words, with_ports, on_device, on_bridge, of_bridge}
 
 abbrev pub is_device : Section → Bool

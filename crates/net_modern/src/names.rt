@@ -2,7 +2,7 @@ ghost use Rattle.std.specs.Prelude.{◌≡◌, [], ◌∷◌, IfOk, OnOk};
 ghost use Rattle.net_modern.specs.Names.{AreNames, AddsNames};
 
 use crate::rules::is_device;
-use net_options::text_of;
+use net_rows::text_of;
 use plane_io::{Memory, Text};
 use std::alloc::Global;
 use std::collections::BTreeSet;

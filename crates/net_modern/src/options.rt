@@ -1,10 +1,10 @@
 ghost use Rattle.std.specs.Prelude.{◌≡◌, ◌++◌, ◌∷◌, [], Some, IfOk, OnOk};
 ghost use Rattle.std.specs.Option.{option_copied};
 ghost use Rattle.uci_tree.specs.declared.package.Value.TheVariants.{One};
-ghost use Rattle.net_options.specs.Options as by_name;
+ghost use Rattle.net_rows.specs.Options as by_name;
 ghost use Rattle.net_modern.specs.Options as spec;
 
-use net_options::{is_given, text_of, value_of, words_of};
+use net_rows::{is_given, text_of, value_of, words_of};
 use plane_io::{Items, Memory, Text};
 use std::alloc::Global;
 use uci_tree::{Opt, Value, option_place};

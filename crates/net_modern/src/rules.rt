@@ -2,7 +2,7 @@ ghost use Rattle.std.specs.Prelude.{◌≡◌, IfOk};
 ghost use Rattle.net_modern.specs.Rules as spec;
 
 use crate::options::{has_text, ifname_words, move_to_bridge, put_device, put_ports, take_out};
-use net_options::is_given;
+use net_rows::is_given;
 use plane_io::{Items, Memory, Text};
 use std::alloc::Global;
 use uci_tree::{Section, anonymous_name};

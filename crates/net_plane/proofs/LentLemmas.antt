@@ -1,7 +1,7 @@
 -- The graph that is lent.
 use Rattle.std.proofs.Common.{List, refl, ap, sym, ◌∙◌}
 use Rattle.kern_calls.specs.Lower.{lower_part}
-use Rattle.calls_parts.proofs.CountLemmas.{set_of_items}
+use Rattle.kern_calls.proofs.CountLemmas.{set_of_items}
 use Rattle.net_rules.specs.declared.inputs.Inputs.{Inputs}
 use Rattle.net_rules.specs.declared.event.Notice.{Notice}
 use Rattle.net_rules.specs.Sound.{IsSound}

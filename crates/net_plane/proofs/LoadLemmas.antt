@@ -10,11 +10,11 @@ use Rattle.net_conf.specs.Limits.{passed_limit}
 use Rattle.net_modern.specs.Rewriting.{modern}
 use Rattle.net_devices.specs.Counted.{counted, all_said}
 use Rattle.net_devices.specs.Devices.{all_names}
-use Rattle.net_sound.proofs.ReadLemmas.{said_are_read}
-use Rattle.net_sound.proofs.LevelLemmas.{sound_levels}
-use Rattle.net_sound.proofs.NameLemmas.{sound_names}
-use Rattle.net_sound.proofs.VlanLemmas.{sound_vlans}
-use Rattle.conf_laws.proofs.LimitLemmas.{are_few}
+use Rattle.net_conf.proofs.ReadLemmas.{said_are_read}
+use Rattle.net_conf.proofs.LevelLemmas.{sound_levels}
+use Rattle.net_conf.proofs.NameLemmas.{sound_names}
+use Rattle.net_conf.proofs.VlanLemmas.{sound_vlans}
+use Rattle.net_conf.proofs.ConfLimitLemmas.{are_few}
 use Rattle.net_rules.specs.declared.inputs.Inputs.{Inputs}
 use Rattle.net_rules.specs.declared.event.Event.TheVariants as event
 use Rattle.net_rules.specs.Rows.{names_of}

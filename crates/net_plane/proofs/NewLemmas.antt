@@ -8,7 +8,7 @@ use Rattle.kern_model.proofs.OrderLemmas.{objects_total}
 use Rattle.kern_model.proofs.MemberLemmas.{here, none_in_nil}
 use Rattle.kern_model.proofs.SetLemmas.{member_of_set, set_of_member, none_in_empty, same_members}
 use Rattle.kern_model.proofs.TestLemmas.{either}
-use Rattle.calls_parts.proofs.CountLemmas.{set_of_items}
+use Rattle.kern_calls.proofs.CountLemmas.{set_of_items}
 use Rattle.net_rules.specs.declared.inputs.Inputs.{Inputs}
 use Rattle.net_rules.specs.Inputs.{no_inputs}
 use Rattle.net_rules.specs.Moment.{IsHistory}
@@ -16,7 +16,7 @@ use Rattle.graph_rules.specs.State.{empty}
 use Rattle.given_objects.specs.declared.gift.Gift.{Gift}
 use Rattle.given_objects.specs.Gifts.{objects_by}
 use Rattle.net_anew.specs.Course.{Course, held_of, IsReady}
-use Rattle.net_claims.specs.declared.state.InterfaceState.{InterfaceState}
+use Rattle.net_rules.specs.declared.state.InterfaceState.{InterfaceState}
 use Rattle.net_anew.specs.Kept.{AreStatesOf}
 use Rattle.net_anew.specs.Counted.{IsCountedBy}
 use Rattle.net_anew.specs.Follower.{Follower}

@@ -2,7 +2,7 @@
 use Rattle.std.proofs.Common.{◌≡◌, None, ap, sym, ◌∙◌}
 use Rattle.std.specs.FinSet as set
 use Rattle.kern_model.specs.ObjectOrder.{Objects}
-use Rattle.calls_parts.proofs.CountLemmas.{set_of_items}
+use Rattle.kern_calls.proofs.CountLemmas.{set_of_items}
 use Rattle.net_rules.specs.declared.inputs.Inputs.{Inputs}
 use Rattle.net_rules.specs.declared.event.Event.{Event}
 use Rattle.net_rules.specs.Moment.{Moment}

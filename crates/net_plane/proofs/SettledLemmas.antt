@@ -6,7 +6,7 @@ use Rattle.kern_model.specs.declared.object.Call.{Call}
 use Rattle.kern_model.specs.declared.kernel.Kernel.{Ghosts as KernelMembers}
 use Rattle.kern_model.specs.CallOrder.{after_calls}
 use Rattle.kern_calls.specs.Calls.{calls}
-use Rattle.calls_parts.proofs.CountLemmas.{set_of_items}
+use Rattle.kern_calls.proofs.CountLemmas.{set_of_items}
 use Rattle.net_rules.specs.declared.inputs.Inputs.{Inputs}
 use Rattle.net_rules.specs.declared.event.Notice.{Notice}
 use Rattle.net_rules.specs.Moment.{Moment, devices_of, want_of, IsHistory}
@@ -26,7 +26,7 @@ use Rattle.net_plane.specs.declared.net_error.NetError.{NetError}
 use Rattle.net_plane.specs.Settled.{Settles, HasMade, told_end}
 use Rattle.net_anew.specs.Counted.{AgreesWith, IsCountedBy}
 use Rattle.net_anew.specs.Claiming.{HasClaims}
-use Rattle.net_claims.specs.declared.state.InterfaceState.{InterfaceState}
+use Rattle.net_rules.specs.declared.state.InterfaceState.{InterfaceState}
 use Rattle.net_anew.specs.Follower.{Follower}
 use Rattle.net_anew.specs.InStep.{inputs_of, IsInStep}
 

@@ -12,7 +12,7 @@ use Rattle.net_rules.specs.declared.inputs.Inputs.{Inputs}
 use Rattle.net_rules.specs.Facts.{Facts}
 use Rattle.net_rules.specs.Standing.{standing_at, lowers_of, stands}
 use Rattle.net_rules.specs.Inputs.{facts_of}
-use Rattle.net_asked.specs.Above.{IsAbove}
+use Rattle.net_rules.specs.Above.{IsAbove}
 use Rattle.net_view.specs.Places.{named}
 use Rattle.net_view.specs.RadioPorts.{group_in}
 use Rattle.net_wants.proofs.ViewLemmas.{stands_on_none}

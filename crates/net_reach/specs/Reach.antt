@@ -11,7 +11,7 @@ use Rattle.net_rules.specs.Rows.{is_name, names_of}
 use Rattle.net_rules.specs.RadioPorts.{device_of}
 use Rattle.net_rules.specs.Standing.{stands}
 use Rattle.net_rules.specs.Inputs.{facts_of, open_interface}
-use Rattle.net_asked.specs.Above.{IsAbove}
+use Rattle.net_rules.specs.Above.{IsAbove}
 use Rattle.net_view.specs.Places.{HasPlaces, is_place, place_of}
 use Rattle.net_wants.specs.Grouped.{HasItems, is_route_named}
 use Rattle.net_reach.specs.Groups.{HasGroups, HasMembers}

@@ -15,9 +15,8 @@ ghost use Rattle.net_reach.specs.Reach.{IsReachOf};
 use crate::stale::refused_if;
 use kern_model::{DevEvent, DevName};
 use known_inputs::KnownInputs;
-use net_options::vlan_parts;
 use net_reach::Reach;
-use net_rows::{NameKind, NameRow};
+use net_rows::{NameKind, NameRow, vlan_parts};
 use net_rules::{MOST_DEVICES, Refusal};
 
 /// Why what happens to a device is refused, if it is. The caller tells whether a link of its name is held.

@@ -1,0 +1,4 @@
+pub mod CutLemmas
+pub mod DottedLemmas
+pub mod NumberLemmas
+pub mod WordLemmas

@@ -6,9 +6,9 @@ use Rattle.kern_model.specs.Name.{is_name}
 use Rattle.kern_model.specs.Standing.{Step, lead_up}
 use Rattle.kern_model.proofs.MemberLemmas.{here, there, first_or_later, none_in_nil}
 use Rattle.kern_model.proofs.TestLemmas.{both, of_both, either, of_left, of_right, bytes_same, same_bytes, in_filter_map, from_filter_map}
-use Rattle.net_options.specs.Cut.{cut_at_or_behind, last_cut}
-use Rattle.net_options.specs.Dotted.{dot, id_of, parts_of, parts_at, vlan_parts}
-use Rattle.net_options.specs.declared.dotted.VlanParts.{VlanParts}
+use Rattle.net_rows.specs.Cut.{cut_at_or_behind, last_cut}
+use Rattle.net_rows.specs.Dotted.{dot, id_of, parts_of, parts_at, vlan_parts}
+use Rattle.net_rows.specs.declared.dotted.VlanParts.{VlanParts}
 use Rattle.net_rows.specs.declared.rows.NameRow.{NameRow}
 use Rattle.net_rows.specs.declared.rows.NameKind.{NameKind}
 use Rattle.net_rows.specs.declared.rows.NameKind.TheVariants.{Plain, Bridge, Vlan}

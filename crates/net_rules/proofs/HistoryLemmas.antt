@@ -8,7 +8,7 @@ use Rattle.kern_model.proofs.LeadLemmas.{admitted, reached}
 use Rattle.kern_model.proofs.KeepLemmas.{all_keep}
 use Rattle.kern_model.proofs.AllowedLemmas.{nothing_allowed}
 use Rattle.kern_calls.proofs.KeptLemmas.{front_admitted}
-use Rattle.net_options.specs.Dotted.{vlan_parts}
+use Rattle.net_rows.specs.Dotted.{vlan_parts}
 use Rattle.net_rows.specs.declared.rows.NameKind.TheVariants.{Plain, Vlan}
 use Rattle.net_rules.specs.Rows.{is_bridge_kind}
 use Rattle.net_rules.specs.Standing.{Over, standing_of}

@@ -23,3 +23,16 @@ pub mod HistoryLemmas
 pub mod NumberLemmas
 pub mod AloneLemmas
 pub mod RefusalLemmas
+pub mod KnownLemmas
+pub mod ApartSameLemmas
+pub mod ApartDeviceLemmas
+pub mod EventLemmas
+pub mod AboveLemmas
+pub mod TouchNumberLemmas
+pub mod AskedLemmas
+pub mod ToldLemmas
+pub mod TouchEventLemmas
+pub mod PairLemmas
+pub mod MoveLemmas
+pub mod AnswerLemmas
+pub mod ClaimLemmas

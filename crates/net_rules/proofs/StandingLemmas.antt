@@ -14,7 +14,7 @@ use Rattle.net_rows.specs.declared.rows.NameKind.{NameKind}
 use Rattle.net_rows.specs.declared.rows.NameKind.TheVariants.{Plain, Bridge, Vlan}
 use Rattle.net_rows.specs.declared.rows.InterfaceRow.{InterfaceRow}
 use Rattle.net_rows.specs.declared.rows.WifiRow.{WifiRow}
-use Rattle.net_options.specs.Dotted.{vlan_parts}
+use Rattle.net_rows.specs.Dotted.{vlan_parts}
 use Rattle.net_rules.specs.Facts.{Facts}
 use Rattle.net_rules.specs.Rows.{row_at, kind_at, is_plain_kind, is_plain, is_bridge_kind, is_bridge, ports_of_kind, is_named_port, names_of, interface_named, radios_of, enabled_rows}
 use Rattle.net_rules.specs.RadioPorts.{AnsweredPort, RadioPort, answered_port, ports_of_radio, answered_ports, joined, radio_ports, radio_ports_of}

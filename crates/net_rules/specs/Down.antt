@@ -2,8 +2,8 @@
 use Rattle.std.specs.Prelude.{ℕ, zero, suc, ◌≡◌, List, [], ◌∷◌, length, Bool, Option, Some, None, if◌then◌else◌, bytes_eq}
 use Rattle.std.specs.List.{flat_map, filter_map}
 use Rattle.kern_model.specs.Standing.{Step, lead_up}
-use Rattle.net_options.specs.Dotted.{vlan_parts}
-use Rattle.net_options.specs.declared.dotted.VlanParts.{VlanParts}
+use Rattle.net_rows.specs.Dotted.{vlan_parts}
+use Rattle.net_rows.specs.declared.dotted.VlanParts.{VlanParts}
 use Rattle.net_rows.specs.declared.rows.NameRow.{NameRow}
 use Rattle.net_rows.specs.declared.rows.NameKind.{NameKind}
 use Rattle.net_rows.specs.declared.rows.NameKind.TheVariants.{Plain, Bridge, Vlan}

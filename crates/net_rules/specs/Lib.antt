@@ -1,4 +1,4 @@
--- What a network wants of the kernel.
+-- What a network wants of the kernel, what events touch, and what interfaces claim.
 
 -- a test of names that asks itself about other names
 pub mod Levels
@@ -44,3 +44,13 @@ pub mod Fresh
 pub mod Refusal
 -- the numbers of open asks
 pub mod Numbers
+-- which names rows reach
+pub mod Reach
+-- what stands on a name, and facts that differ at a device
+pub mod Above
+-- the asks of touched interfaces
+pub mod Touched
+-- names that interfaces use, counted
+pub mod Claims
+-- what interfaces are by facts
+pub mod States

@@ -1,15 +1,24 @@
-//! What a network wants of the kernel, as definitions over its rows, with their laws.
+//! What a network wants of the kernel, as definitions over its rows, with their laws: which names rows reach, which interfaces an event
+//! touches, and the claims of names, counted over interfaces.
 #![tactic(auto)]
 
 mod answer;
 mod ask;
+mod asked_laws;
+mod claim_laws;
 mod event;
 mod inputs;
 mod laws;
+mod reach_laws;
 mod refusal;
+mod state;
 
 pub use answer::{Answer, AnswerRoute};
 pub use ask::{InterfaceAsk, RadioAsk, WifiAsk};
+pub use asked_laws::{
+    asks_follow_touched_needs, commands_and_answers_touch_one, devices_touch_what_is_above,
+};
+pub use claim_laws::{answers_touch_one, claims_are_counted, used_names_are_available};
 pub use event::{Event, Notice};
 pub use inputs::{Command, Inputs, OpenInterface, OpenRadio};
 pub use laws::{
@@ -21,4 +30,6 @@ pub use laws::{
     stale_answers_change_nothing, used_names_have_users, want_is_allowed,
     what_vlans_lead_to_is_tested,
 };
+pub use reach_laws::{devices_apart_change_nothing_else, known_names_are_reached};
 pub use refusal::{MOST_DEVICES, MOST_IN_ANSWER, Refusal};
+pub use state::InterfaceState;

@@ -19,9 +19,9 @@ use Rattle.graph_laws.proofs.BelowLemmas.{unknown_below}
 use Rattle.graph_settle.specs.Course.{Course}
 use Rattle.given_objects.specs.Gifts.{Gifts}
 use Rattle.net_reach.specs.Reach.{IsReachOf}
-use Rattle.net_claims.specs.declared.state.InterfaceState.{InterfaceState}
-use Rattle.net_claims.specs.States.{is_first, IsStateOf, IsIdle, IsStateAs}
-use Rattle.net_claims.proofs.AnswerLemmas.{used_available}
+use Rattle.net_rules.specs.declared.state.InterfaceState.{InterfaceState}
+use Rattle.net_rules.specs.States.{is_first, IsStateOf, IsIdle, IsStateAs}
+use Rattle.net_rules.proofs.AnswerLemmas.{used_available}
 use Rattle.net_gifts.specs.Giving.{gives, HavePlaces}
 use Rattle.net_states.specs.declared.states.States.{States}
 use Rattle.net_states.specs.Kept.{IsNoted, IsNotedAs, IsAtHand, AreNoted, IsTied}

@@ -15,9 +15,9 @@ use Rattle.graph_rules.specs.State.{Known, State, claims_in, place_among}
 use Rattle.graph_rules.specs.Answers.{port_of}
 use Rattle.given_objects.specs.Gifts.{Gifts, givers_of}
 use Rattle.given_objects.specs.Changes.{given_once_more, given_once_less}
-use Rattle.net_claims.specs.declared.state.InterfaceState.{InterfaceState}
-use Rattle.net_claims.specs.Claims.{uses_by, claim_of, claims_of}
-use Rattle.net_claims.proofs.MoveLemmas.{count_moves, count_few, count_some}
+use Rattle.net_rules.specs.declared.state.InterfaceState.{InterfaceState}
+use Rattle.net_rules.specs.Claims.{uses_by, claim_of, claims_of}
+use Rattle.net_rules.proofs.MoveLemmas.{count_moves, count_few, count_some}
 use Rattle.net_gifts.specs.Giving.{times_in, gives, all_gives, HasGivers, HavePlaces, DiffersInGivers, without_givers}
 use Rattle.net_gifts.proofs.TimesLemmas.{times_move, times_part, times_most}
 use Rattle.net_gifts.proofs.FoldLemmas.{given_list, withdrawn_list}

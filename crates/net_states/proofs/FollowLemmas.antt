@@ -6,8 +6,8 @@ use Rattle.kern_model.proofs.TestLemmas.{either}
 use Rattle.net_rows.specs.declared.rows.InterfaceRow.{InterfaceRow}
 use Rattle.net_rules.specs.declared.inputs.Inputs.{Inputs}
 use Rattle.net_rules.specs.Inputs.{facts_of}
-use Rattle.net_claims.specs.declared.state.InterfaceState.{InterfaceState}
-use Rattle.net_claims.specs.States.{is_first, IsIdle, IsStateAs}
+use Rattle.net_rules.specs.declared.state.InterfaceState.{InterfaceState}
+use Rattle.net_rules.specs.States.{is_first, IsIdle, IsStateAs}
 use Rattle.asked_places.specs.Touched.{has}
 use Rattle.net_states.specs.declared.states.States.{States}
 use Rattle.net_states.specs.Kept.{IsTied, AreStatesOf, FollowBut, AreIdleAt}

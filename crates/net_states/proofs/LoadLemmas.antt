@@ -14,8 +14,8 @@ use Rattle.net_rules.specs.Inputs.{facts_of}
 use Rattle.net_view.specs.Places.{is_place, place_of}
 use Rattle.net_view.proofs.PortLemmas.{more_is}
 use Rattle.net_reach.specs.Reach.{IsReachOf}
-use Rattle.net_claims.specs.declared.state.InterfaceState.{InterfaceState}
-use Rattle.net_claims.specs.States.{is_first, IsIdle}
+use Rattle.net_rules.specs.declared.state.InterfaceState.{InterfaceState}
+use Rattle.net_rules.specs.States.{is_first, IsIdle}
 use Rattle.asked_places.specs.Touched.{names_of_rows}
 use Rattle.asked_places.proofs.PlaceLemmas.{place_of_first, first_at_place}
 use Rattle.net_states.specs.declared.states.States.{States}

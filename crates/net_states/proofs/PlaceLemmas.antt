@@ -4,7 +4,7 @@ use Rattle.std.specs.Prelude.{◌||◌, ◌==◌, slice_get, slice_set}
 use Rattle.std.proofs.lemmas.Bool.Decides.{Decides-eqb}
 use Rattle.kern_model.proofs.MemberLemmas.{here, there as later}
 use Rattle.kern_model.proofs.TestLemmas.{of_any, false_of_not}
-use Rattle.net_claims.proofs.MoveLemmas.{some_is}
+use Rattle.net_rules.proofs.MoveLemmas.{some_is}
 use Rattle.asked_places.specs.Touched.{has}
 
 module _ {X : Type 0} where

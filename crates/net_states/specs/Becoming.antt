@@ -5,9 +5,9 @@ use Rattle.net_rules.specs.declared.inputs.Inputs.{Inputs}
 use Rattle.net_rules.specs.Inputs.{facts_of}
 use Rattle.graph_rules.specs.State.{place_among}
 use Rattle.graph_settle.specs.Course.{Course}
-use Rattle.net_claims.specs.declared.state.InterfaceState.{InterfaceState}
-use Rattle.net_claims.specs.Claims.{uses_by}
-use Rattle.net_claims.specs.States.{is_first, IsIdle, IsStateOf, IsStateAs}
+use Rattle.net_rules.specs.declared.state.InterfaceState.{InterfaceState}
+use Rattle.net_rules.specs.Claims.{uses_by}
+use Rattle.net_rules.specs.States.{is_first, IsIdle, IsStateOf, IsStateAs}
 use Rattle.net_gifts.specs.Giving.{gives, HavePlaces}
 
 -- neither claimed nor up

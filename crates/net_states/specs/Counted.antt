@@ -12,8 +12,8 @@ use Rattle.graph_laws.specs.Below.{AgreesBelow}
 use Rattle.graph_laws.specs.Knowing.{KnowsRows}
 use Rattle.given_objects.specs.Gifts.{Gifts}
 use Rattle.graph_settle.specs.Course.{Course}
-use Rattle.net_claims.specs.declared.state.InterfaceState.{InterfaceState}
-use Rattle.net_claims.specs.States.{is_first}
+use Rattle.net_rules.specs.declared.state.InterfaceState.{InterfaceState}
+use Rattle.net_rules.specs.States.{is_first}
 use Rattle.net_gifts.specs.Giving.{HasGivers, HavePlaces, DiffersInGivers}
 use Rattle.claim_moves.specs.Claiming.{HasClaims, DiffersInClaims}
 

@@ -10,8 +10,8 @@ use Rattle.net_rules.specs.RadioPorts.{device_of}
 use Rattle.net_rules.specs.Need.{interface_ask, in_order}
 use Rattle.net_rules.specs.Inputs.{facts_of, open_interface}
 use Rattle.net_reach.specs.Reach.{IsReachOf}
-use Rattle.net_claims.specs.declared.state.InterfaceState.{InterfaceState}
-use Rattle.net_claims.specs.States.{is_first, IsIdle, IsStateAs, AreStates}
+use Rattle.net_rules.specs.declared.state.InterfaceState.{InterfaceState}
+use Rattle.net_rules.specs.States.{is_first, IsIdle, IsStateAs, AreStates}
 use Rattle.asked_places.specs.Touched.{has}
 use Rattle.net_states.specs.declared.states.States.{States}
 

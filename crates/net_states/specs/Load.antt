@@ -5,8 +5,8 @@ use Rattle.net_rules.specs.declared.ask.InterfaceAsk.{InterfaceAsk}
 use Rattle.net_rules.specs.declared.inputs.Inputs.{Inputs}
 use Rattle.net_rules.specs.Rows.{asks_nothing}
 use Rattle.net_rules.specs.Need.{in_order}
-use Rattle.net_claims.specs.declared.state.InterfaceState.{InterfaceState}
-use Rattle.net_claims.specs.States.{is_first, IsIdle}
+use Rattle.net_rules.specs.declared.state.InterfaceState.{InterfaceState}
+use Rattle.net_rules.specs.States.{is_first, IsIdle}
 use Rattle.net_states.specs.Kept.{IsNotedAs}
 
 -- none of them is claimed or up

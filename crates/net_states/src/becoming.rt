@@ -6,7 +6,7 @@ ghost use Rattle.net_rules.specs.Inputs.{facts_of};
 ghost use Rattle.given_objects.specs.Gifts.{givers_of};
 ghost use Rattle.given_objects.specs.Changes.{given_once_more, given_once_less};
 ghost use Rattle.net_reach.specs.Reach.{IsReachOf};
-ghost use Rattle.net_claims.specs.declared.state.InterfaceState.{InterfaceState};
+ghost use Rattle.net_rules.specs.declared.state.InterfaceState.{InterfaceState};
 ghost use Rattle.net_gifts.specs.Giving.{times_in, gives, HavePlaces};
 ghost use Rattle.net_states.specs.Kept.{IsTied, AreStatesOf, FollowBut, AreIdleAt};
 ghost use Rattle.net_states.specs.Counted.{IsCountedBy, DiffersInCounts};
@@ -17,8 +17,8 @@ use crate::states::States;
 use claim_moves::move_claims;
 use graph_settle::GraphSettling;
 use known_inputs::KnownInputs;
-use net_claims::InterfaceState;
 use net_looks::Look;
+use net_rules::InterfaceState;
 use std::sync::ledger::Ledger;
 use use_counts::Steps;
 

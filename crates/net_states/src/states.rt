@@ -1,6 +1,5 @@
-use net_claims::InterfaceState;
 use net_reach::Reach;
-use net_rules::InterfaceAsk;
+use net_rules::{InterfaceAsk, InterfaceState};
 
 /// What each interface is as of the last look, and what reaches what. Lists are by the place of an interface among the rows.
 #[derive(Drop)]

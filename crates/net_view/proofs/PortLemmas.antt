@@ -18,7 +18,7 @@ use Rattle.net_rows.specs.declared.rows.WifiRow.{WifiRow}
 use Rattle.net_rules.specs.Facts.{Facts}
 use Rattle.net_rules.specs.Firsts.{firsts}
 use Rattle.net_rules.specs.Rows.{row_at, rowless, is_plain_kind, is_bridge_kind, is_bridge, is_named_port}
-use Rattle.net_options.specs.declared.dotted.VlanParts.{VlanParts}
+use Rattle.net_rows.specs.declared.dotted.VlanParts.{VlanParts}
 use Rattle.net_rows.specs.declared.rows.NameKind.TheVariants.{Plain, Vlan}
 use Rattle.net_rows.specs.declared.rows.Conf.{Conf}
 use Rattle.net_rows.specs.declared.rows.RadioRow.{RadioRow}

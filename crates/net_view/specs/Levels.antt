@@ -1,6 +1,6 @@
 -- What is told of names, level by level.
 use Rattle.std.specs.Prelude.{ℕ, ◌≡◌, List, Bool, false, ◌&&◌, map, Option, Some, None, is_none}
-use Rattle.net_options.specs.Dotted.{vlan_parts}
+use Rattle.net_rows.specs.Dotted.{vlan_parts}
 use Rattle.net_rules.specs.declared.inputs.Inputs.{Inputs}
 use Rattle.net_rules.specs.Facts.{Facts}
 use Rattle.net_rules.specs.Levels.{by_levels}

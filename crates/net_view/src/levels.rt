@@ -11,8 +11,7 @@ ghost use Rattle.net_view.specs.Levels.{IsTold, IsToldBy, IsAvailability, IsLink
 
 use crate::radio_ports::RadioPorts;
 use kern_model::DevName;
-use net_options::vlan_parts;
-use net_rows::{NameKind, NameRow};
+use net_rows::{NameKind, NameRow, vlan_parts};
 use net_rules::Inputs;
 use plane_io::Memory;
 use std::alloc::Global;

@@ -14,15 +14,15 @@ use Rattle.plane_main.specs.Command.{AskFor, IsPageCommand}
 use Rattle.plane_main.specs.Ending.{IsTold, IsOfUci, IsOfRun, IsEarly, IsKernelFailed, OrLacksMemory}
 use Rattle.plane_main.specs.Page.{PageEnds, PageComes}
 use Rattle.plane_main.specs.Uci.{UciEnds, UciComes}
-use Rattle.uci_run.proofs.ComesLemmas.{run_comes as uci_comes, memory_comes as uci_memory_comes}
+use Rattle.uci_tool.proofs.ComesLemmas.{run_comes as uci_comes, memory_comes as uci_memory_comes}
 use Rattle.plane_run.proofs.ComesLemmas.{run_comes as script_comes}
 use Rattle.plane_run.specs.declared.run_end.RunEnd.{RunEnd}
 use Rattle.plane_run.specs.Run.{RunEnds}
 use Rattle.plane_run.specs.Stops.{RunStops}
 use Rattle.plane_run.specs.Parts.{KeepsDisks}
-use Rattle.bus_access.specs.declared.acl.Acl.{Acl}
-use Rattle.bus_access.specs.declared.access_error.AclError.{AclError}
-use Rattle.bus_access.specs.Form.{acl_of}
+use Rattle.ubus_acl.specs.declared.acl.Acl.{Acl}
+use Rattle.ubus_acl.specs.declared.access_error.AclError.{AclError}
+use Rattle.ubus_acl.specs.Form.{acl_of}
 use Rattle.plane_main.specs.declared.run_words.RunAsked.{RunAsked}
 use Rattle.plane_main.specs.RunWords.{IsList, HasAcl}
 use Rattle.plane_main.specs.Script.{first_of, run_seen, ScriptEnds, ScriptComes, EndsWith, ComesWith, AskedEnds, ReadsAcl}

@@ -14,12 +14,12 @@ use Rattle.uci_tree.proofs.LawLemmas.{no_package, tree_fault_is_one}
 use Rattle.uci_tree.proofs.ReadingLemmas.{one_tree}
 use Rattle.net_conf.specs.Limits.{passed_limit}
 use Rattle.net_settle.specs.Outside.{Outside}
-use Rattle.plane_run.specs.StartError.{StartError}
-use Rattle.plane_run.specs.StartError.TheVariants as error
-use Rattle.plane_run.specs.StartInputs.{rows_of, present_of, start_wants}
-use Rattle.plane_run.specs.BringUp.{LackedMemory, BringUpEnds}
-use Rattle.plane_run.proofs.StartDeviceLemmas.{came_none}
-use Rattle.plane_run.proofs.StartRecordLemmas.{records_none}
+use Rattle.net_start.specs.declared.start_error.StartError.{StartError}
+use Rattle.net_start.specs.declared.start_error.StartError.TheVariants as error
+use Rattle.net_start.specs.Inputs.{rows_of, present_of, start_wants}
+use Rattle.net_start.specs.BringUp.{LackedMemory, BringUpEnds}
+use Rattle.net_start.proofs.DeviceLemmas.{came_none}
+use Rattle.net_start.proofs.RecordLemmas.{records_none}
 use Rattle.plane_main.specs.declared.ending.Ending.{Ending}
 use Rattle.plane_main.specs.declared.ending.Ending.TheVariants as ending
 use Rattle.plane_main.specs.Outside.{Input}

@@ -5,7 +5,7 @@ use Rattle.plane_words.specs.Distinct.{AreDistinct}
 use Rattle.kern_model.specs.VlanName.{IsPlainName}
 use Rattle.script_lines.specs.Arguments.{long_decimal_of}
 use Rattle.uci_tool.specs.Ends.{reads}
-use Rattle.uci_run.specs.Asking.{asks}
+use Rattle.uci_tool.specs.Asking.{asks}
 use Rattle.plane_main.specs.declared.page.Page.{Page}
 use Rattle.plane_main.specs.declared.page.Page.TheVariants.{Help, Version}
 use Rattle.plane_main.specs.declared.run_words.RunAsked.{RunAsked}

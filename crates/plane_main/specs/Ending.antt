@@ -5,8 +5,8 @@ use Rattle.plane_words.specs.Growth.{Grows, GrowsByFront}
 use Rattle.uci_tree.specs.declared.fault.Fault.{Fault}
 use Rattle.uci_tree.specs.declared.tree_error.TreeError.{TreeError}
 use Rattle.uci_tree.specs.Fault.{reason_text, fault_of}
-use Rattle.plane_run.specs.StartError.{StartError}
-use Rattle.plane_run.specs.StartError.TheVariants as error
+use Rattle.net_start.specs.declared.start_error.StartError.{StartError}
+use Rattle.net_start.specs.declared.start_error.StartError.TheVariants as error
 use Rattle.plane_run.specs.declared.run_end.RowPackage.{RowPackage}
 use Rattle.plane_run.specs.declared.run_end.RowPackage.TheVariants.{Network, Wireless}
 use Rattle.plane_run.specs.declared.run_end.RunEnd.{RunEnd}

@@ -1,12 +1,12 @@
 -- Where the real devices of a command are.
 use Rattle.std.specs.Prelude.{ℕ, ◌≡◌, List, [], Option, Some, None, codes, unwrap_or, if◌then◌else◌, Result, Ok, Err}
-use Rattle.bus_access.specs.declared.acl.Acl.{Acl}
-use Rattle.bus_access.specs.declared.access_error.AclError.{AclError}
-use Rattle.bus_access.specs.Form.{acl_of}
-use Rattle.uci_words.specs.declared.options.Options.{Options}
-use Rattle.uci_words.specs.declared.command.Command.{Command}
-use Rattle.uci_words.specs.Command.{reads_input}
-use Rattle.uci_words.specs.Words.{asked_of}
+use Rattle.ubus_acl.specs.declared.acl.Acl.{Acl}
+use Rattle.ubus_acl.specs.declared.access_error.AclError.{AclError}
+use Rattle.ubus_acl.specs.Form.{acl_of}
+use Rattle.uci_cli.specs.declared.options.Options.{Options}
+use Rattle.uci_cli.specs.declared.command.Command.{Command}
+use Rattle.uci_cli.specs.Command.{reads_input}
+use Rattle.uci_cli.specs.Words.{asked_of}
 use Rattle.plane_main.specs.declared.command.Command.{Command as Asking}
 use Rattle.plane_main.specs.declared.command.Command.TheVariants.{Start, Uci, Run, Gen, Show}
 use Rattle.plane_main.specs.declared.run_words.RunAsked.{RunAsked}

@@ -5,7 +5,7 @@ use Rattle.plane_io.specs.declared.source.Source.{Ghosts as SourceMembers}
 use Rattle.plane_io.specs.declared.sink.Sink.{Ghosts as SinkMembers}
 use Rattle.net_settle.specs.Outside.{Outside}
 use Rattle.uci_tool.specs.Ends.{Stream, Streams}
-use Rattle.plane_run.specs.Words.{Supply}
+use Rattle.bus_lines.specs.Words.{Supply}
 
 -- the input: what was left before and is left now, where the source tells, and its counts of faults then and now
 pub record Input : Type 0 where

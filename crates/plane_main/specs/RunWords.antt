@@ -2,9 +2,9 @@
 use Rattle.std.specs.Prelude.{ℕ, ◌≡◌, List, [], ◌∷◌, codes, Option, Some, None, bytes_eq, is_some, unwrap_or, refl, ◌||◌, not, if◌then◌else◌, Result, Ok, Err, ⊤}
 use Rattle.std.specs.Option.{option_and_then, option_map}
 use Rattle.script_lines.specs.Arguments.{long_decimal_of}
-use Rattle.bus_access.specs.declared.acl.Acl.{Acl}
-use Rattle.bus_access.specs.declared.access_error.AclError.{AclError}
-use Rattle.bus_access.specs.Form.{acl_of}
+use Rattle.ubus_acl.specs.declared.acl.Acl.{Acl}
+use Rattle.ubus_acl.specs.declared.access_error.AclError.{AclError}
+use Rattle.ubus_acl.specs.Form.{acl_of}
 use Rattle.plane_main.specs.declared.run_words.RunAsked.{RunAsked}
 use Rattle.plane_main.specs.declared.run_words.RunOptions.{RunOptions}
 use Rattle.plane_main.specs.declared.run_words.TheConstants.{STAGED_FOLDER, EMPTY_ACL}

@@ -1,8 +1,8 @@
 -- How a run of a script ends, and when.
 use Rattle.std.specs.Prelude.{ℕ, ◌≡◌, Result, Ok, Err, ⊤}
-use Rattle.bus_access.specs.declared.acl.Acl.{Acl}
-use Rattle.bus_access.specs.declared.access_error.AclError.{AclError}
-use Rattle.bus_access.specs.Form.{acl_of}
+use Rattle.ubus_acl.specs.declared.acl.Acl.{Acl}
+use Rattle.ubus_acl.specs.declared.access_error.AclError.{AclError}
+use Rattle.ubus_acl.specs.Form.{acl_of}
 use Rattle.plane_run.specs.Opening.{First}
 use Rattle.plane_run.specs.Run.{Seen as RunSeen, RunEnds}
 use Rattle.plane_run.specs.Comes.{RunComes}

@@ -10,8 +10,8 @@ use Rattle.uci_tree.specs.Fault.{fault_of}
 use Rattle.uci_tree.specs.Reading.{Reads, HasTreeFault}
 use Rattle.net_conf.specs.Limits.{passed_limit}
 use Rattle.net_settle.specs.Outside.{Outside}
-use Rattle.plane_run.specs.StartInputs.{rows_of, present_of, start_wants}
-use Rattle.plane_run.specs.BringUp.{IsUp, IsStoppedAtCall, IsCutShort as IsLineCutShort, LackedMemory}
+use Rattle.net_start.specs.Inputs.{rows_of, present_of, start_wants}
+use Rattle.net_start.specs.BringUp.{IsUp, IsStoppedAtCall, IsCutShort as IsLineCutShort, LackedMemory}
 use Rattle.plane_main.specs.declared.ending.Ending.{Ending}
 use Rattle.plane_main.specs.declared.ending.Ending.TheVariants as ending
 use Rattle.plane_main.specs.Outside.{Input}

@@ -2,8 +2,8 @@
 use Rattle.std.specs.Prelude.{ℕ, List}
 use Rattle.plane_main.specs.declared.ending.Ending.{Ending}
 use Rattle.plane_main.specs.declared.ending.Ending.TheVariants as ending
-use Rattle.uci_run.specs.Run.{RunEnds}
-use Rattle.uci_run.specs.Comes.{RunComes}
+use Rattle.uci_tool.specs.Run.{RunEnds}
+use Rattle.uci_tool.specs.Comes.{RunComes}
 use Rattle.plane_run.specs.Parts.{KeepsDisks}
 use Rattle.plane_main.specs.Outside.{Seen, streams_in}
 use Rattle.plane_main.specs.Ending.{status_of}

@@ -1,6 +1,6 @@
 ghost use Rattle.std.specs.Prelude.{◌≡◌, map, string_bytes};
 ghost use Rattle.net_settle.specs.Outside.{outside_of};
-ghost use Rattle.plane_run.specs.BringUp.{IsBare};
+ghost use Rattle.net_start.specs.BringUp.{IsBare};
 ghost use Rattle.uci_tool.specs.Ends.{source_of};
 ghost use Rattle.plane_run.specs.Script.{StaysUnlessCalled};
 ghost use Rattle.plane_main.specs.Outside.{input_of, errors_of};
@@ -21,7 +21,7 @@ use plane_io::{Sink, Source};
 use plane_outside::{Clock, Random};
 use plane_run::run_script;
 use std::alloc::Global;
-use uci_run::run_uci;
+use uci_tool::run_uci;
 
 /// Carries the command out that the words ask for, and tells how it ended.
 pub fn carry_out<S: Source, O: Sink, E: Sink, D: Disk, T: Disk, K: Kernel, C: Clock, R: Random>(

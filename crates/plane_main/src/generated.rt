@@ -1,6 +1,6 @@
 //! A run of `gen`.
 ghost use Rattle.net_settle.specs.Outside.{outside_of};
-ghost use Rattle.plane_run.specs.BringUp.{IsBare};
+ghost use Rattle.net_start.specs.BringUp.{IsBare};
 ghost use Rattle.plane_main.specs.Generated.{GenEnds};
 
 use crate::ending::Ending;

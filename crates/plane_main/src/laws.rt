@@ -6,7 +6,7 @@ ghost use Rattle.plane_io.specs.declared.input.TheConstants.{INPUT_LIMIT};
 ghost use Rattle.kern_model.specs.declared.vlan_name.TheConstants.{LEAST_VLAN_ID, MOST_VLAN_ID};
 ghost use Rattle.plane_main.specs.declared.command.TheConstants.{MOST_DEVICES, MOST_BRIDGES};
 ghost use Rattle.plane_main.specs.declared.run_words.TheConstants.{STAGED_FOLDER, EMPTY_ACL};
-ghost use Rattle.plane_run.specs.StartConstants.{ETHERNET_MTU};
+ghost use Rattle.net_start.specs.declared.devices.TheConstants.{ETHERNET_MTU};
 ghost use Rattle.plane_run.specs.declared.script.TheConstants.{SCRIPT_LIMIT};
 ghost use Rattle.script_lines.specs.declared.arguments.TheConstants.{USUAL_MTU};
 ghost use Rattle.plane_main.specs.Start.{IsNetwork};

@@ -5,10 +5,10 @@ ghost use Rattle.plane_main.specs.Command.{IsInTable};
 
 use crate::command::{Command, read_command};
 use crate::run_words::RunAsked;
-use bus_access::{Acl, AclError};
 use plane_io::{Memory, Text};
 use std::alloc::Global;
-use uci_words::{Asked, Options, read_words};
+use ubus_acl::{Acl, AclError};
+use uci_cli::{Asked, Options, read_words};
 
 /// Where the real devices of a command are. `start` reads the standard input and has no places, and
 /// `gen` and the pages about the program have none, nor has a run whose access list does not read.
@@ -90,7 +90,7 @@ fn folders(alloc: Global, words: &[Text], nowhere: Locations) -> Result<Option<L
 }
 
 // The folders that the options name, and the file of the input, where the command reads one.
-fn named_by(options: Options, command: &uci_words::Command, nowhere: Locations) -> Locations
+fn named_by(options: Options, command: &uci_cli::Command, nowhere: Locations) -> Locations
     ensures { result ≡ spec.named_by options command.now nowhere }
 {
     let reads = command.reads_input();

@@ -1,6 +1,6 @@
 ghost use Rattle.std.specs.Prelude.{◌≡◌, map, string_bytes};
 ghost use Rattle.net_settle.specs.Outside.{outside_of};
-ghost use Rattle.plane_run.specs.BringUp.{IsBare};
+ghost use Rattle.net_start.specs.BringUp.{IsBare};
 ghost use Rattle.uci_tool.specs.Ends.{source_of};
 ghost use Rattle.plane_run.specs.Script.{StaysUnlessCalled};
 ghost use Rattle.plane_main.specs.Outside.{input_of, errors_of};

@@ -1,10 +1,10 @@
 //! The access list of a run of a script.
-ghost use Rattle.bus_access.specs.Form.{acl_of};
+ghost use Rattle.ubus_acl.specs.Form.{acl_of};
 ghost use Rattle.plane_main.specs.Script.{ReadsAcl};
 
 use crate::ending::Ending;
-use bus_access::{Acl, AclError};
 use std::alloc::Global;
+use ubus_acl::{Acl, AclError};
 
 /// Reads the access list of a run, or tells how the run ends without it.
 pub(crate) fn read_acl(alloc: Global, text: &[u8]) -> Result<Acl, Ending>

@@ -2,7 +2,7 @@ ghost use Rattle.std.specs.Prelude.{◌≡◌, IfOk, IfErr, IfSome, IfNone};
 ghost use Rattle.plane_words.specs.Distinct.{AreDistinct};
 ghost use Rattle.uci_tree.specs.Fault.{fault_of};
 ghost use Rattle.net_settle.specs.Outside.{outside_of};
-ghost use Rattle.plane_run.specs.BringUp.{IsBare};
+ghost use Rattle.net_start.specs.BringUp.{IsBare};
 ghost use Rattle.plane_main.specs.Outside.{input_of};
 ghost use Rattle.plane_main.specs.Ending.{IsEarly};
 ghost use Rattle.plane_main.specs.Ending as spec;
@@ -10,8 +10,8 @@ ghost use Rattle.plane_main.specs.Start.{HasNetwork, ReadEnds, StartEnds};
 
 use crate::ending::Ending;
 use kern_model::{DevName, Kernel};
+use net_start::{StartError, bring_network_up, passed_limit};
 use plane_io::{INPUT_LIMIT, InputError, Sink, Source, read_to_end};
-use plane_run::{StartError, bring_network_up, passed_limit};
 use std::alloc::Global;
 use uci_tree::{Package, TreeError, read_package};
 

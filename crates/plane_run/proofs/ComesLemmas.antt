@@ -6,7 +6,7 @@ use Rattle.snap_disk.specs.Opened.{IsWithin, PassesLimit}
 use Rattle.snap_disk.specs.Opening.{HasNoReading}
 use Rattle.uci_tool.specs.Folder.{Folder}
 use Rattle.net_settle.specs.Outside.{Outside}
-use Rattle.plane_step.specs.World.{World}
+use Rattle.bus_lines.specs.World.{World}
 use Rattle.plane_step.specs.Kept.{DiskRose}
 use Rattle.plane_run.specs.declared.run_end.RunEnd.{RunEnd}
 use Rattle.plane_run.specs.declared.run_end.RunEnd.TheVariants as end

@@ -8,6 +8,3 @@ pub mod LinesLemmas
 pub mod RunLemmas
 -- when it ends so
 pub mod ComesLemmas
--- networks that are brought up
-pub use Rattle.net_start.proofs.DeviceLemmas as StartDeviceLemmas
-pub use Rattle.net_start.proofs.RecordLemmas as StartRecordLemmas

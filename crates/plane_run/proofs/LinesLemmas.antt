@@ -11,13 +11,13 @@ use Rattle.kern_calls.proofs.KeptLemmas.{same_if_none_due, none_due_if_same}
 use Rattle.uci_text.specs.declared.line.Line.{Line}
 use Rattle.uci_tool.specs.Ends.{Stream}
 use Rattle.net_rules.specs.Moment.{want_of, devices_of}
-use Rattle.plane_step.specs.Effects.{Leaves}
-use Rattle.plane_step.specs.Finished.{HoldsOrFailed}
-use Rattle.plane_step.proofs.GrowthLemmas.{grows_none, records_none}
-use Rattle.plane_step.specs.Stop.{Stop}
-use Rattle.plane_step.specs.Stop.TheVariants as stop
-use Rattle.plane_step.specs.World.{World}
-use Rattle.plane_step.specs.Words.{Supply, Uses}
+use Rattle.step_net.specs.Effects.{Leaves}
+use Rattle.step_net.specs.Finished.{HoldsOrFailed}
+use Rattle.step_net.proofs.GrowthLemmas.{grows_none, records_none}
+use Rattle.plane_step.specs.declared.stop.Stop.{Stop}
+use Rattle.plane_step.specs.declared.stop.Stop.TheVariants as stop
+use Rattle.bus_lines.specs.World.{World}
+use Rattle.bus_lines.specs.Words.{Supply, Uses}
 use Rattle.plane_step.specs.Moved.{Moved}
 use Rattle.plane_step.specs.Ran.{Ran, ScriptEnds}
 use Rattle.plane_run.specs.declared.run_end.RunEnd.{RunEnd}

@@ -11,12 +11,12 @@ use Rattle.net_rules.specs.Moment.{Moment, moment_after, devices_of}
 use Rattle.net_settle.specs.Outside.{Outside}
 use Rattle.net_start.specs.BringUp.{IsBare}
 use Rattle.net_start.proofs.InputLemmas.{none_at_first, nothing_held}
-use Rattle.plane_step.specs.NetError.{NetError}
-use Rattle.plane_step.specs.NetError.TheVariants as error
-use Rattle.plane_step.specs.Network.{Network, IsNew, IsOf, HasSameKernel, moment_of}
-use Rattle.plane_step.specs.PlaneTaken.{IsAfter}
-use Rattle.plane_step.specs.Acted.{lines_of_asks, asks_after}
-use Rattle.plane_step.specs.Finished.{IsOpened, IsOpenedInPart}
+use Rattle.net_plane.specs.declared.net_error.NetError.{NetError}
+use Rattle.net_plane.specs.declared.net_error.NetError.TheVariants as error
+use Rattle.net_plane.specs.Network.{Network, IsNew, IsOf, HasSameKernel, moment_of}
+use Rattle.net_plane.specs.Taken.{IsAfter}
+use Rattle.step_net.specs.Acted.{lines_of_asks, asks_after}
+use Rattle.step_net.specs.Finished.{IsOpened, IsOpenedInPart}
 use Rattle.plane_run.specs.declared.run_end.RunEnd.{RunEnd}
 use Rattle.plane_run.specs.declared.run_end.RunEnd.TheVariants as end
 use Rattle.plane_run.specs.Opening.{empty_net, loading, loaded_net, opening_asks}

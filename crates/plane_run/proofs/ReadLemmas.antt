@@ -10,8 +10,8 @@ use Rattle.uci_tree.specs.declared.tree_error.TreeError.{TreeError}
 use Rattle.uci_tree.specs.Fault.{fault_of, fault_of_text}
 use Rattle.uci_tool.specs.Ends.{Stream}
 use Rattle.uci_tool.specs.Folder.{Folder}
-use Rattle.plane_step.specs.Loaded as step
-use Rattle.plane_step.specs.Loaded.{DoesNotLoad, IsLoaded, network_name}
+use Rattle.step_net.specs.Loaded as step
+use Rattle.step_net.specs.Loaded.{DoesNotLoad, IsLoaded, network_name}
 use Rattle.plane_run.specs.declared.run_end.RowPackage.{RowPackage}
 use Rattle.plane_run.specs.declared.run_end.RowPackage.TheVariants.{Network, Wireless}
 use Rattle.plane_run.specs.declared.run_end.RunEnd.{RunEnd}

@@ -20,18 +20,18 @@ use Rattle.uci_store.specs.Opening.{OpenRefuses}
 use Rattle.uci_store.specs.Store.{has_failed, IsOnFiles}
 use Rattle.uci_tool.specs.Ends.{Stream}
 use Rattle.uci_tool.specs.Folder.{folder_of}
-use Rattle.uci_run.specs.Folders.{IsFound, IsHeld, StopsAsFound}
+use Rattle.uci_tool.specs.Folders.{IsFound, IsHeld, StopsAsFound}
 use Rattle.net_rules.specs.Moment.{Moment, want_of}
 use Rattle.net_settle.specs.Outside.{Outside}
-use Rattle.plane_step.specs.Loaded.{network_name, wireless_name, IsLoaded}
-use Rattle.plane_step.specs.Finished.{HoldsOrFailed}
-use Rattle.bus_access.specs.declared.acl.Acl.{Acl}
+use Rattle.step_net.specs.Loaded.{network_name, wireless_name, IsLoaded}
+use Rattle.step_net.specs.Finished.{HoldsOrFailed}
+use Rattle.ubus_acl.specs.declared.acl.Acl.{Acl}
 use Rattle.rpc_session.specs.SessionList.{SessionList}
 use Rattle.rpc_session.specs.Sessions.{start as first_sessions}
-use Rattle.plane_step.specs.ClientBus.{BusPart, begun}
-use Rattle.plane_step.specs.ObjectsPassed.{OpensIn, StaysOrStopsIn}
-use Rattle.plane_step.specs.World.{World}
-use Rattle.plane_step.specs.Words.{Supply, supply_of}
+use Rattle.bus_clients.specs.Bus.{BusPart, begun}
+use Rattle.rpc_objects.specs.Passed.{OpensIn, StaysOrStopsIn}
+use Rattle.bus_lines.specs.World.{World}
+use Rattle.bus_lines.specs.Words.{Supply, supply_of}
 use Rattle.plane_step.specs.Moved.{Moved}
 use Rattle.plane_step.specs.ScriptPasses.{ScriptPasses}
 use Rattle.plane_step.specs.Kept.{DiskFaults, DiskRose, faults_of}

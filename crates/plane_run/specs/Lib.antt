@@ -14,10 +14,3 @@ pub mod Comes
 pub mod Stops
 -- how the parts of a run answer
 pub mod Parts
--- the random words, as the crate of callers tells them
-pub use Rattle.plane_step.specs.Words
--- networks that are brought up
-pub use Rattle.net_start.specs.BringUp
-pub use Rattle.net_start.specs.Inputs as StartInputs
-pub use Rattle.net_start.specs.declared.devices.TheConstants as StartConstants
-pub use Rattle.net_start.specs.declared.start_error.StartError

@@ -2,13 +2,13 @@
 use Rattle.std.specs.Prelude.{ℕ, ◌≡◌, List, Option, None, is_some}
 use Rattle.std.specs.FinSet as set
 use Rattle.plane_disk.specs.View.{View}
-use Rattle.bus_access.specs.declared.acl.Acl.{Acl}
+use Rattle.ubus_acl.specs.declared.acl.Acl.{Acl}
 use Rattle.rpc_session.specs.Sessions.{start as first_sessions}
-use Rattle.plane_step.specs.ClientBus.{begun}
+use Rattle.bus_clients.specs.Bus.{begun}
 use Rattle.uci_tree.specs.declared.fault.Fault.{Fault}
 use Rattle.uci_tree.specs.declared.package.Package.{Package}
 use Rattle.uci_tool.specs.Folder.{Folder}
-use Rattle.uci_run.specs.Folders.{IsFound}
+use Rattle.uci_tool.specs.Folders.{IsFound}
 use Rattle.net_conf.specs.Conf.{conf}
 use Rattle.net_conf.specs.Limits.{passed_limit}
 use Rattle.net_rules.specs.declared.event.Event.{Event}
@@ -16,13 +16,13 @@ use Rattle.net_rules.specs.declared.event.Event.TheVariants as event
 use Rattle.net_rules.specs.Inputs.{no_inputs}
 use Rattle.net_rules.specs.Moment.{Moment, moment_after}
 use Rattle.net_settle.specs.Outside.{Outside}
-use Rattle.plane_step.specs.Acted.{asks_after}
-use Rattle.plane_step.specs.Effects.{Leaves}
-use Rattle.plane_step.specs.LineMoved as net
-use Rattle.plane_step.specs.LineMoved.{once_if}
-use Rattle.plane_step.specs.World.{World}
-use Rattle.plane_step.specs.Words.{Supply}
-use Rattle.plane_step.specs.Loaded.{network_name, wireless_name, IsLoaded, DoesNotLoad}
+use Rattle.step_net.specs.Acted.{asks_after}
+use Rattle.step_net.specs.Effects.{Leaves}
+use Rattle.step_net.specs.Moved as net
+use Rattle.step_net.specs.Moved.{once_if}
+use Rattle.bus_lines.specs.World.{World}
+use Rattle.bus_lines.specs.Words.{Supply}
+use Rattle.step_net.specs.Loaded.{network_name, wireless_name, IsLoaded, DoesNotLoad}
 use Rattle.plane_run.specs.declared.run_end.RowPackage.{RowPackage}
 use Rattle.plane_run.specs.declared.run_end.RowPackage.TheVariants.{Network, Wireless}
 

@@ -16,20 +16,20 @@ use Rattle.uci_store.specs.declared.store_error.StoreError.{StoreError}
 use Rattle.uci_store.specs.declared.store_error.StoreError.TheVariants as store_error
 use Rattle.uci_tool.specs.Ends.{Stream}
 use Rattle.uci_tool.specs.Folder.{Folder, folder_of}
-use Rattle.uci_run.specs.Folders.{IsHeld}
+use Rattle.uci_tool.specs.Folders.{IsHeld}
 use Rattle.net_conf.specs.Conf.{conf}
 use Rattle.net_conf.specs.Limits.{passed_limit}
 use Rattle.net_rules.specs.Moment.{Moment, devices_of}
 use Rattle.net_settle.specs.Outside.{Outside}
-use Rattle.plane_step.specs.Effects.{Leaves}
-use Rattle.bus_access.specs.declared.acl.Acl.{Acl}
-use Rattle.plane_step.specs.World.{World}
-use Rattle.plane_step.specs.Words.{Supply, Uses}
-use Rattle.plane_step.specs.Finished.{IsOpened, IsOpenedInPart}
-use Rattle.plane_step.specs.LineMoved.{once_if}
-use Rattle.plane_step.specs.Stop.{Stop}
-use Rattle.plane_step.specs.Stop.TheVariants as stop
-use Rattle.plane_step.specs.Loaded.{network_name, wireless_name, IsLoaded, DoesNotLoad}
+use Rattle.step_net.specs.Effects.{Leaves}
+use Rattle.ubus_acl.specs.declared.acl.Acl.{Acl}
+use Rattle.bus_lines.specs.World.{World}
+use Rattle.bus_lines.specs.Words.{Supply, Uses}
+use Rattle.step_net.specs.Finished.{IsOpened, IsOpenedInPart}
+use Rattle.step_net.specs.Moved.{once_if}
+use Rattle.plane_step.specs.declared.stop.Stop.{Stop}
+use Rattle.plane_step.specs.declared.stop.Stop.TheVariants as stop
+use Rattle.step_net.specs.Loaded.{network_name, wireless_name, IsLoaded, DoesNotLoad}
 use Rattle.plane_step.specs.Kept.{DiskFaults}
 use Rattle.plane_step.specs.Moved.{Luck, Moved, Folds, failures}
 use Rattle.plane_step.specs.Ran.{StopsIn, CutShort, FailedOnDisk, LackedMemory}

@@ -11,16 +11,16 @@ use Rattle.uci_text.specs.declared.line.Line.{Line}
 use Rattle.uci_tree.specs.declared.package.Package.{Package}
 use Rattle.uci_tool.specs.Ends.{Stream}
 use Rattle.uci_tool.specs.Folder.{Folder}
-use Rattle.uci_run.specs.Folders.{IsFound, IsHeld, StopsAsFound}
+use Rattle.uci_tool.specs.Folders.{IsFound, IsHeld, StopsAsFound}
 use Rattle.net_conf.specs.Conf.{conf}
 use Rattle.net_conf.specs.Limits.{passed_limit}
 use Rattle.net_rules.specs.Moment.{Moment, want_of, devices_of}
 use Rattle.net_settle.specs.Outside.{Outside}
-use Rattle.plane_step.specs.Effects.{Leaves, LeavesInPart}
-use Rattle.plane_step.specs.Finished.{IsOpenedInPart}
-use Rattle.plane_step.specs.World.{World}
-use Rattle.plane_step.specs.Words.{Supply, Uses}
-use Rattle.plane_step.specs.Loaded.{network_name, wireless_name, IsLoaded}
+use Rattle.step_net.specs.Effects.{Leaves, LeavesInPart}
+use Rattle.step_net.specs.Finished.{IsOpenedInPart}
+use Rattle.bus_lines.specs.World.{World}
+use Rattle.bus_lines.specs.Words.{Supply, Uses}
+use Rattle.step_net.specs.Loaded.{network_name, wireless_name, IsLoaded}
 use Rattle.plane_step.specs.Kept.{DiskFaults, DiskRose, faults_of}
 use Rattle.plane_step.specs.Moved.{Luck, Moved, failures}
 use Rattle.plane_step.specs.Ran.{StopsIn, CutShort, FailedOnDisk, LackedMemory}

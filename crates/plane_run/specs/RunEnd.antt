@@ -1,6 +1,6 @@
 -- The exit status of a run, and the names of the packages that it loads.
 use Rattle.std.specs.Prelude.{ℕ, List}
-use Rattle.plane_step.specs.Loaded.{network_name, wireless_name}
+use Rattle.step_net.specs.Loaded.{network_name, wireless_name}
 use Rattle.plane_run.specs.declared.run_end.RowPackage.{RowPackage}
 use Rattle.plane_run.specs.declared.run_end.RowPackage.TheVariants.{Network, Wireless}
 use Rattle.plane_run.specs.declared.run_end.RunEnd.{RunEnd}

@@ -8,9 +8,9 @@ use Rattle.uci_text.specs.FirstFault.{IsFirstFault}
 use Rattle.uci_tree.specs.declared.fault.Fault.{Fault}
 use Rattle.uci_tree.specs.Fault.{fault_of_text}
 use Rattle.uci_tool.specs.Ends.{Stream}
-use Rattle.line_texts.specs.declared.line_error.LineError.TheVariants as error
-use Rattle.line_texts.specs.ErrorLine.{error_line}
-use Rattle.plane_step.specs.World.{World}
+use Rattle.script_lines.specs.declared.line_error.LineError.TheVariants as error
+use Rattle.script_lines.specs.ErrorLine.{error_line}
+use Rattle.bus_lines.specs.World.{World}
 use Rattle.plane_step.specs.Plain.{ArePlain}
 use Rattle.plane_step.specs.Moved.{Luck, Moved, Folds}
 use Rattle.plane_run.specs.declared.script.Script.{Script}

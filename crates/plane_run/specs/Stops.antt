@@ -9,11 +9,11 @@ use Rattle.uci_store.specs.declared.store.Store.{Store}
 use Rattle.uci_tool.specs.Ends.{Stream}
 use Rattle.uci_tree.specs.declared.package.Package.{Package}
 use Rattle.uci_tool.specs.Folder.{Folder, folder_of}
-use Rattle.uci_run.specs.Folders.{IsFound, StopsAsFound}
-use Rattle.bus_access.specs.declared.acl.Acl.{Acl}
-use Rattle.plane_step.specs.ObjectsPassed.{OpensIn, StopsIn}
-use Rattle.plane_step.specs.World.{World}
-use Rattle.plane_step.specs.Words.{Supply}
+use Rattle.uci_tool.specs.Folders.{IsFound, StopsAsFound}
+use Rattle.ubus_acl.specs.declared.acl.Acl.{Acl}
+use Rattle.rpc_objects.specs.Passed.{OpensIn, StopsIn}
+use Rattle.bus_lines.specs.World.{World}
+use Rattle.bus_lines.specs.Words.{Supply}
 use Rattle.plane_step.specs.ScriptPasses.{ScriptPasses}
 use Rattle.plane_run.specs.declared.script.Script.TheVariants.{Lines}
 use Rattle.plane_run.specs.Opening.{First, HasRows, start_world}

@@ -9,7 +9,6 @@ mod run;
 mod run_end;
 mod script;
 
-pub use net_start::{StartError, bring_network_up, passed_limit};
 pub use run::run_script;
 pub use run_end::{RowPackage, RunEnd};
 pub use script::SCRIPT_LIMIT;

@@ -4,17 +4,18 @@ ghost use Rattle.net_conf.specs.Conf.{conf};
 ghost use Rattle.net_conf.specs.Limits.{passed_limit};
 ghost use Rattle.net_rules.specs.Moment.{want_of, moment_after};
 ghost use Rattle.net_settle.specs.Outside.{outside_of};
-ghost use Rattle.plane_step.specs.Network.{IsNew, IsOf, HasSameKernel, moment_of};
-ghost use Rattle.plane_step.specs.Acted.{asks_after};
-ghost use Rattle.plane_step.specs.Finished.{HoldsOrFailed};
+ghost use Rattle.net_plane.specs.Network.{IsNew, IsOf, HasSameKernel, moment_of};
+ghost use Rattle.step_net.specs.Acted.{asks_after};
+ghost use Rattle.step_net.specs.Finished.{HoldsOrFailed};
 ghost use Rattle.plane_run.specs.Opening.{loading};
 ghost use Rattle.plane_run.specs.Parts.{OpensNet, RowsPass};
 
 use crate::run_end::RunEnd;
 use kern_model::Kernel;
+use net_plane::{Net, NetError};
 use plane_io::Sink;
-use plane_step::{Net, NetError, lines_of_asks, settle_and_show};
 use std::alloc::Global;
+use step_net::{lines_of_asks, settle_and_show};
 use uci_tree::Package;
 
 /// Loads the rows of two packages into a new plane, settles, and tells the asks. All memory is taken before the first call.

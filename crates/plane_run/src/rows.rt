@@ -3,13 +3,13 @@ ghost use Rattle.std.specs.Prelude.{◌≡◌, IfOk, IfErr, IfSome, IfNone};
 ghost use Rattle.uci_store.specs.Store.{IsStore};
 ghost use Rattle.uci_tree.specs.Fault.{fault_of};
 ghost use Rattle.uci_tool.specs.Folder.{folder_of};
-ghost use Rattle.plane_step.specs.Loaded.{IsLoaded, network_name, wireless_name};
+ghost use Rattle.step_net.specs.Loaded.{IsLoaded, network_name, wireless_name};
 ghost use Rattle.plane_run.specs.RunEnd.{name_of};
 ghost use Rattle.plane_run.specs.Parts.{LoadRefuses, RowsRefuse};
 
 use crate::run_end::{RowPackage, RunEnd};
-use plane_step::load_package;
 use std::alloc::Global;
+use step_net::load_package;
 use uci_store::Store;
 use uci_tree::{Package, TreeError};
 

@@ -4,7 +4,7 @@ ghost use Rattle.net_settle.specs.Outside.{outside_of};
 ghost use Rattle.net_start.specs.BringUp.{IsBare};
 ghost use Rattle.uci_tool.specs.Answers.{IsOpen};
 ghost use Rattle.uci_tool.specs.Ends.{source_of};
-ghost use Rattle.plane_step.specs.ObjectsPassed.{StaysOrStopsIn};
+ghost use Rattle.rpc_objects.specs.Passed.{StaysOrStopsIn};
 ghost use Rattle.plane_step.specs.ScriptPasses.{ScriptPasses};
 ghost use Rattle.plane_step.specs.Kept.{faults_of};
 ghost use Rattle.plane_run.specs.Script.{StaysUnlessCalled};
@@ -17,14 +17,15 @@ use crate::lines::carry_script;
 use crate::opening::open_net;
 use crate::rows::load_rows;
 use crate::run_end::RunEnd;
-use bus_access::Acl;
+use bus_lines::Callers;
 use kern_model::Kernel;
+use net_plane::Net;
 use plane_disk::Disk;
 use plane_io::{Sink, Source};
 use plane_outside::Random;
-use plane_step::{Callers, Net};
 use snap_disk::SnapError;
 use std::alloc::Global;
+use ubus_acl::Acl;
 use uci_store::{Store, StoreError};
 
 /// Opens a folder of packages and one of staged changes at this moment, in seconds, settles its network on a kernel that has no devices,

@@ -16,8 +16,8 @@ use Rattle.rpc_session.specs.declared.session_error.SessionError.TheVariants.{De
 use Rattle.rpc_session.specs.SessionList.{SessionList}
 use Rattle.rpc_session.specs.Session.{is_live}
 use Rattle.rpc_session.specs.Sessions.{first_expired, destroyed, where_present, session_of, without, Does}
-use Rattle.plane_lines.specs.Network.{Network}
-use Rattle.local_answers.specs.SessionCall.{StaysOpen}
+use Rattle.net_plane.specs.Network.{Network}
+use Rattle.rpc_objects.specs.SessionCall.{StaysOpen}
 use Rattle.bus_lines.specs.declared.callers.Callers.{Callers}
 use Rattle.bus_lines.specs.Ended.{world_of}
 use Rattle.plane_step.specs.Expiry.{Goes, Reached, keeping}

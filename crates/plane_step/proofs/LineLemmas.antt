@@ -8,16 +8,16 @@ use Rattle.kern_model.specs.Kernel.{Records}
 use Rattle.uci_text.specs.declared.line.Line.{Line}
 use Rattle.net_rules.specs.Moment.{Moment}
 use Rattle.net_settle.specs.Outside.{Outside}
-use Rattle.plane_lines.specs.Effects.{Effects, joined, Leaves}
-use Rattle.plane_lines.specs.LineMoved.{Moved as NetMoved, Telling, finished, asking, once_if, failed_events}
-use Rattle.plane_lines.specs.LineTaken.{telling_in}
-use Rattle.plane_lines.specs.Finished.{IsFinished, IsCutShort}
-use Rattle.plane_lines.proofs.GrowthLemmas.{grows_none, records_none}
-use Rattle.plane_lines.specs.declared.stop.Stop.{Stop}
-use Rattle.plane_lines.specs.declared.stop.Stop.TheVariants as stop
-use Rattle.plane_lines.specs.Faults.{DiskFaults, DiskRose}
-use Rattle.bus_lines.specs.ObjectsKept as objects
-use Rattle.bus_lines.specs.ObjectsCut.{Cut, IsCutSo}
+use Rattle.step_net.specs.Effects.{Effects, joined, Leaves}
+use Rattle.step_net.specs.Moved.{Moved as NetMoved, Telling, finished, asking, once_if, failed_events}
+use Rattle.step_net.specs.Taken.{telling_in}
+use Rattle.step_net.specs.Finished.{IsFinished, IsCutShort}
+use Rattle.step_net.proofs.GrowthLemmas.{grows_none, records_none}
+use Rattle.plane_step.specs.declared.stop.Stop.{Stop}
+use Rattle.plane_step.specs.declared.stop.Stop.TheVariants as stop
+use Rattle.plane_step.specs.Faults.{DiskFaults, DiskRose}
+use Rattle.rpc_objects.specs.Kept as objects
+use Rattle.rpc_objects.specs.Cut.{Cut, IsCutSo}
 use Rattle.bus_lines.specs.declared.handled.Handled.{Handled}
 use Rattle.bus_lines.specs.World.{World}
 use Rattle.bus_lines.specs.Did.{Did}

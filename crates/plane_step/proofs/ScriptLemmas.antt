@@ -5,12 +5,12 @@ use Rattle.plane_words.specs.Causes.{Rose, RoseBy}
 use Rattle.uci_text.specs.declared.line.Line.{Line}
 use Rattle.kern_model.specs.ObjectOrder.{Objects}
 use Rattle.net_settle.specs.Outside.{Outside}
-use Rattle.plane_lines.specs.Finished.{HoldsOrFailed}
-use Rattle.plane_lines.specs.Effects.{Effects, joined, Leaves}
-use Rattle.plane_lines.proofs.GrowthLemmas.{grows_none, grows_more, records_none, records_more}
-use Rattle.plane_lines.specs.declared.stop.Stop.{Stop}
-use Rattle.plane_lines.specs.declared.stop.Stop.TheVariants as stop
-use Rattle.plane_lines.specs.Faults.{DiskRose}
+use Rattle.step_net.specs.Finished.{HoldsOrFailed}
+use Rattle.step_net.specs.Effects.{Effects, joined, Leaves}
+use Rattle.step_net.proofs.GrowthLemmas.{grows_none, grows_more, records_none, records_more}
+use Rattle.plane_step.specs.declared.stop.Stop.{Stop}
+use Rattle.plane_step.specs.declared.stop.Stop.TheVariants as stop
+use Rattle.plane_step.specs.Faults.{DiskRose}
 use Rattle.bus_lines.specs.World.{World}
 use Rattle.bus_lines.specs.Words.{Supply}
 use Rattle.plane_step.specs.Does.{LineDoes}

@@ -3,16 +3,16 @@ use Rattle.std.specs.Prelude.{ℕ, ◌≡◌, List, Bool, Option, Some, Result, 
 use Rattle.uci_tool.specs.Folder.{Folder}
 use Rattle.script_lines.specs.declared.script_line.ScriptLine.{ScriptLine}
 use Rattle.script_lines.specs.declared.script_line.ScriptLine.TheVariants as line
-use Rattle.local_answers.specs.declared.uci_answer.CallStop.{CallStop}
-use Rattle.local_answers.specs.declared.uci_answer.CallStop.TheVariants as call
-use Rattle.bus_lines.specs.ObjectsCut.{Cut, untouched}
+use Rattle.rpc_objects.specs.declared.uci_answer.CallStop.{CallStop}
+use Rattle.rpc_objects.specs.declared.uci_answer.CallStop.TheVariants as call
+use Rattle.rpc_objects.specs.Cut.{Cut, untouched}
 use Rattle.bus_lines.specs.declared.caller_line.CallerLine.{CallerLine}
 use Rattle.bus_lines.specs.declared.caller_line.CallerLine.TheVariants as caller
 use Rattle.bus_lines.specs.Did.{Did}
 use Rattle.plane_step.specs.declared.act.Asking.{Asking}
 use Rattle.plane_step.specs.declared.act.Asking.TheVariants as asking
-use Rattle.plane_lines.specs.declared.stop.Stop.{Stop}
-use Rattle.plane_lines.specs.declared.stop.Stop.TheVariants as stop
+use Rattle.plane_step.specs.declared.stop.Stop.{Stop}
+use Rattle.plane_step.specs.declared.stop.Stop.TheVariants as stop
 use Rattle.bus_lines.specs.declared.handled.Handled.{Handled}
 use Rattle.bus_lines.specs.World.{World}
 use Rattle.bus_lines.specs.Ended.{Seen, IsDone, IsHalted, HasFailed}

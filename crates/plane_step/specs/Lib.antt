@@ -1,5 +1,17 @@
--- The lines of a script over all that they move: what each does, and what a script leaves.
+-- The lines of a script over all that they move.
 
+-- a plane with its files at a moment
+pub mod Ground
+-- what a line does to the moment and to the files
+pub mod FilesMoved
+-- what a line means for the plane of interfaces
+pub mod Means
+-- the faults of the disks
+pub mod Faults
+-- what lines leave of the store and of its disks
+pub mod StoreKept
+-- what the code made of a line before its settling
+pub mod LineDone
 -- sessions that expire
 pub mod Expiry
 -- lines that no caller asks
@@ -18,25 +30,3 @@ pub mod Ran
 pub mod Kept
 -- what the code made of a line before its settling
 pub mod Done
--- what lines of callers move, as their crate tells it
-pub use Rattle.bus_lines.specs.Did as CallerDid
-pub use Rattle.bus_lines.specs.Ended
-pub use Rattle.bus_lines.specs.Words
-pub use Rattle.bus_lines.specs.World
--- calls of local objects, as their crate tells them
-pub use Rattle.bus_lines.specs.ObjectsPassed
--- what stops a script
-pub use Rattle.plane_lines.specs.declared.stop.Stop
--- packages that are loaded
-pub use Rattle.plane_lines.specs.Loaded
--- lines over the plane of interfaces, as their crate tells them
-pub use Rattle.plane_lines.specs.Acted
-pub use Rattle.plane_lines.specs.Effects
-pub use Rattle.plane_lines.specs.Finished
-pub use Rattle.plane_lines.specs.LineMoved
--- the plane of interfaces, as its crate tells it
-pub use Rattle.plane_lines.specs.Network
-pub use Rattle.plane_lines.specs.PlaneTaken
-pub use Rattle.plane_lines.specs.NetError
--- what scripts keep of the message bus
-pub use Rattle.bus_lines.specs.ClientBus

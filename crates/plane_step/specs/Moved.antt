@@ -2,9 +2,9 @@
 use Rattle.std.specs.Prelude.{ℕ, ◌+◌, List, [], ◌∷◌, ◌++◌, Option, Bool, true, ◌&&◌, is_some}
 use Rattle.std.specs.Option.{option_map}
 use Rattle.uci_text.specs.declared.line.Line.{Line}
-use Rattle.line_texts.specs.ErrorLine.{error_line}
-use Rattle.plane_lines.specs.Effects.{Effects, no_effects, joined}
-use Rattle.plane_lines.specs.LineMoved.{Telling, finished, asking, once_if, failed_events}
+use Rattle.script_lines.specs.ErrorLine.{error_line}
+use Rattle.step_net.specs.Effects.{Effects, no_effects, joined}
+use Rattle.step_net.specs.Moved.{Telling, finished, asking, once_if, failed_events}
 use Rattle.bus_lines.specs.World.{World}
 use Rattle.bus_lines.specs.Did.{Did}
 use Rattle.plane_step.specs.Does.{LineDoes}

@@ -5,12 +5,12 @@ use Rattle.uci_tool.specs.Folder.{Folder}
 use Rattle.script_lines.specs.declared.script_line.ScriptLine.{ScriptLine}
 use Rattle.script_lines.specs.declared.script_line.ScriptLine.TheVariants as line
 use Rattle.script_lines.specs.Lines.{line_of}
-use Rattle.plane_lines.specs.NetLine.{NetLine}
-use Rattle.plane_lines.specs.Acted.{acted}
-use Rattle.plane_lines.specs.LineMoved.{once_if}
-use Rattle.plane_lines.specs.FilesMoved.{files_moved, IsOneOf}
-use Rattle.plane_lines.specs.Means.{Means}
-use Rattle.bus_lines.specs.ObjectsCut.{Cut, untouched}
+use Rattle.step_net.specs.NetLine.{NetLine}
+use Rattle.step_net.specs.Acted.{acted}
+use Rattle.step_net.specs.Moved.{once_if}
+use Rattle.plane_step.specs.FilesMoved.{files_moved, IsOneOf}
+use Rattle.plane_step.specs.Means.{Means}
+use Rattle.rpc_objects.specs.Cut.{Cut, untouched}
 use Rattle.bus_lines.specs.declared.caller_line.CallerLine.TheVariants as caller
 use Rattle.bus_lines.specs.World.{World}
 use Rattle.bus_lines.specs.Passed.{LinePasses as CallerPasses}

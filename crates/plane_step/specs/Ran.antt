@@ -6,12 +6,12 @@ use Rattle.kern_model.specs.declared.object.Call.{Call}
 use Rattle.kern_model.specs.CallOrder.{after_calls}
 use Rattle.uci_text.specs.declared.line.Line.{Line}
 use Rattle.net_settle.specs.Outside.{Outside}
-use Rattle.plane_lines.specs.Effects.{Leaves, LeavesInPart}
-use Rattle.plane_lines.specs.Finished.{KeepsPace}
-use Rattle.plane_lines.specs.declared.stop.Stop.{Stop}
-use Rattle.plane_lines.specs.declared.stop.Stop.TheVariants as stop
-use Rattle.plane_lines.specs.Faults.{DiskFaults, DiskRose}
-use Rattle.bus_lines.specs.ObjectsCut.{Cut}
+use Rattle.step_net.specs.Effects.{Leaves, LeavesInPart}
+use Rattle.step_net.specs.Finished.{KeepsPace}
+use Rattle.plane_step.specs.declared.stop.Stop.{Stop}
+use Rattle.plane_step.specs.declared.stop.Stop.TheVariants as stop
+use Rattle.plane_step.specs.Faults.{DiskFaults, DiskRose}
+use Rattle.rpc_objects.specs.Cut.{Cut}
 use Rattle.bus_lines.specs.World.{World}
 use Rattle.bus_lines.specs.Words.{Supply, Uses}
 use Rattle.bus_lines.specs.Did.{Did}

@@ -1,9 +1,9 @@
 //! Sessions that expire.
 ghost use Rattle.std.specs.Prelude.{◌≡◌, ◌≤◌, Some, None, OnOk, OnErr};
 ghost use Rattle.uci_store.specs.Store.{staged_in};
-ghost use Rattle.plane_lines.specs.Network.{Network};
+ghost use Rattle.net_plane.specs.Network.{Network};
 ghost use Rattle.rpc_session.specs.Sessions.{first_expired};
-ghost use Rattle.local_answers.specs.SessionCall.{StaysOpen};
+ghost use Rattle.rpc_objects.specs.SessionCall.{StaysOpen};
 ghost use Rattle.bus_lines.specs.Ended.{world_of};
 ghost use Rattle.plane_step.specs.Expiry.{Goes, Reached};
 

@@ -1,10 +1,10 @@
 ghost use Rattle.std.specs.Prelude.{◌≡◌, [], OnOk};
 ghost use Rattle.net_rules.specs.Moment.{want_of};
 ghost use Rattle.net_settle.specs.Outside.{outside_of};
-ghost use Rattle.plane_lines.specs.Finished.{HoldsOrFailed};
-ghost use Rattle.plane_lines.specs.Network.{IsOf};
+ghost use Rattle.step_net.specs.Finished.{HoldsOrFailed};
+ghost use Rattle.net_plane.specs.Network.{IsOf};
 ghost use Rattle.uci_tool.specs.Answers.{IsOpen};
-ghost use Rattle.bus_lines.specs.ObjectsPassed.{StaysOrStopsIn};
+ghost use Rattle.rpc_objects.specs.Passed.{StaysOrStopsIn};
 ghost use Rattle.bus_lines.specs.Words.{supply_of};
 ghost use Rattle.bus_lines.specs.Ended.{world_of};
 ghost use Rattle.plane_step.specs.Plain.{ArePlain};
@@ -12,12 +12,13 @@ ghost use Rattle.plane_step.specs.ScriptPasses.{ScriptPasses};
 ghost use Rattle.plane_step.specs.Kept.{StaysOn, faults_of};
 ghost use Rattle.plane_step.specs.Ran.{ScriptEnds};
 
+use crate::Stop;
 use crate::carrying::carry_out;
 use bus_lines::Callers;
 use kern_model::Kernel;
+use net_plane::Net;
 use plane_disk::Disk;
 use plane_io::Sink;
-use plane_lines::{Net, Stop};
 use plane_outside::Random;
 use std::alloc::Global;
 use uci_store::Store;

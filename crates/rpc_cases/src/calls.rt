@@ -4,8 +4,9 @@ use crate::grants::{WORD, id_of};
 use blob_codec::{Attr, Blob};
 use bus_words::{attributes_of, put_attributes, put_json};
 use plane_io::Text;
+use rpc_rules::RpcError;
 use rpc_session::{Grant, SessionError, id_text};
-use rpc_uci::{Reply, RpcError};
+use rpc_uci::Reply;
 use sqlite_items::Items;
 use std::alloc::Global;
 

@@ -1,7 +1,8 @@
 use blob_codec::Attr;
 use plane_disk::MemDisk;
+use rpc_rules::RpcError;
 use rpc_session::Sessions;
-use rpc_uci::{Reply, RpcError, serve};
+use rpc_uci::{Reply, serve};
 use std::alloc::Global;
 use std::marker::Model;
 use uci_store::{Store, StoreError, have_same_packages};

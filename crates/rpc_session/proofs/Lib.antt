@@ -5,3 +5,4 @@ mod OrderLemmas
 mod SessionListLemmas
 mod StepLemmas
 mod ServeLemmas
+mod PatternLemmas

@@ -1,4 +1,4 @@
--- Sessions and their grants, as OpenWrt's rpcd has them.
+-- Sessions of the message bus, and patterns of their grants.
 
 -- numbers of denials
 pub mod Denied
@@ -26,3 +26,5 @@ pub mod Description
 pub mod Method
 -- what a call answers and leaves
 pub mod Serve
+-- how a pattern goes on behind its first star
+pub mod Pattern

@@ -1,7 +1,7 @@
 ghost use Rattle.std.specs.Prelude.{◌≡◌, IfOk};
 ghost use Rattle.rpc_session.specs.Grant as spec;
 
-use grant_patterns::fits;
+use crate::fits;
 use plane_io::{Memory, Text};
 use std::alloc::Global;
 

@@ -11,6 +11,7 @@ mod grant;
 mod laws;
 mod method;
 mod objects;
+mod pattern;
 mod serve;
 mod session;
 mod session_error;
@@ -24,6 +25,7 @@ pub use arguments::{
 pub use denied::Denied;
 pub use grant::Grant;
 pub use laws::values_stand_in_order;
+pub use pattern::fits;
 pub use session::Session;
 pub use session_error::SessionError;
 pub use sessions::{MOST_SESSIONS, Sessions};

@@ -13,5 +13,4 @@ mod staging;
 
 pub use laws::{one_answer, one_state};
 pub use reply::Reply;
-pub use rpc_rules::RpcError;
 pub use serving::serve;

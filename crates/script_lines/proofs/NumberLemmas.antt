@@ -10,7 +10,7 @@ use Rattle.std.proofs.lemmas.Bool.{eqb-false, ltb-true, lt-ltb}
 use Rattle.std.proofs.lemmas.Result.{OkIff-at_ok}
 use Rattle.std.proofs.lemmas.Fmt.{IsAscii-from_digits}
 use Rattle.std.proofs.lemmas.Str.Parse.{IsDigitsTest, IsNumeralModel, numerals_by_value, tells_all_ascii_digits, parse_gives, parse_digits}
-use Rattle.net_options.specs.Number.{is_numeral}
+use Rattle.net_rows.specs.Number.{is_numeral}
 use Rattle.script_lines.specs.Arguments.{of_64_bits, long_decimal_of}
 
 all_same : (ds : List ℕ) → list_all is_ascii_digit ds ≡ all_ascii_digits ds

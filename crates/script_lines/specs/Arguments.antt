@@ -5,7 +5,7 @@ use Rattle.hex.specs.Hex.{decode_of, decode_sized}
 use Rattle.hex.specs.declared.error.FromHexError.{FromHexError}
 use Rattle.std.specs.Int.{from_be_bytes, w128}
 use Rattle.kern_model.specs.Name.{is_name}
-use Rattle.net_options.specs.Number.{is_numeral}
+use Rattle.net_rows.specs.Number.{is_numeral}
 
 -- a number of 64 bits
 abbrev pub of_64_bits : ℕ → Option ℕ

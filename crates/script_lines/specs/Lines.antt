@@ -4,8 +4,8 @@ use Rattle.std.specs.Option.{option_and_then, option_map}
 use Rattle.kern_model.specs.declared.object.DevEvent.{DevEvent}
 use Rattle.kern_model.specs.declared.object.DevEvent.TheVariants as device
 use Rattle.kern_model.specs.declared.object.Mac.{Mac}
-use Rattle.net_options.specs.HardwareAddress.{mac_of}
-use Rattle.net_options.specs.Number.{decimal_of}
+use Rattle.net_rows.specs.HardwareAddress.{mac_of}
+use Rattle.net_rows.specs.Number.{decimal_of}
 use Rattle.script_lines.specs.declared.keyword.Keyword.{Keyword}
 use Rattle.script_lines.specs.declared.keyword.Keyword.TheVariants as keyword
 use Rattle.script_lines.specs.declared.script_line.ScriptLine.{ScriptLine}

@@ -1,7 +1,7 @@
 ghost use Rattle.std.specs.Prelude.{◌≡◌, IfOk};
 ghost use Rattle.std.specs.List.{list_all};
 ghost use Rattle.std.specs.Char.{is_ascii_digit};
-ghost use Rattle.net_options.specs.Number.{is_numeral};
+ghost use Rattle.net_rows.specs.Number.{is_numeral};
 ghost use Rattle.script_lines.specs.Arguments as spec;
 
 use hex::FromHexError;

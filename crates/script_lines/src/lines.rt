@@ -9,7 +9,7 @@ use crate::arguments::{
 use crate::keyword::Keyword;
 use crate::script_line::ScriptLine;
 use kern_model::{DevEvent, Mac};
-use net_options::{read_decimal, read_mac};
+use net_rows::{read_decimal, read_mac};
 use plane_io::{Items, Memory, Text};
 use std::alloc::Global;
 

@@ -16,9 +16,9 @@ use Rattle.net_rules.specs.Want.{of_options, of_answer, of_sections, given_by}
 use Rattle.net_rules.specs.Inputs.{facts_of}
 use Rattle.given_objects.specs.Gifts.{Gifts}
 use Rattle.graph_rules.specs.State.{Known}
-use Rattle.net_claims.specs.declared.state.InterfaceState.{InterfaceState}
-use Rattle.net_claims.specs.Claims.{uses_by, claim_of, claims_of}
-use Rattle.net_claims.proofs.MoveLemmas.{count_moves}
+use Rattle.net_rules.specs.declared.state.InterfaceState.{InterfaceState}
+use Rattle.net_rules.specs.Claims.{uses_by, claim_of, claims_of}
+use Rattle.net_rules.proofs.MoveLemmas.{count_moves}
 use Rattle.net_gifts.specs.Giving.{times_in, gives, all_gives, HasGivers, HavePlaces}
 use Rattle.net_gifts.proofs.TimesLemmas.{times_move, gives_agree}
 use Rattle.net_states.specs.Counted.{AgreesWith, needs_no_answer, HasGiftRoom}

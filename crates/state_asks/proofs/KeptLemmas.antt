@@ -10,9 +10,9 @@ use Rattle.net_rules.specs.Rows.{asks_nothing}
 use Rattle.net_rules.specs.Inputs.{facts_of}
 use Rattle.net_reach.specs.Reach.{IsReachOf}
 use Rattle.net_states.specs.Course.{Course}
-use Rattle.net_claims.specs.declared.state.InterfaceState.{InterfaceState}
-use Rattle.net_claims.specs.States.{is_first, IsIdle}
-use Rattle.net_claims.proofs.MoveLemmas.{some_is}
+use Rattle.net_rules.specs.declared.state.InterfaceState.{InterfaceState}
+use Rattle.net_rules.specs.States.{is_first, IsIdle}
+use Rattle.net_rules.proofs.MoveLemmas.{some_is}
 use Rattle.asked_places.specs.Touched.{has}
 use Rattle.net_states.specs.declared.states.States.{States}
 use Rattle.net_states.specs.Kept.{number_of, IsNoted, IsNotedAs, IsAtHand, AreOwnAsks, AreNoted, IsTied}

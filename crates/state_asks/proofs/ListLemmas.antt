@@ -6,7 +6,7 @@ use Rattle.std.proofs.lemmas.Bool.Decides.{Decides-eqb}
 use Rattle.kern_model.proofs.MemberLemmas.{here, there}
 use Rattle.kern_model.proofs.TestLemmas.{false_of_not, of_any}
 use Rattle.net_rules.specs.Numbers.{AreRising}
-use Rattle.net_asked.proofs.NumberLemmas.{between}
+use Rattle.net_rules.proofs.TouchNumberLemmas.{between}
 use Rattle.asked_places.specs.Touched.{has}
 
 -- ---- one item becomes another

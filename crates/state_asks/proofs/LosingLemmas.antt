@@ -14,7 +14,7 @@ use Rattle.net_reach.specs.declared.reach.Reach.{Reach}
 use Rattle.net_reach.specs.Reach.{IsReachOf, interface_place}
 use Rattle.net_reach.specs.Layers.{TellsLayer}
 use Rattle.net_states.specs.Course.{Course}
-use Rattle.net_claims.specs.declared.state.InterfaceState.{InterfaceState}
+use Rattle.net_rules.specs.declared.state.InterfaceState.{InterfaceState}
 use Rattle.asked_places.specs.Touched.{has}
 use Rattle.asked_places.specs.Losing.{lost_at, left_at}
 use Rattle.asked_places.proofs.PlaceLemmas.{place_of_first}

@@ -16,17 +16,17 @@ use Rattle.net_rules.specs.Inputs.{facts_of, open_interface}
 use Rattle.net_rules.proofs.ListLemmas.{within_filter}
 use Rattle.net_rules.proofs.SameLemmas.{interface_asks}
 use Rattle.net_rules.proofs.TableLemmas.{found_member}
-use Rattle.net_asked.specs.Touched.{is_needed}
-use Rattle.net_asked.proofs.AskedLemmas.{left_found}
+use Rattle.net_rules.specs.Touched.{is_needed}
+use Rattle.net_rules.proofs.AskedLemmas.{left_found}
 use Rattle.known_inputs.specs.Known.{StandOnce}
 use Rattle.known_inputs.specs.Steps.{ask_of, without_ask}
 use Rattle.known_inputs.proofs.FoundLemmas.{found_numbered, found_named}
 use Rattle.net_reach.specs.Reach.{IsReachOf, told_layer}
 use Rattle.net_reach.specs.Layers.{TellsLayer}
 use Rattle.net_reach.proofs.AlikeLemmas.{closed_tells}
-use Rattle.net_claims.specs.declared.state.InterfaceState.{InterfaceState}
-use Rattle.net_claims.specs.States.{is_first}
-use Rattle.net_claims.proofs.MoveLemmas.{some_is}
+use Rattle.net_rules.specs.declared.state.InterfaceState.{InterfaceState}
+use Rattle.net_rules.specs.States.{is_first}
+use Rattle.net_rules.proofs.MoveLemmas.{some_is}
 use Rattle.asked_places.specs.Touched.{is_touched}
 use Rattle.asked_places.specs.Losing.{lost_number, lost_at, left_at}
 use Rattle.asked_places.proofs.PlaceLemmas.{place_of_first, first_at_place, touched_one, touches_one}

@@ -19,9 +19,9 @@ use Rattle.net_rules.proofs.TableLemmas.{either_way, first_some, found_behind}
 use Rattle.known_inputs.specs.Steps.{place_of, with_ask}
 use Rattle.net_reach.specs.Reach.{IsReachOf}
 use Rattle.net_reach.proofs.AlikeLemmas.{alike_reach, opened_alike}
-use Rattle.net_claims.specs.declared.state.InterfaceState.{InterfaceState}
-use Rattle.net_claims.specs.States.{is_first}
-use Rattle.net_claims.proofs.MoveLemmas.{some_is}
+use Rattle.net_rules.specs.declared.state.InterfaceState.{InterfaceState}
+use Rattle.net_rules.specs.States.{is_first}
+use Rattle.net_rules.proofs.MoveLemmas.{some_is}
 use Rattle.asked_places.specs.Touched.{names_of_rows}
 use Rattle.asked_places.specs.Opening.{opened_row, opened_at, with_opened, opened_after, opened_notices}
 use Rattle.asked_places.proofs.PlaceLemmas.{place_of_first}

@@ -10,8 +10,8 @@ use Rattle.net_rules.specs.Inputs.{facts_of, open_interface}
 use Rattle.known_inputs.specs.Known.{Known, IsNamed}
 use Rattle.known_inputs.specs.Steps.{with_ask}
 use Rattle.net_states.specs.Course.{Course}
-use Rattle.net_claims.specs.declared.state.InterfaceState.{InterfaceState}
-use Rattle.net_claims.proofs.MoveLemmas.{some_is}
+use Rattle.net_rules.specs.declared.state.InterfaceState.{InterfaceState}
+use Rattle.net_rules.proofs.MoveLemmas.{some_is}
 use Rattle.asked_places.specs.Touched.{has}
 use Rattle.asked_places.specs.Opening.{opened_at, opened_after, opened_notices}
 use Rattle.net_states.specs.declared.states.States.{States}

@@ -10,10 +10,10 @@ use Rattle.net_rules.specs.declared.inputs.Inputs.{Inputs}
 use Rattle.net_rules.specs.declared.inputs.OpenInterface.{OpenInterface}
 use Rattle.net_rules.specs.Inputs.{facts_of, open_interface}
 use Rattle.known_inputs.specs.Steps.{place_of}
-use Rattle.net_claims.specs.declared.state.InterfaceState.{InterfaceState}
-use Rattle.net_claims.specs.States.{is_first, IsStateAs}
-use Rattle.net_claims.proofs.AnswerLemmas.{state_same}
-use Rattle.net_claims.proofs.MoveLemmas.{some_is}
+use Rattle.net_rules.specs.declared.state.InterfaceState.{InterfaceState}
+use Rattle.net_rules.specs.States.{is_first, IsStateAs}
+use Rattle.net_rules.proofs.AnswerLemmas.{state_same}
+use Rattle.net_rules.proofs.MoveLemmas.{some_is}
 use Rattle.asked_places.specs.Touched.{has, names_of_rows}
 use Rattle.asked_places.proofs.PlaceLemmas.{place_of_first}
 use Rattle.net_states.specs.Kept.{FollowBut}

@@ -12,7 +12,7 @@ use Rattle.net_rules.specs.Numbers.{AreRising}
 use Rattle.net_rules.specs.Inputs.{facts_of}
 use Rattle.net_rules.specs.After.{opened_interfaces}
 use Rattle.net_rules.specs.Notices.{interface_notice}
-use Rattle.net_asked.specs.Touched.{lost_numbers, asked_of}
+use Rattle.net_rules.specs.Touched.{lost_numbers, asked_of}
 use Rattle.known_inputs.specs.Known.{Known, StandOnce}
 use Rattle.net_states.specs.Course.{Course}
 use Rattle.asked_places.specs.Touched.{is_touched}

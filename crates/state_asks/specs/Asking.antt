@@ -6,7 +6,7 @@ use Rattle.net_rules.specs.Facts.{Facts}
 use Rattle.net_rules.specs.Rows.{asks_nothing}
 use Rattle.net_rules.specs.Interfaces.{is_ready}
 use Rattle.net_states.specs.Course.{Course}
-use Rattle.net_claims.specs.declared.state.InterfaceState.{InterfaceState}
+use Rattle.net_rules.specs.declared.state.InterfaceState.{InterfaceState}
 use Rattle.net_states.specs.declared.states.States.{States}
 use Rattle.net_states.specs.Kept.{IsTied, FollowBut, AreIdleAt}
 use Rattle.net_states.specs.Counted.{IsCountedBy}

@@ -4,7 +4,7 @@ ghost use Rattle.net_rows.specs.declared.rows.InterfaceRow.{InterfaceRow};
 ghost use Rattle.net_rules.specs.Inputs.{facts_of};
 ghost use Rattle.known_inputs.specs.Known.{StandOnce};
 ghost use Rattle.net_reach.specs.Reach.{IsReachOf};
-ghost use Rattle.net_claims.specs.declared.state.InterfaceState.{InterfaceState};
+ghost use Rattle.net_rules.specs.declared.state.InterfaceState.{InterfaceState};
 ghost use Rattle.net_states.specs.Counted.{AgreesWith};
 ghost use Rattle.state_asks.specs.Asking as spec;
 

@@ -4,7 +4,7 @@ ghost use Rattle.std.specs.VecDeque.{deque_len, deque_capacity};
 ghost use Rattle.net_rows.specs.declared.rows.InterfaceRow.{InterfaceRow};
 ghost use Rattle.net_rules.specs.Numbers.{AreRising};
 ghost use Rattle.net_rules.specs.Inputs.{facts_of};
-ghost use Rattle.net_claims.specs.declared.state.InterfaceState.{InterfaceState};
+ghost use Rattle.net_rules.specs.declared.state.InterfaceState.{InterfaceState};
 ghost use Rattle.net_states.specs.Kept.{IsTied};
 ghost use Rattle.net_states.specs.Counted.{AgreesWith};
 ghost use Rattle.asked_places.specs.Touched.{has};

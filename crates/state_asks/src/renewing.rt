@@ -1,7 +1,7 @@
 ghost use Rattle.std.specs.Prelude.{◌≡◌, ◌≤◌, ◌+◌, ◌*◌, ◌^◌, ◌++◌, length, vec_capacity};
 ghost use Rattle.std.specs.VecDeque.{deque_len, deque_capacity};
 ghost use Rattle.net_rules.specs.Numbers.{AreRising};
-ghost use Rattle.net_asked.specs.Touched.{asked_of};
+ghost use Rattle.net_rules.specs.Touched.{asked_of};
 ghost use Rattle.asked_places.specs.Touched.{is_touched};
 ghost use Rattle.touch_laws.specs.Staying.{told_of};
 ghost use Rattle.net_states.specs.Kept.{IsTied, AreStatesOf, FollowBut};

@@ -22,8 +22,8 @@ use Rattle.net_status.specs.Interfaces.{interface_status, dump}
 use Rattle.net_status.specs.Devices.{device_status}
 use Rattle.net_status.specs.Radios.{radio_status}
 use Rattle.ask_lines.specs.AskLine.{ask_line}
-use Rattle.line_texts.specs.declared.line_error.LineError.{LineError}
-use Rattle.line_texts.specs.declared.line_error.LineError.TheVariants as error
+use Rattle.script_lines.specs.declared.line_error.LineError.{LineError}
+use Rattle.script_lines.specs.declared.line_error.LineError.TheVariants as error
 use Rattle.step_net.specs.NetLine.{NetLine}
 
 -- The plane behind it, what the kernel was asked, the lines of asks, the reply, and why the line is

@@ -1,4 +1,4 @@
--- A line of a script over the plane of interfaces: what it leaves and what it tells.
+-- A line of a script on the plane of interfaces.
 
 -- what a line asks of the plane
 pub mod NetLine
@@ -14,9 +14,9 @@ pub mod Told
 pub mod Taken
 -- what a settling and an answer left outside
 pub mod Finished
--- the plane of interfaces, as its crate tells it
-pub use Rattle.net_plane.specs.NetError as PlaneErrors
-pub use Rattle.net_plane.specs.Network
-pub use Rattle.net_plane.specs.Settled as PlaneSettled
-pub use Rattle.net_plane.specs.Taken as PlaneTaken
-pub use Rattle.net_plane.specs.declared.net_error.NetError
+-- what is loaded of the files
+pub mod Loaded
+-- what a reload asks of the plane
+pub mod Reload
+-- what the code made of it
+pub mod ReloadTaken

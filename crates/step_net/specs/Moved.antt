@@ -8,7 +8,7 @@ use Rattle.kern_model.specs.CallOrder.{after_calls}
 use Rattle.kern_calls.specs.Calls.{calls}
 use Rattle.net_rules.specs.Moment.{Moment, devices_of, want_of}
 use Rattle.net_settle.specs.Settle.{lines_of, done_call, failed_call}
-use Rattle.line_texts.specs.ErrorLine.{error_line}
+use Rattle.script_lines.specs.ErrorLine.{error_line}
 use Rattle.step_net.specs.NetLine.{NetLine}
 use Rattle.step_net.specs.Acted.{Acted, acted}
 use Rattle.step_net.specs.Effects.{Effects, joined}

@@ -5,8 +5,8 @@ use Rattle.net_conf.specs.Conf.{conf}
 use Rattle.net_conf.specs.Limits.{passed_limit}
 use Rattle.net_rules.specs.declared.event.Event.{Event}
 use Rattle.net_rules.specs.declared.event.Event.TheVariants as event
-use Rattle.line_texts.specs.declared.line_error.LineError.{LineError}
-use Rattle.line_texts.specs.declared.line_error.LineError.TheVariants as error
+use Rattle.script_lines.specs.declared.line_error.LineError.{LineError}
+use Rattle.script_lines.specs.declared.line_error.LineError.TheVariants as error
 
 -- An event, or what is shown of all interfaces, of an interface, of a device or of a radio. Or it asks
 -- nothing of the plane: a text is shown, and then the line may be refused.

@@ -6,7 +6,7 @@ use Rattle.kern_model.specs.declared.kernel.Kernel.{Ghosts as KernelMembers}
 use Rattle.kern_model.specs.Kernel.{Records}
 use Rattle.net_plane.specs.declared.net_error.NetError.{NetError}
 use Rattle.net_plane.specs.Network.{Network, moment_of}
-use Rattle.line_texts.specs.declared.line_error.LineError.{LineError}
+use Rattle.script_lines.specs.declared.line_error.LineError.{LineError}
 use Rattle.step_net.specs.declared.told.Told.{Told}
 use Rattle.step_net.specs.NetLine.{NetLine}
 use Rattle.step_net.specs.Acted.{Acted, acted, lines_of_asks}

@@ -3,9 +3,9 @@ use Rattle.std.specs.Prelude.{ℕ, List, [], Option, Some, None}
 use Rattle.std.specs.Option.{option_map}
 use Rattle.net_plane.specs.declared.net_error.NetError.{NetError}
 use Rattle.net_plane.specs.declared.net_error.NetError.TheVariants as net_error
-use Rattle.line_texts.specs.declared.line_error.LineError.{LineError}
-use Rattle.line_texts.specs.declared.line_error.LineError.TheVariants as error
-use Rattle.line_texts.specs.ErrorLine.{error_line}
+use Rattle.script_lines.specs.declared.line_error.LineError.{LineError}
+use Rattle.script_lines.specs.declared.line_error.LineError.TheVariants as error
+use Rattle.script_lines.specs.ErrorLine.{error_line}
 use Rattle.step_net.specs.Moved.{Telling}
 
 -- this is shown

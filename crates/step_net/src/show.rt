@@ -8,9 +8,9 @@ ghost use Rattle.step_net.specs.Told as spec;
 
 use crate::told::{Told, refuse, refuse_or};
 use kern_model::read_name;
-use line_texts::LineError;
 use net_plane::Net;
 use plane_io::{Memory, Text};
+use script_lines::LineError;
 use serde_json::Value;
 use std::alloc::Global;
 

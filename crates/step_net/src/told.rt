@@ -2,9 +2,9 @@ ghost use Rattle.std.specs.Prelude.{◌≡◌, [], IfOk};
 ghost use Rattle.step_net.specs.Taken.{telling_in, Tells};
 ghost use Rattle.step_net.specs.Told as spec;
 
-use line_texts::{LineError, append_error_line};
 use net_plane::NetError;
 use plane_io::{Memory, Text};
+use script_lines::{LineError, append_error_line};
 use std::alloc::Global;
 
 /// What is to be told of a line behind its calls: the lines of asks and the reply, and the line of its refusal, where it is refused.

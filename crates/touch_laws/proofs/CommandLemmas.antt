@@ -19,10 +19,10 @@ use Rattle.net_rules.specs.After.{changed, asked, after}
 use Rattle.net_rules.specs.Notices.{notices_between}
 use Rattle.net_rules.specs.Fresh.{IsReached}
 use Rattle.net_rules.proofs.TableLemmas.{found_in, first_some, found_behind, found_without}
-use Rattle.net_asked.specs.Touched.{HasSameAsks, NeedsStay, asked_of}
-use Rattle.net_asked.proofs.EventLemmas.{command_stays}
-use Rattle.net_asked.proofs.AskedLemmas.{asked_then}
-use Rattle.net_asked.proofs.ToldLemmas.{told_then}
+use Rattle.net_rules.specs.Touched.{HasSameAsks, NeedsStay, asked_of}
+use Rattle.net_rules.proofs.TouchEventLemmas.{command_stays}
+use Rattle.net_rules.proofs.AskedLemmas.{asked_then}
+use Rattle.net_rules.proofs.ToldLemmas.{told_then}
 use Rattle.net_view.specs.Places.{place_of}
 use Rattle.asked_places.specs.Touched.{is_touched}
 use Rattle.touch_laws.specs.Staying.{StaysAs, FollowTouched}

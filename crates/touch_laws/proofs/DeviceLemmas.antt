@@ -16,13 +16,13 @@ use Rattle.net_rules.specs.Inputs.{facts_of, open_interface}
 use Rattle.net_rules.specs.After.{changed, asked, after}
 use Rattle.net_rules.specs.Notices.{notices_between}
 use Rattle.net_rules.specs.Fresh.{IsReached}
-use Rattle.net_apart.specs.Reach.{name_of}
-use Rattle.net_asked.specs.Above.{IsAbove, IsOffBase, DiffersAt}
-use Rattle.net_asked.specs.Touched.{HasSameAsks, NeedsStay, asked_of}
-use Rattle.net_asked.proofs.AboveLemmas.{above_stays, places_stay, needs_off, uses_off, needs_stay}
-use Rattle.net_asked.proofs.EventLemmas.{device_differs}
-use Rattle.net_asked.proofs.AskedLemmas.{asked_then}
-use Rattle.net_asked.proofs.ToldLemmas.{told_then}
+use Rattle.net_rules.specs.Reach.{name_of}
+use Rattle.net_rules.specs.Above.{IsAbove, IsOffBase, DiffersAt}
+use Rattle.net_rules.specs.Touched.{HasSameAsks, NeedsStay, asked_of}
+use Rattle.net_rules.proofs.AboveLemmas.{above_stays, places_stay, needs_off, uses_off, needs_stay}
+use Rattle.net_rules.proofs.TouchEventLemmas.{device_differs}
+use Rattle.net_rules.proofs.AskedLemmas.{asked_then}
+use Rattle.net_rules.proofs.ToldLemmas.{told_then}
 use Rattle.net_view.specs.Places.{is_place}
 use Rattle.net_reach.specs.Reach.{told_layer, interface_place, layer_at, is_at_device, is_at_layer, IsTouched, AreTouched}
 use Rattle.asked_places.specs.Touched.{is_touched}

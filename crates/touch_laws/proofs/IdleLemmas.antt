@@ -12,10 +12,10 @@ use Rattle.net_rules.specs.Fresh.{IsReached}
 use Rattle.net_rules.proofs.AfterLemmas.{idle}
 use Rattle.net_rules.proofs.ReachedLemmas.{reached_kept}
 use Rattle.net_rules.proofs.NumberLemmas.{reached_numbered}
-use Rattle.net_asked.specs.Touched.{HasSameAsks, asked_of}
-use Rattle.net_asked.proofs.NumberLemmas.{none_lost, none_new}
-use Rattle.net_asked.proofs.AskedLemmas.{asked_then}
-use Rattle.net_asked.proofs.ToldLemmas.{told_then}
+use Rattle.net_rules.specs.Touched.{HasSameAsks, asked_of}
+use Rattle.net_rules.proofs.TouchNumberLemmas.{none_lost, none_new}
+use Rattle.net_rules.proofs.AskedLemmas.{asked_then}
+use Rattle.net_rules.proofs.ToldLemmas.{told_then}
 use Rattle.touch_laws.specs.Staying.{told_of}
 
 module _ (inputs : Inputs) (reached : IsReached inputs) where

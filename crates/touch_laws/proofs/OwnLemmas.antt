@@ -15,7 +15,7 @@ use Rattle.net_rules.specs.After.{interface_need_of}
 use Rattle.net_rules.specs.Fresh.{IsReached}
 use Rattle.net_rules.proofs.OnceLemmas.{found_once}
 use Rattle.net_rules.proofs.ReachedLemmas.{reached_kept}
-use Rattle.net_claims.proofs.MoveLemmas.{some_is}
+use Rattle.net_rules.proofs.MoveLemmas.{some_is}
 
 own_by : (facts : Facts) (row : InterfaceRow) (ask : InterfaceAsk) (b : Bool) → cond b (Some (interface_ask facts row)) None ≡ Some ask → ask ≡ interface_ask facts row
 own_by facts row ask true is = sym (some_is (interface_ask facts row) ask is)

@@ -16,9 +16,9 @@ use Rattle.net_rules.specs.Rows.{interfaces_of, interface_named}
 use Rattle.net_rules.specs.Inputs.{facts_of}
 use Rattle.net_rules.specs.After.{changed}
 use Rattle.net_rules.proofs.OnceLemmas.{found_firsts}
-use Rattle.net_apart.specs.Reach.{name_of}
-use Rattle.net_claims.specs.declared.state.InterfaceState.{InterfaceState}
-use Rattle.net_claims.specs.States.{is_first, IsStateOf}
+use Rattle.net_rules.specs.Reach.{name_of}
+use Rattle.net_rules.specs.declared.state.InterfaceState.{InterfaceState}
+use Rattle.net_rules.specs.States.{is_first, IsStateOf}
 use Rattle.net_view.specs.Places.{place_of}
 use Rattle.net_view.proofs.PlaceLemmas.{at_place}
 use Rattle.net_reach.specs.Reach.{AreTouched}

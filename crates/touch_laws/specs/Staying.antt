@@ -13,7 +13,7 @@ use Rattle.net_rules.specs.Want.{given}
 use Rattle.net_rules.specs.Inputs.{facts_of}
 use Rattle.net_rules.specs.After.{opened_interfaces, changed, after}
 use Rattle.net_rules.specs.Notices.{interface_notice, notices}
-use Rattle.net_asked.specs.Touched.{lost_numbers, left_asks, touched_asks, asked_of}
+use Rattle.net_rules.specs.Touched.{lost_numbers, left_asks, touched_asks, asked_of}
 
 -- an interface is, needs and gives what it did
 pub record StaysAs (before now : Facts) (row : InterfaceRow) : Type 0 where

@@ -4,25 +4,25 @@ use Rattle.std.specs.Prelude.{if◌then◌else◌, ◌&&◌, filter, remove}
 use Rattle.std.specs.List.{find, position}
 use Rattle.blob_codec.specs.declared.blob.Attr.{Attr}
 use Rattle.ubus_frames.specs.declared.frame.Frame.{Frame}
-use Rattle.bus_table.specs.declared.rows.LocalCall.{LocalCall}
-use Rattle.bus_table.specs.Table.{Table, Call, client_of, is_connected}
-use Rattle.bus_table.specs.declared.rows.Client.{Client}
-use Rattle.bus_table.specs.Frames.{Sent, plain, hello}
-use Rattle.bus_table.specs.Refusal.{Step, says}
-use Rattle.bus_table.specs.Objects.{object_left}
-use Rattle.bus_table.specs.Clients.{is_full, connected, without_client, numbers_of, objects_left, to_others, left, is_handed_out, reply_sent, replied_to}
-use Rattle.bus_table.specs.Served.{counted, said, said_by, served, connect, frame, leave, local_reply}
-use Rattle.bus_outbox.specs.declared.outbox.Outgoing.{Outgoing}
-use Rattle.bus_outbox.specs.Fits.{fits}
-use Rattle.bus_outbox.specs.Out.{outgoing, out_of}
-use Rattle.bus_lists.specs.Among.{calls_but}
-use Rattle.bus_lists.proofs.ListLemmas.{FirstAt, first_at, first_none, filter_of_map}
-use Rattle.bus_lists.proofs.CallLemmas.{without_first_at}
-use Rattle.bus_state.specs.declared.leaving.Leaving.{Leaving}
-use Rattle.bus_state.specs.Change.{changed}
-use Rattle.bus_state.specs.Leaving.{partly, all_left, Leaves}
-use Rattle.bus_plans.specs.declared.plan.Plan.{Plan}
-use Rattle.bus_plans.specs.Plan.{Plans}
+use Rattle.ubus_table.specs.declared.rows.LocalCall.{LocalCall}
+use Rattle.ubus_table.specs.Table.{Table, Call, client_of, is_connected}
+use Rattle.ubus_table.specs.declared.rows.Client.{Client}
+use Rattle.ubus_table.specs.Frames.{Sent, plain, hello}
+use Rattle.ubus_table.specs.Refusal.{Step, says}
+use Rattle.ubus_table.specs.Objects.{object_left}
+use Rattle.ubus_table.specs.Clients.{is_full, connected, without_client, numbers_of, objects_left, to_others, left, is_handed_out, reply_sent, replied_to}
+use Rattle.ubus_table.specs.Served.{counted, said, said_by, served, connect, frame, leave, local_reply}
+use Rattle.ubus_send.specs.declared.outbox.Outgoing.{Outgoing}
+use Rattle.ubus_send.specs.Fits.{fits}
+use Rattle.ubus_send.specs.Out.{outgoing, out_of}
+use Rattle.ubus_state.specs.Among.{calls_but}
+use Rattle.ubus_state.proofs.ListLemmas.{FirstAt, first_at, first_none, filter_of_map}
+use Rattle.ubus_state.proofs.CallLemmas.{without_first_at}
+use Rattle.ubus_state.specs.declared.leaving.Leaving.{Leaving}
+use Rattle.ubus_state.specs.Change.{changed}
+use Rattle.ubus_state.specs.Leaving.{partly, all_left, Leaves}
+use Rattle.ubus_requests.specs.declared.plan.Plan.{Plan}
+use Rattle.ubus_requests.specs.Plan.{Plans}
 use Rattle.ubus_broker.specs.Did.{Did}
 
 -- nothing is sent to a client that leaves

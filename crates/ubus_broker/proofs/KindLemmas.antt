@@ -3,13 +3,13 @@ use Rattle.std.proofs.Common.{ℕ, ◌≡◌, ◌==◌, List, [], ◌∷◌, Opt
 use Rattle.std.proofs.lemmas.Bool.Decides.{nat_tests}
 use Rattle.std.specs.Prelude.{◌≢◌, if◌then◌else◌}
 use Rattle.ubus_frames.specs.declared.frame.Frame.{Frame}
-use Rattle.bus_table.specs.Table.{Table, Call}
-use Rattle.bus_table.specs.declared.rows.Object.{Object}
-use Rattle.bus_table.specs.Refusal.{Step, says}
-use Rattle.bus_table.specs.Asked.{told_of}
-use Rattle.bus_table.specs.Calls.{data_passed}
-use Rattle.bus_outbox.specs.Fits.{fits}
-use Rattle.bus_plans.proofs.PlanLemmas.{passed}
+use Rattle.ubus_table.specs.Table.{Table, Call}
+use Rattle.ubus_table.specs.declared.rows.Object.{Object}
+use Rattle.ubus_table.specs.Refusal.{Step, says}
+use Rattle.ubus_table.specs.Asked.{told_of}
+use Rattle.ubus_table.specs.Calls.{data_passed}
+use Rattle.ubus_send.specs.Fits.{fits}
+use Rattle.ubus_requests.proofs.PlanLemmas.{passed}
 
 -- the step of a message of this kind
 abbrev pub by_kind : ℕ → Step → Step → Step → Step → Step → Step → Step → Step → Step → Step → Step → Step

@@ -1,11 +1,11 @@
 -- What a step of the code did.
 use Rattle.std.specs.Prelude.{◌≡◌, List, Option}
-use Rattle.bus_table.specs.declared.rows.LocalCall.{LocalCall}
-use Rattle.bus_table.specs.Table.{Table}
-use Rattle.bus_table.specs.Refusal.{Step}
-use Rattle.bus_outbox.specs.declared.outbox.Outgoing.{Outgoing}
-use Rattle.bus_outbox.specs.Out.{out_of}
-use Rattle.bus_state.specs.State as state
+use Rattle.ubus_table.specs.declared.rows.LocalCall.{LocalCall}
+use Rattle.ubus_table.specs.Table.{Table}
+use Rattle.ubus_table.specs.Refusal.{Step}
+use Rattle.ubus_send.specs.declared.outbox.Outgoing.{Outgoing}
+use Rattle.ubus_send.specs.Out.{out_of}
+use Rattle.ubus_state.specs.State as state
 use Rattle.ubus_broker.specs.declared.broker.Broker.{Broker}
 
 -- what a bus knows; the code keeps no places

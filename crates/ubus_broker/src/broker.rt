@@ -1,26 +1,26 @@
 ghost use Rattle.std.specs.Prelude.{◌≡◌, ◌≢◌, ◌↔◌, ◌≤◌, ◌==◌, ◌+◌, ◌++◌, false, IfOk, OnOk, OnErr, None, true, Err, [], ◌∷◌, filter, not, is_none};
 ghost use Rattle.std.specs.Option.{option_copied};
-ghost use Rattle.bus_table.specs.Table as table;
-ghost use Rattle.bus_table.specs.Clients as clients;
-ghost use Rattle.bus_table.specs.Served.{served, said_by, connect, frame as event_frame, leave};
-ghost use Rattle.bus_table.specs.Frames.{plain, hello};
-ghost use Rattle.bus_outbox.specs.declared.outbox.Outgoing.{Outgoing as OutgoingRow};
-ghost use Rattle.bus_outbox.specs.Fits.{fits};
-ghost use Rattle.bus_outbox.specs.Out.{out_of};
+ghost use Rattle.ubus_table.specs.Table as table;
+ghost use Rattle.ubus_table.specs.Clients as clients;
+ghost use Rattle.ubus_table.specs.Served.{served, said_by, connect, frame as event_frame, leave};
+ghost use Rattle.ubus_table.specs.Frames.{plain, hello};
+ghost use Rattle.ubus_send.specs.declared.outbox.Outgoing.{Outgoing as OutgoingRow};
+ghost use Rattle.ubus_send.specs.Fits.{fits};
+ghost use Rattle.ubus_send.specs.Out.{out_of};
 ghost use Rattle.ubus_broker.specs.declared.broker_error.BrokerError.TheVariants.{Full as IsFull, NoClient as NoSuchClient};
-ghost use Rattle.bus_plans.specs.Plan.{Plans};
+ghost use Rattle.ubus_requests.specs.Plan.{Plans};
 ghost use Rattle.ubus_broker.specs.Did.{table_of, Did};
 
+use crate::BrokerError;
 use crate::plans::plan_message;
-use crate::{Acl, BrokerError, LocalCall};
-use bus_messages::hello;
-use bus_outbox::Outgoing;
-use bus_plans::{Plan, says};
-use bus_state::Bus;
-use bus_table::Client;
 use plane_io::{Items, Memory, Text};
 use std::alloc::Global;
+use ubus_acl::Acl;
 use ubus_frames::Frame;
+use ubus_requests::{Plan, says};
+use ubus_send::{Outgoing, hello};
+use ubus_state::Bus;
+use ubus_table::{Client, LocalCall};
 
 /// How many clients there may be at once.
 pub const MOST_CLIENTS: usize = 256;

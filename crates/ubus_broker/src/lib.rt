@@ -1,14 +1,14 @@
-//! OpenWrt's message bus (ubusd): objects, calls, subscriptions, events and the access list.
+//! The message bus: clients come, send and leave, local objects answer; with the laws on statuses over runs of its calls.
 #![tactic(auto)]
 
 mod broker;
 mod broker_error;
+mod laws;
 mod plans;
 mod replies;
 
 pub use broker::{Broker, Joined, MOST_CLIENTS, Served};
 pub use broker_error::BrokerError;
-pub use bus_access::{Acl, AclError};
-pub use bus_outbox::{Outgoing, fits_tells};
-pub use bus_plans::MOST_OBJECTS;
-pub use bus_table::LocalCall;
+pub use laws::{
+    answered_once, at_most_one_status, over_at_once, sent_as_defined, sent_to_its_caller,
+};

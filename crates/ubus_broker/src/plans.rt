@@ -1,23 +1,22 @@
 ghost use Rattle.std.specs.Prelude.{◌≡◌, IfOk};
-ghost use Rattle.bus_table.specs.Asked.{pinged, looked_up};
-ghost use Rattle.bus_table.specs.Calls.{passes_data};
-ghost use Rattle.bus_table.specs.Served.{said};
-ghost use Rattle.bus_outbox.specs.Fits.{fits};
-ghost use Rattle.bus_state.specs.State.{table_of};
-ghost use Rattle.bus_plans.specs.Plan.{Plans};
+ghost use Rattle.ubus_table.specs.Asked.{pinged, looked_up};
+ghost use Rattle.ubus_table.specs.Calls.{passes_data};
+ghost use Rattle.ubus_table.specs.Served.{said};
+ghost use Rattle.ubus_send.specs.Fits.{fits};
+ghost use Rattle.ubus_state.specs.State.{table_of};
+ghost use Rattle.ubus_requests.specs.Plan.{Plans};
 
-use bus_invokes::invoke;
-use bus_messages::{
-    ADD_OBJECT, DATA, INVOKE, LOOKUP, NOTIFY, PING, REMOVE_OBJECT, STATUS, SUBSCRIBE, UNSUBSCRIBE,
-};
-use bus_plans::{
-    Plan, add, look_up, notify, pass_data, pass_status, ping, refuse, remove, says, subscribe,
-    unsubscribe,
-};
-use bus_state::Bus;
-use bus_table::Client;
 use plane_io::Memory;
 use ubus_frames::Frame;
+use ubus_requests::{
+    Plan, add, invoke, look_up, notify, pass_data, pass_status, ping, refuse, remove, says,
+    subscribe, unsubscribe,
+};
+use ubus_send::{
+    ADD_OBJECT, DATA, INVOKE, LOOKUP, NOTIFY, PING, REMOVE_OBJECT, STATUS, SUBSCRIBE, UNSUBSCRIBE,
+};
+use ubus_state::Bus;
+use ubus_table::Client;
 
 /// What a message of a client comes to.
 pub(crate) fn plan_message(bus: &Bus, client: &Client, message: &Frame) -> Result<Plan, Memory>

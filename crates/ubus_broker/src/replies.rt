@@ -1,25 +1,24 @@
 ghost use Rattle.std.specs.Prelude.{◌≡◌, ◌<◌, ◌∷◌, ◌++◌, ◌&&◌, not, [], Some, OnErr, IfOk, IfErr, true, length, if◌then◌else◌};
 ghost use Rattle.std.specs.List.{list_any, position};
-ghost use Rattle.bus_table.specs.Table as table;
-ghost use Rattle.bus_table.specs.Clients as spec;
-ghost use Rattle.bus_table.specs.Served.{served, local_reply as reply_event};
-ghost use Rattle.bus_table.specs.Frames.{where_fits};
-ghost use Rattle.bus_table.specs.Objects.{told};
-ghost use Rattle.bus_lists.specs.Calls.{call_of};
-ghost use Rattle.bus_outbox.specs.Fits.{fits};
-ghost use Rattle.bus_outbox.specs.Out.{out_of};
+ghost use Rattle.ubus_table.specs.Table as table;
+ghost use Rattle.ubus_table.specs.Clients as spec;
+ghost use Rattle.ubus_table.specs.Served.{served, local_reply as reply_event};
+ghost use Rattle.ubus_table.specs.Frames.{where_fits};
+ghost use Rattle.ubus_table.specs.Objects.{told};
+ghost use Rattle.ubus_state.specs.Calls.{call_of};
+ghost use Rattle.ubus_send.specs.Fits.{fits};
+ghost use Rattle.ubus_send.specs.Out.{out_of};
 ghost use Rattle.ubus_broker.specs.declared.broker_error.BrokerError.TheVariants.{Memory as NoMemory};
 ghost use Rattle.ubus_broker.specs.Did.{table_of, Did};
 
-use crate::{Broker, BrokerError, LocalCall, Served};
+use crate::{Broker, BrokerError, Served};
 use blob_codec::Attr;
-use bus_lists::OpenCall;
-use bus_messages::call_data;
-use bus_outbox::{Outgoing, does_fit, send_if_fits};
-use bus_state::told;
 use plane_io::{Items, Memory};
 use std::alloc::Global;
 use ubus_frames::Frame;
+use ubus_send::{Outgoing, call_data, does_fit, send_if_fits};
+use ubus_state::{OpenCall, told};
+use ubus_table::LocalCall;
 
 impl Broker {
     /// Whether the call was handed out, and is not answered yet.

@@ -1,10 +1,10 @@
 -- A command without an input.
 use Rattle.std.proofs.Common.{ℕ, ◌≡◌, inl, List, Option, Some, None, refl, subst, sym}
-use Rattle.uci_words.specs.declared.options.Options.{Options}
-use Rattle.uci_words.specs.declared.command.Command.{Command}
-use Rattle.uci_words.specs.declared.command.Command.TheVariants as command
-use Rattle.uci_words.specs.declared.words.Asked.{Asked}
-use Rattle.uci_words.specs.Words.{asked_of}
+use Rattle.uci_cli.specs.declared.options.Options.{Options}
+use Rattle.uci_cli.specs.declared.command.Command.{Command}
+use Rattle.uci_cli.specs.declared.command.Command.TheVariants as command
+use Rattle.uci_cli.specs.declared.words.Asked.{Asked}
+use Rattle.uci_cli.specs.Words.{asked_of}
 use Rattle.plane_disk.specs.View.{View}
 use Rattle.uci_store.specs.declared.store.Store.{Store}
 use Rattle.uci_tool.specs.Folder.{Folder, folder_of}

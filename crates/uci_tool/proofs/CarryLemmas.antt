@@ -3,17 +3,17 @@ use Rattle.std.proofs.Common.{ℕ, ◌≡◌, ◌≢◌, ◌⊎◌, inl, inr, Li
 use Rattle.uci_text.specs.declared.line.Line.{Line}
 use Rattle.uci_text.specs.declared.text_error.TextError.{TextError}
 use Rattle.uci_text.specs.declared.text_error.TextError.TheVariants as text_error
-use Rattle.uci_words.specs.declared.options.Options.{Options}
-use Rattle.uci_words.specs.declared.command.Command.{Command}
-use Rattle.uci_words.specs.declared.command.Command.TheVariants as command
-use Rattle.uci_words.specs.Command.{command_of}
+use Rattle.uci_cli.specs.declared.options.Options.{Options}
+use Rattle.uci_cli.specs.declared.command.Command.{Command}
+use Rattle.uci_cli.specs.declared.command.Command.TheVariants as command
+use Rattle.uci_cli.specs.Command.{command_of}
 use Rattle.plane_disk.specs.View.{View}
 use Rattle.uci_staged.specs.declared.change.StagedChange.{StagedChange}
 use Rattle.uci_staged.specs.Kept.{AreStagedIn}
 use Rattle.uci_store.specs.declared.store.Store.{Store}
 use Rattle.uci_store.specs.Store.{staged_in}
-use Rattle.uci_texts.specs.declared.refusal.Refusal.{Refusal}
-use Rattle.uci_texts.specs.declared.refusal.Refusal.TheVariants.{Invalid}
+use Rattle.uci_cli.specs.declared.refusal.Refusal.{Refusal}
+use Rattle.uci_cli.specs.declared.refusal.Refusal.TheVariants.{Invalid}
 use Rattle.uci_tool.specs.declared.report.Report.{Report}
 use Rattle.uci_tool.specs.declared.stop.Stop.{Stop}
 use Rattle.uci_tool.specs.declared.stop.Stop.TheVariants.{Refused, DiskFailed, Memory}

@@ -18,8 +18,8 @@ use Rattle.uci_store.specs.declared.store_error.StoreError.TheVariants as store_
 use Rattle.uci_store.specs.Store.{names_of, files_of, staged_in, file_of}
 use Rattle.uci_store.specs.Committing.{file_text, with_file, CommitsTo, IsCommitFile, HasRested, HasPrinted, HasCommitted, CommitStops, CommitRefuses}
 use Rattle.uci_store.specs.Stops.{IsLeft}
-use Rattle.uci_texts.specs.declared.refusal.Refusal.{Refusal}
-use Rattle.uci_texts.specs.declared.refusal.Refusal.TheVariants.{Waiting, TooLarge}
+use Rattle.uci_cli.specs.declared.refusal.Refusal.{Refusal}
+use Rattle.uci_cli.specs.declared.refusal.Refusal.TheVariants.{Waiting, TooLarge}
 use Rattle.uci_tool.specs.Folder.{Folder, folder_of}
 use Rattle.uci_tool.specs.Seen.{if_ok, seen_at}
 use Rattle.uci_tool.specs.Commit.{Changed, where_free, written, printed_at, committed_file, commit_package, commit_each}

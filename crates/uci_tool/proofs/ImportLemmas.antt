@@ -10,8 +10,8 @@ use Rattle.uci_tree.specs.Fault.{fault_of, fault_of_text}
 use Rattle.uci_tree.specs.Fold.{Draft}
 use Rattle.uci_tree.specs.Index.{IsLack}
 use Rattle.uci_tree.specs.Reading.{Reads, HasTreeFault}
-use Rattle.uci_words.specs.declared.options.Options.{Options}
-use Rattle.uci_texts.specs.declared.refusal.Refusal.{Refusal}
+use Rattle.uci_cli.specs.declared.options.Options.{Options}
+use Rattle.uci_cli.specs.declared.refusal.Refusal.{Refusal}
 use Rattle.uci_tool.specs.declared.stop.Stop.{Stop}
 use Rattle.uci_tool.specs.declared.stop.Stop.TheVariants as stop
 use Rattle.uci_tool.specs.Folder.{Folder}

@@ -8,8 +8,8 @@ use Rattle.uci_staged.proofs.FillLemmas.{follows_same, follows_join}
 use Rattle.uci_store.specs.declared.store.Store.{Store}
 use Rattle.uci_store.specs.Store.{names_of}
 use Rattle.uci_text.specs.declared.line.Line.{Line}
-use Rattle.uci_words.specs.declared.options.Options.{Options}
-use Rattle.uci_texts.specs.declared.refusal.Refusal.{Refusal}
+use Rattle.uci_cli.specs.declared.options.Options.{Options}
+use Rattle.uci_cli.specs.declared.refusal.Refusal.{Refusal}
 use Rattle.uci_tool.specs.declared.report.Report.{Report}
 use Rattle.uci_tool.specs.declared.stop.Stop.{Stop}
 use Rattle.uci_tool.specs.declared.stop.Stop.TheVariants.{Refused, DiskFailed, Memory}

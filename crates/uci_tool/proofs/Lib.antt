@@ -17,3 +17,7 @@ pub mod CarryLemmas
 pub mod SilentLemmas
 pub mod StopLemmas
 pub mod AloneLemmas
+-- why a folder is shut, and what is found, held and left of it
+pub mod FolderRunLemmas
+-- when a run ends so
+pub mod ComesLemmas

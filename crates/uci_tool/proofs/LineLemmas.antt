@@ -1,8 +1,8 @@
 -- Lines of `batch` that follow one another.
 use Rattle.std.proofs.Common.{ℕ, ◌≡◌, inl, inr, List, [], ◌∷◌, ◌++◌, Option, Some, None, refl, ap, sym, ◌∙◌, append_assoc}
 use Rattle.uci_text.specs.declared.line.Line.{Line}
-use Rattle.uci_words.specs.declared.options.Options.{Options}
-use Rattle.uci_texts.specs.declared.refusal.Refusal.{Refusal}
+use Rattle.uci_cli.specs.declared.options.Options.{Options}
+use Rattle.uci_cli.specs.declared.refusal.Refusal.{Refusal}
 use Rattle.uci_tool.specs.Folder.{Folder}
 use Rattle.uci_tool.specs.Line.{Carried, first_refusal, then_done, line_done, lines_done}
 use Rattle.uci_tool.specs.Answers.{IsAmong}

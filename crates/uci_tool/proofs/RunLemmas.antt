@@ -7,11 +7,11 @@ use Rattle.plane_words.specs.Causes.{Rose, DidNotRise, HasCause}
 use Rattle.plane_words.specs.Growth.{Grows, GrowsByFront}
 use Rattle.plane_disk.specs.View.{View}
 use Rattle.plane_io.specs.declared.input.TheConstants.{INPUT_LIMIT}
-use Rattle.uci_words.specs.declared.command.Command.{Command}
-use Rattle.uci_words.specs.declared.words.Asked.{Asked}
-use Rattle.uci_words.specs.Command.{reads_input}
-use Rattle.uci_words.specs.Words.{asked_of}
-use Rattle.uci_texts.specs.declared.refusal.TheConstants as texts
+use Rattle.uci_cli.specs.declared.command.Command.{Command}
+use Rattle.uci_cli.specs.declared.words.Asked.{Asked}
+use Rattle.uci_cli.specs.Command.{reads_input}
+use Rattle.uci_cli.specs.Words.{asked_of}
+use Rattle.uci_cli.specs.declared.refusal.TheConstants as texts
 use Rattle.uci_tool.specs.declared.report.Report.{Report}
 use Rattle.uci_tool.specs.declared.tool.Cut.{Cut}
 use Rattle.uci_tool.specs.declared.tool.Cut.TheVariants as cut

@@ -16,9 +16,9 @@ use Rattle.uci_store.specs.declared.store_error.StoreError.{StoreError}
 use Rattle.uci_store.specs.declared.store_error.StoreError.TheVariants as store_error
 use Rattle.uci_store.specs.Store.{names_of, files_of, staged_in, name_of, text_of, file_of}
 use Rattle.uci_store.specs.Refusals.{LacksReading, IsSeenAt, IsSeen, ReadRefuses, AreChanges, ChangesRefuse}
-use Rattle.uci_texts.specs.declared.refusal.Refusal.{Refusal}
-use Rattle.uci_texts.specs.declared.refusal.Refusal.TheVariants.{NoPackage}
-use Rattle.uci_texts.specs.Changes.{change_lines, HaveShape}
+use Rattle.uci_cli.specs.declared.refusal.Refusal.{Refusal}
+use Rattle.uci_cli.specs.declared.refusal.Refusal.TheVariants.{NoPackage}
+use Rattle.uci_cli.specs.Changes.{change_lines, HaveShape}
 use Rattle.uci_tool.specs.declared.stop.Stop.{Stop}
 use Rattle.uci_tool.specs.Folder.{Folder, folder_of, file_in}
 use Rattle.uci_tool.specs.Seen.{if_ok, refusal_of, parsed, seen_at, seen}

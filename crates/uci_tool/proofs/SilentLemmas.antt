@@ -3,11 +3,11 @@ use Rattle.std.proofs.Common.{arith, ℕ, ◌≡◌, Bool, true, false, List, []
 use Rattle.std.specs.Prelude.{Result, Ok, Err}
 use Rattle.uci_text.specs.declared.line.Line.{Line}
 use Rattle.uci_text.specs.declared.text_error.TextError.{TextError}
-use Rattle.uci_words.specs.declared.options.Options.{Options}
-use Rattle.uci_words.specs.declared.command.Command.{Command}
-use Rattle.uci_words.specs.declared.command.Command.TheVariants as command
-use Rattle.uci_words.specs.Command.{command_of}
-use Rattle.uci_texts.specs.declared.refusal.Refusal.{Refusal}
+use Rattle.uci_cli.specs.declared.options.Options.{Options}
+use Rattle.uci_cli.specs.declared.command.Command.{Command}
+use Rattle.uci_cli.specs.declared.command.Command.TheVariants as command
+use Rattle.uci_cli.specs.Command.{command_of}
+use Rattle.uci_cli.specs.declared.refusal.Refusal.{Refusal}
 use Rattle.uci_tool.specs.declared.report.Report.{Report}
 use Rattle.uci_tool.specs.declared.tool.UciEnd.{UciEnd}
 use Rattle.uci_tool.specs.Folder.{Folder}

@@ -23,7 +23,7 @@ use Rattle.uci_store.specs.declared.store_error.StoreError.TheVariants as store_
 use Rattle.uci_store.specs.Store.{names_of, snap_of, staged_in, has_failed, IsOnStaged}
 use Rattle.uci_store.specs.Refusals.{DoesNotTake, StageRefuses, RevertRefuses}
 use Rattle.uci_store.specs.Staging.{HasStaged, HasReverted, IsWhole}
-use Rattle.uci_texts.specs.declared.refusal.Refusal.{Refusal}
+use Rattle.uci_cli.specs.declared.refusal.Refusal.{Refusal}
 use Rattle.uci_tool.specs.declared.stop.Stop.{Stop}
 use Rattle.uci_tool.specs.declared.stop.Stop.TheVariants as stop
 use Rattle.uci_tool.specs.Folder.{Folder, folder_of}

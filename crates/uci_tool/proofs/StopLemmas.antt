@@ -10,16 +10,16 @@ use Rattle.uci_text.specs.declared.line.Line.{Line}
 use Rattle.uci_tree.specs.declared.package.Package.{Package}
 use Rattle.uci_tree.specs.declared.tree_error.TreeError.{TreeError}
 use Rattle.uci_tree.specs.Reading.{Reads}
-use Rattle.uci_words.specs.declared.options.Options.{Options}
-use Rattle.uci_words.specs.declared.command.Command.{Command}
-use Rattle.uci_words.specs.declared.command.Command.TheVariants as command
-use Rattle.uci_words.specs.declared.words.Asked.{Asked}
-use Rattle.uci_words.specs.Words.{asked_of}
+use Rattle.uci_cli.specs.declared.options.Options.{Options}
+use Rattle.uci_cli.specs.declared.command.Command.{Command}
+use Rattle.uci_cli.specs.declared.command.Command.TheVariants as command
+use Rattle.uci_cli.specs.declared.words.Asked.{Asked}
+use Rattle.uci_cli.specs.Words.{asked_of}
 use Rattle.uci_store.specs.declared.store.Store.{Store}
 use Rattle.uci_store.specs.Store.{names_of, snap_of, files_of}
 use Rattle.uci_store.specs.Committing.{CommitsTo, ReplacesTo}
 use Rattle.uci_store.specs.Stops.{OpensAsOne, StopLeaves}
-use Rattle.uci_texts.specs.declared.refusal.Refusal.{Refusal}
+use Rattle.uci_cli.specs.declared.refusal.Refusal.{Refusal}
 use Rattle.uci_tool.specs.Folder.{Folder, folder_of}
 use Rattle.uci_tool.specs.Seen.{if_ok, parsed}
 use Rattle.uci_tool.specs.Commit.{written, commit_package}

@@ -19,7 +19,7 @@ use Rattle.uci_store.specs.Store.{names_of, snap_of, files_of, staged_in, has_fa
 use Rattle.uci_store.specs.Committing.{with_file, DiskRose, CommitRefuses, CommitStops, ReplacesTo, IsReplaceFile, HasReplaced, ReplaceStops, ReplaceRefuses}
 use Rattle.uci_store.specs.Staging.{IsWhole}
 use Rattle.uci_store.specs.Stops.{IsLeft}
-use Rattle.uci_texts.specs.declared.refusal.Refusal.{Refusal}
+use Rattle.uci_cli.specs.declared.refusal.Refusal.{Refusal}
 use Rattle.uci_tool.specs.declared.stop.Stop.{Stop}
 use Rattle.uci_tool.specs.declared.stop.Stop.TheVariants as stop
 use Rattle.uci_tool.specs.Folder.{Folder, folder_of}

@@ -20,8 +20,8 @@ use Rattle.uci_store.specs.declared.store.Store.{Store}
 use Rattle.uci_store.specs.declared.store_error.StoreError.{StoreError}
 use Rattle.uci_store.specs.declared.store_error.StoreError.TheVariants as store_error
 use Rattle.uci_store.specs.Store.{names_of, snap_of, has_failed, IsOnFiles, IsOnStaged}
-use Rattle.uci_texts.specs.declared.refusal.Refusal.{Refusal}
-use Rattle.uci_texts.specs.declared.refusal.Refusal.TheVariants.{NotFound, Invalid, Duplicate, Waiting, NoPackage, Parse, TooLarge}
+use Rattle.uci_cli.specs.declared.refusal.Refusal.{Refusal}
+use Rattle.uci_cli.specs.declared.refusal.Refusal.TheVariants.{NotFound, Invalid, Duplicate, Waiting, NoPackage, Parse, TooLarge}
 use Rattle.uci_tool.specs.declared.stop.Stop.{Stop}
 use Rattle.uci_tool.specs.declared.stop.Stop.TheVariants as stop
 use Rattle.uci_tool.specs.declared.texts.Printed.{Printed}

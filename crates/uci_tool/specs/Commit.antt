@@ -5,8 +5,8 @@ use Rattle.snap_disk.specs.Body.{most_bytes}
 use Rattle.uci_tree.specs.declared.package.Package.{Package}
 use Rattle.uci_staged.specs.Change.{has_deltas, without}
 use Rattle.uci_store.specs.Committing.{file_text, with_file}
-use Rattle.uci_texts.specs.declared.refusal.Refusal.{Refusal}
-use Rattle.uci_texts.specs.declared.refusal.Refusal.TheVariants.{Waiting, TooLarge}
+use Rattle.uci_cli.specs.declared.refusal.Refusal.{Refusal}
+use Rattle.uci_cli.specs.declared.refusal.Refusal.TheVariants.{Waiting, TooLarge}
 use Rattle.uci_tool.specs.Folder.{Folder, file_in}
 use Rattle.uci_tool.specs.Seen.{if_ok, seen_at}
 

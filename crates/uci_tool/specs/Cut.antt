@@ -1,6 +1,6 @@
 -- What cuts a run of `uci` short: its status and its text.
 use Rattle.std.specs.Prelude.{ℕ, List}
-use Rattle.uci_texts.specs.declared.refusal.TheConstants as texts
+use Rattle.uci_cli.specs.declared.refusal.TheConstants as texts
 use Rattle.uci_tool.specs.declared.tool.Cut.{Cut}
 use Rattle.uci_tool.specs.declared.tool.Cut.TheVariants.{TooLong, ReadFailed, WriteFailed, DiskFailed, Memory}
 

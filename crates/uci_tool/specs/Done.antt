@@ -5,14 +5,14 @@ use Rattle.plane_io.specs.declared.input.TheConstants.{INPUT_LIMIT}
 use Rattle.uci_text.specs.declared.line.Line.{Line}
 use Rattle.uci_text.specs.declared.text_error.TextError.{TextError}
 use Rattle.uci_tree.specs.Fault.{fault_of_text}
-use Rattle.uci_words.specs.declared.options.Options.{Options}
-use Rattle.uci_words.specs.declared.command.Command.{Command}
-use Rattle.uci_words.specs.declared.command.Command.TheVariants as command
-use Rattle.uci_words.specs.Command.{reads_input}
-use Rattle.uci_words.specs.Words.{asked_of}
-use Rattle.uci_texts.specs.declared.refusal.Refusal.{Refusal}
-use Rattle.uci_texts.specs.declared.refusal.TheConstants as texts
-use Rattle.uci_texts.specs.Refusal.{number_of}
+use Rattle.uci_cli.specs.declared.options.Options.{Options}
+use Rattle.uci_cli.specs.declared.command.Command.{Command}
+use Rattle.uci_cli.specs.declared.command.Command.TheVariants as command
+use Rattle.uci_cli.specs.Command.{reads_input}
+use Rattle.uci_cli.specs.Words.{asked_of}
+use Rattle.uci_cli.specs.declared.refusal.Refusal.{Refusal}
+use Rattle.uci_cli.specs.declared.refusal.TheConstants as texts
+use Rattle.uci_cli.specs.Refusal.{number_of}
 use Rattle.uci_tool.specs.Folder.{Folder}
 use Rattle.uci_tool.specs.Reading.{lines_in}
 use Rattle.uci_tool.specs.Seen.{refusal_of}

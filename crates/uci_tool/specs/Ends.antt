@@ -7,10 +7,10 @@ use Rattle.plane_io.specs.Source.{IsAllThatWasLeft, HadMoreThan}
 use Rattle.plane_io.specs.declared.input.TheConstants.{INPUT_LIMIT}
 use Rattle.plane_io.specs.declared.source.Source.{Ghosts as SourceMembers}
 use Rattle.plane_io.specs.declared.sink.Sink.{Ghosts as SinkMembers}
-use Rattle.uci_words.specs.declared.command.Command.{Command}
-use Rattle.uci_words.specs.Command.{reads_input}
-use Rattle.uci_words.specs.Words.{asked_of}
-use Rattle.uci_texts.specs.declared.refusal.TheConstants as texts
+use Rattle.uci_cli.specs.declared.command.Command.{Command}
+use Rattle.uci_cli.specs.Command.{reads_input}
+use Rattle.uci_cli.specs.Words.{asked_of}
+use Rattle.uci_cli.specs.declared.refusal.TheConstants as texts
 use Rattle.uci_tool.specs.declared.tool.UciEnd.{UciEnd}
 use Rattle.uci_tool.specs.Folder.{Folder}
 use Rattle.uci_tool.specs.Done.{uci_done, told_by}

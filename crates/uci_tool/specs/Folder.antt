@@ -5,8 +5,8 @@ use Rattle.snap_disk.specs.Opened.{State}
 use Rattle.uci_staged.specs.declared.change.StagedChange.{StagedChange}
 use Rattle.uci_store.specs.declared.store.Store.{Store}
 use Rattle.uci_store.specs.Store.{names_of, files_of, staged_in, file_of}
-use Rattle.uci_texts.specs.declared.refusal.Refusal.{Refusal}
-use Rattle.uci_texts.specs.declared.refusal.Refusal.TheVariants.{NoPackage}
+use Rattle.uci_cli.specs.declared.refusal.Refusal.{Refusal}
+use Rattle.uci_cli.specs.declared.refusal.Refusal.TheVariants.{NoPackage}
 
 -- the names of the packages in byte order, their files and what waits over these, and what holders have staged
 pub record Folder : Type 0 where

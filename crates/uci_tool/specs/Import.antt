@@ -1,8 +1,8 @@
 -- `import`.
 use Rattle.std.specs.Prelude.{ℕ, List, Result, if◌then◌else◌}
 use Rattle.uci_tree.specs.declared.package.Package.{Package}
-use Rattle.uci_words.specs.declared.options.Options.{Options}
-use Rattle.uci_texts.specs.declared.refusal.Refusal.{Refusal}
+use Rattle.uci_cli.specs.declared.options.Options.{Options}
+use Rattle.uci_cli.specs.declared.refusal.Refusal.{Refusal}
 use Rattle.uci_tool.specs.Folder.{Folder, file_in}
 use Rattle.uci_tool.specs.Merging.{merged}
 use Rattle.uci_tool.specs.Reading.{package_in}

@@ -1,4 +1,4 @@
--- OpenWrt's `uci` command, as a function of its words, a folder and the input.
+-- The `uci` command over a store, and over a folder.
 
 -- what a command sees and changes
 pub mod Folder
@@ -36,3 +36,13 @@ pub mod Ends
 pub mod Stops
 -- how the parts of a run answer
 pub mod Runs
+-- whether words ask for a command
+pub mod Asking
+-- why a folder is not opened
+pub mod Shut
+-- the folder that is found, and the one that is left
+pub mod Folders
+-- how a run ends
+pub mod Run
+-- when it ends so
+pub mod Comes

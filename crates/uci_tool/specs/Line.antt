@@ -1,13 +1,13 @@
 -- Commands that read no input, and the lines of `batch`.
 use Rattle.std.specs.Prelude.{ℕ, List, [], ◌∷◌, ◌++◌, Option, Some, None, Result, Ok, Err}
 use Rattle.uci_text.specs.declared.line.Line.{Line}
-use Rattle.uci_words.specs.declared.options.Options.{Options}
-use Rattle.uci_words.specs.declared.command.Command.{Command}
-use Rattle.uci_words.specs.declared.command.Command.TheVariants as command
-use Rattle.uci_words.specs.Command.{command_of}
-use Rattle.uci_texts.specs.declared.refusal.Refusal.{Refusal}
-use Rattle.uci_texts.specs.declared.refusal.Refusal.TheVariants.{Invalid}
-use Rattle.uci_texts.specs.Refusal.{text_of}
+use Rattle.uci_cli.specs.declared.options.Options.{Options}
+use Rattle.uci_cli.specs.declared.command.Command.{Command}
+use Rattle.uci_cli.specs.declared.command.Command.TheVariants as command
+use Rattle.uci_cli.specs.Command.{command_of}
+use Rattle.uci_cli.specs.declared.refusal.Refusal.{Refusal}
+use Rattle.uci_cli.specs.declared.refusal.Refusal.TheVariants.{Invalid}
+use Rattle.uci_cli.specs.Refusal.{text_of}
 use Rattle.uci_tool.specs.Folder.{Folder}
 use Rattle.uci_tool.specs.declared.texts.Printed.{Printed}
 use Rattle.uci_tool.specs.Texts.{show_done, get_word, changes_of, export_package, alone, of_named}

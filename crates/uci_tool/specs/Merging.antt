@@ -6,8 +6,8 @@ use Rattle.uci_tree.specs.declared.fault.Reason.TheVariants.{NoSection}
 use Rattle.uci_tree.specs.declared.package.Package.{Package}
 use Rattle.uci_tree.specs.Fault.{fault_of_text}
 use Rattle.uci_tree.specs.Fold.{Draft, after_all}
-use Rattle.uci_texts.specs.declared.refusal.Refusal.{Refusal}
-use Rattle.uci_texts.specs.declared.refusal.Refusal.TheVariants.{Parse}
+use Rattle.uci_cli.specs.declared.refusal.Refusal.{Refusal}
+use Rattle.uci_cli.specs.declared.refusal.Refusal.TheVariants.{Parse}
 use Rattle.uci_tool.specs.declared.merging.Merge.{Merge}
 use Rattle.uci_tool.specs.Reading.{commands_in}
 use Rattle.uci_tool.specs.Seen.{refusal_of}

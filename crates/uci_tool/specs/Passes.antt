@@ -3,14 +3,14 @@
 use Rattle.std.specs.Prelude.{ℕ, List, [], ◌∷◌, ◌++◌, Option, Some, None, Result, Ok, Err}
 use Rattle.uci_text.specs.declared.line.Line.{Line}
 use Rattle.uci_text.specs.declared.text_error.TextError.{TextError}
-use Rattle.uci_words.specs.declared.options.Options.{Options}
-use Rattle.uci_words.specs.declared.command.Command.{Command}
-use Rattle.uci_words.specs.declared.command.Command.TheVariants as command
-use Rattle.uci_words.specs.Command.{command_of}
-use Rattle.uci_words.specs.Words.{asked_of}
+use Rattle.uci_cli.specs.declared.options.Options.{Options}
+use Rattle.uci_cli.specs.declared.command.Command.{Command}
+use Rattle.uci_cli.specs.declared.command.Command.TheVariants as command
+use Rattle.uci_cli.specs.Command.{command_of}
+use Rattle.uci_cli.specs.Words.{asked_of}
 use Rattle.uci_tool.specs.Folder.{Folder}
 use Rattle.uci_tool.specs.Reading.{lines_in}
-use Rattle.uci_texts.specs.declared.refusal.Refusal.{Refusal}
+use Rattle.uci_cli.specs.declared.refusal.Refusal.{Refusal}
 use Rattle.uci_tool.specs.Commit.{changed_by, commit_package, commit_done}
 use Rattle.uci_tool.specs.Line.{line_done, command_done}
 use Rattle.uci_tool.specs.Done.{carried}

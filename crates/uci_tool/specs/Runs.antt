@@ -6,13 +6,13 @@ use Rattle.plane_disk.specs.View.{View}
 use Rattle.snap_disk.specs.Images.{SameDisk}
 use Rattle.plane_io.specs.Source.{HadMoreThan}
 use Rattle.plane_io.specs.declared.input.TheConstants.{INPUT_LIMIT}
-use Rattle.uci_words.specs.declared.options.Options.{Options}
-use Rattle.uci_words.specs.declared.command.Command.{Command}
-use Rattle.uci_words.specs.Command.{reads_input}
+use Rattle.uci_cli.specs.declared.options.Options.{Options}
+use Rattle.uci_cli.specs.declared.command.Command.{Command}
+use Rattle.uci_cli.specs.Command.{reads_input}
 use Rattle.uci_staged.specs.Kept.{Follows}
 use Rattle.uci_store.specs.declared.store.Store.{Store}
 use Rattle.uci_store.specs.Store.{has_failed, IsOnFiles, IsOnStaged}
-use Rattle.uci_texts.specs.declared.refusal.TheConstants as texts
+use Rattle.uci_cli.specs.declared.refusal.TheConstants as texts
 use Rattle.uci_tool.specs.declared.report.Report.{Report}
 use Rattle.uci_tool.specs.declared.tool.Cut.{Cut}
 use Rattle.uci_tool.specs.declared.tool.Cut.TheVariants as cut

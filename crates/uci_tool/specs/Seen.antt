@@ -7,8 +7,8 @@ use Rattle.uci_tree.specs.Fault.{fault_of}
 use Rattle.uci_delta.specs.Batch.{all_applied}
 use Rattle.uci_staged.specs.Change.{deltas_in}
 use Rattle.uci_store.specs.Store.{name_of, text_of}
-use Rattle.uci_texts.specs.declared.refusal.Refusal.{Refusal}
-use Rattle.uci_texts.specs.declared.refusal.Refusal.TheVariants.{Invalid, Parse}
+use Rattle.uci_cli.specs.declared.refusal.Refusal.{Refusal}
+use Rattle.uci_cli.specs.declared.refusal.Refusal.TheVariants.{Invalid, Parse}
 use Rattle.uci_tool.specs.Folder.{Folder, file_in}
 use Rattle.uci_tool.specs.Reading.{package_in}
 

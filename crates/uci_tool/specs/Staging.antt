@@ -16,11 +16,11 @@ use Rattle.uci_delta.specs.declared.delta_error.DeltaError.TheVariants as delta_
 use Rattle.uci_delta.specs.Applied.{applied, made_with}
 use Rattle.uci_delta.specs.Print.{equals_sign}
 use Rattle.uci_staged.specs.Change.{reverted}
-use Rattle.uci_words.specs.declared.keyword.Verb.{Verb}
-use Rattle.uci_words.specs.declared.keyword.Verb.TheVariants as verb
-use Rattle.uci_texts.specs.declared.refusal.Refusal.{Refusal}
-use Rattle.uci_texts.specs.declared.refusal.Refusal.TheVariants.{NotFound, Invalid, Duplicate}
-use Rattle.uci_texts.specs.Get.{line_of}
+use Rattle.uci_cli.specs.declared.keyword.Verb.{Verb}
+use Rattle.uci_cli.specs.declared.keyword.Verb.TheVariants as verb
+use Rattle.uci_cli.specs.declared.refusal.Refusal.{Refusal}
+use Rattle.uci_cli.specs.declared.refusal.Refusal.TheVariants.{NotFound, Invalid, Duplicate}
+use Rattle.uci_cli.specs.Get.{line_of}
 use Rattle.uci_tool.specs.Folder.{Folder, file_in}
 use Rattle.uci_tool.specs.Paths.{cut}
 use Rattle.uci_tool.specs.Seen.{if_ok, seen, seen_at}

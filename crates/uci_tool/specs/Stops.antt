@@ -4,9 +4,9 @@ use Rattle.plane_disk.specs.Files.{Files}
 use Rattle.plane_disk.specs.View.{View}
 use Rattle.snap_disk.specs.Opened.{OpensAs}
 use Rattle.snap_disk.specs.Open.{ImagesSince}
-use Rattle.uci_words.specs.declared.options.Options.{Options}
-use Rattle.uci_words.specs.declared.command.Command.{Command}
-use Rattle.uci_words.specs.Command.{reads_input}
+use Rattle.uci_cli.specs.declared.options.Options.{Options}
+use Rattle.uci_cli.specs.declared.command.Command.{Command}
+use Rattle.uci_cli.specs.Command.{reads_input}
 use Rattle.uci_store.specs.declared.store.Store.{Store}
 use Rattle.uci_store.specs.Store.{snap_of}
 use Rattle.uci_tool.specs.Folder.{Folder, folder_of}

@@ -4,12 +4,12 @@ use Rattle.std.specs.Option.{ok_or}
 use Rattle.uci_tree.specs.declared.path.Path.{Path}
 use Rattle.uci_tree.specs.Print.{printed}
 use Rattle.uci_staged.specs.Change.{deltas_in}
-use Rattle.uci_words.specs.declared.options.Options.{Options}
-use Rattle.uci_texts.specs.declared.refusal.Refusal.{Refusal}
-use Rattle.uci_texts.specs.declared.refusal.Refusal.TheVariants.{NotFound, Invalid}
-use Rattle.uci_texts.specs.Show.{shown, shown_path}
-use Rattle.uci_texts.specs.Get.{given_path}
-use Rattle.uci_texts.specs.Changes.{change_lines}
+use Rattle.uci_cli.specs.declared.options.Options.{Options}
+use Rattle.uci_cli.specs.declared.refusal.Refusal.{Refusal}
+use Rattle.uci_cli.specs.declared.refusal.Refusal.TheVariants.{NotFound, Invalid}
+use Rattle.uci_cli.specs.Show.{shown, shown_path}
+use Rattle.uci_cli.specs.Get.{given_path}
+use Rattle.uci_cli.specs.Changes.{change_lines}
 use Rattle.uci_tool.specs.declared.texts.Printed.{Printed}
 use Rattle.uci_tool.specs.declared.texts.Listing.{Listing}
 use Rattle.uci_tool.specs.declared.texts.Listing.TheVariants as listing

@@ -1,7 +1,7 @@
 //! `add` and `revert`.
 ghost use Rattle.std.specs.Prelude.{◌≡◌, IfOk};
 ghost use Rattle.uci_store.specs.Store.{IsStore};
-ghost use Rattle.uci_texts.specs.Get.{line_of};
+ghost use Rattle.uci_cli.specs.Get.{line_of};
 ghost use Rattle.uci_tool.specs.Answers.{Answers, Changes, Effects, Stages, IsReady};
 ghost use Rattle.uci_tool.specs.Folder.{folder_of};
 ghost use Rattle.uci_tool.specs.Staging as spec;

@@ -12,8 +12,8 @@ use crate::tool::carry;
 use plane_disk::Disk;
 use plane_io::Text;
 use std::alloc::Global;
+use uci_cli::read_words;
 use uci_store::Store;
-use uci_words::read_words;
 
 /// Carries one command of `uci` out, with an empty input, and gives its report, or `None` where the words ask for no command. The words
 /// are without `uci` itself.

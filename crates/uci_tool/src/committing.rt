@@ -13,8 +13,8 @@ use crate::stop::stop_of;
 use plane_disk::Disk;
 use plane_io::{Memory, Text};
 use std::alloc::Global;
+use uci_cli::Refusal;
 use uci_store::Store;
-use uci_texts::Refusal;
 
 /// `commit P`.
 pub fn commit_package<D: Disk, T: Disk>(

@@ -15,9 +15,9 @@ use crate::seeing::{COMMAND_LINE, see};
 use crate::stop::{stop_of, stop_of_tree};
 use plane_disk::Disk;
 use std::alloc::Global;
+use uci_cli::Options;
 use uci_store::Store;
 use uci_tree::{Package, read_package};
-use uci_words::Options;
 
 /// `import P`, and with `-m` over what is seen.
 pub fn import<D: Disk, T: Disk>(

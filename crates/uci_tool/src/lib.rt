@@ -1,4 +1,4 @@
-//! OpenWrt's `uci` command over a store of packages.
+//! The `uci` command over a store, and one such command over a folder that is opened at the clock's moment.
 #![tactic(auto)]
 
 mod adding;
@@ -9,7 +9,9 @@ mod line;
 mod merging;
 mod paths;
 mod report;
+mod run;
 mod seeing;
+mod shut;
 mod staging;
 mod stop;
 mod texts;
@@ -17,5 +19,7 @@ mod tool;
 
 pub use alone::carry_words;
 pub use report::Report;
+pub use run::run_uci;
+pub use shut::Shut;
 pub use stop::Stop;
 pub use tool::{UciEnd, uci};

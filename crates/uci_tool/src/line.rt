@@ -18,10 +18,9 @@ use crate::texts::{Listing, alone, get_word, list, list_each, show_word};
 use plane_disk::Disk;
 use plane_io::{Memory, Text};
 use std::alloc::Global;
+use uci_cli::{Command, Options, Refusal, read_command};
 use uci_store::Store;
 use uci_text::Line;
-use uci_texts::Refusal;
-use uci_words::{Command, Options, read_command};
 
 /// Carries a command out that reads no input; `import` and `batch` are refused.
 pub fn carry_out<D: Disk, T: Disk>(

@@ -8,9 +8,8 @@ ghost use Rattle.uci_tool.specs.Texts.{path_word};
 use crate::Stop;
 use plane_io::{Memory, Text};
 use std::alloc::Global;
-use uci_texts::Refusal;
+use uci_cli::{Refusal, Verb};
 use uci_tree::{Path, cut_first, read_path};
-use uci_words::Verb;
 
 /// The path that a word is.
 pub fn read_word(alloc: Global, word: &[u8]) -> Result<Path, Stop>

@@ -1,11 +1,11 @@
 ghost use Rattle.std.specs.Prelude.{◌≡◌, [], IfOk, Some, None};
-ghost use Rattle.uci_texts.specs.Refusal.{text_of};
+ghost use Rattle.uci_cli.specs.Refusal.{text_of};
 ghost use Rattle.uci_tool.specs.Line as line;
 
 use crate::texts::Printed;
 use plane_io::{Memory, Text};
 use std::alloc::Global;
-use uci_texts::Refusal;
+use uci_cli::Refusal;
 
 /// What a command prints, what it tells on the error output, and why it was refused, or the first of its lines that was.
 #[derive(Drop)]

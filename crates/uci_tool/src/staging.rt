@@ -13,11 +13,10 @@ use crate::stop::stop_of;
 use plane_disk::Disk;
 use plane_io::{Memory, Text};
 use std::alloc::Global;
+use uci_cli::{Refusal, Verb};
 use uci_delta::{Change, Delta};
 use uci_store::Store;
-use uci_texts::Refusal;
 use uci_tree::{Package, Path, Place, SectionRef, find};
-use uci_words::Verb;
 
 /// Stages a change.
 pub fn stage<T: Disk>(

@@ -5,10 +5,10 @@ ghost use Rattle.uci_tool.specs.declared.stop.Stop.TheVariants.{Memory as NoMemo
 use plane_io::Memory;
 use snap_disk::SnapError;
 use std::alloc::{AllocError, AllocFailed};
+use uci_cli::Refusal;
 use uci_delta::DeltaError;
 use uci_store::StoreError;
 use uci_text::TextError;
-use uci_texts::Refusal;
 use uci_tree::TreeError;
 
 /// Why a command is not done.

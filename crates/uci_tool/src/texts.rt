@@ -1,7 +1,7 @@
 //! Commands that print and change nothing.
 ghost use Rattle.std.specs.Prelude.{◌≡◌, true, Some, Ok, IfOk};
 ghost use Rattle.uci_tree.specs.Print.{printed};
-ghost use Rattle.uci_texts.specs.Changes.{HaveShape, change_lines};
+ghost use Rattle.uci_cli.specs.Changes.{HaveShape, change_lines};
 ghost use Rattle.uci_store.specs.Store.{names_of, staged_in, IsStore};
 ghost use Rattle.uci_tool.specs.Answers.{Answers, IsFound, IsAlone, HaveShapes};
 ghost use Rattle.uci_tool.specs.Folder.{folder_of};
@@ -13,11 +13,10 @@ use crate::seeing::{COMMAND_LINE, see};
 use crate::stop::stop_of;
 use plane_io::{Memory, Text};
 use std::alloc::Global;
+use uci_cli::{Options, Refusal, give_path, print_changes, show_package, show_path};
 use uci_delta::Delta;
 use uci_store::Store;
-use uci_texts::{Refusal, give_path, print_changes, show_package, show_path};
 use uci_tree::{Package, Path, print_package};
-use uci_words::Options;
 
 /// What is listed of packages.
 #[derive(Clone, Copy)]

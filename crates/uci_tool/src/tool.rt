@@ -4,7 +4,7 @@ ghost use Rattle.plane_io.specs.declared.input.TheConstants.{INPUT_LIMIT as MOST
 ghost use Rattle.snap_disk.specs.Images.{SameDisk};
 ghost use Rattle.uci_staged.specs.Kept.{Follows};
 ghost use Rattle.uci_store.specs.Store.{has_failed, IsOnFiles, IsOnStaged};
-ghost use Rattle.uci_words.specs.Command.{reads_input};
+ghost use Rattle.uci_cli.specs.Command.{reads_input};
 ghost use Rattle.uci_tool.specs.Answers.{Carries, Writes, IsOpen, carried_as};
 ghost use Rattle.uci_tool.specs.Cut as spec;
 ghost use Rattle.uci_tool.specs.Done.{carried, batch_of};
@@ -23,10 +23,9 @@ use crate::stop::stop_of_text;
 use plane_disk::Disk;
 use plane_io::{INPUT_LIMIT, InputError, Sink, Source, Text, read_to_end};
 use std::alloc::Global;
+use uci_cli::{Command, DISK_FAILED, OUT_OF_MEMORY, Options, TOO_LARGE, USAGE, read_words};
 use uci_store::Store;
 use uci_text::read_lines;
-use uci_texts::{DISK_FAILED, OUT_OF_MEMORY, TOO_LARGE, USAGE};
-use uci_words::{Command, Options, read_words};
 
 /// How a run of `uci` ended.
 #[derive(Clone, Copy)]

@@ -1,6 +1,6 @@
 use Rattle.std.proofs.Common.{ℕ, Option, Some, sym, subst}
 use Rattle.std.specs.Prelude.{Ok, Err}
-use Rattle.local_answers.specs.declared.local_answer.LocalAnswer.{LocalAnswer}
+use Rattle.rpc_objects.specs.declared.local_answer.LocalAnswer.{LocalAnswer}
 use Rattle.bus_lines.specs.CallLine.{Admits, call_with}
 use Rattle.bus_lines.proofs.AdmitLemmas.{not_live, may_call, lacks_grant}
 use Rattle.bus_lines.proofs.call_line.admit.Goals as goal

@@ -1,7 +1,7 @@
 use Rattle.std.proofs.Common.{ap, sym, ◌∙◌}
-use Rattle.local_objects.specs.LineTaken.{telled_of}
-use Rattle.local_objects.specs.Kept.{faults_of}
-use Rattle.local_objects.specs.Object.{of_path}
+use Rattle.step_net.specs.Taken.{telled_of}
+use Rattle.rpc_objects.specs.Kept.{faults_of}
+use Rattle.rpc_objects.specs.Object.{of_path}
 use Rattle.bus_lines.specs.declared.callers.Callers.{Callers}
 use Rattle.bus_lines.specs.Words.{supply_of}
 use Rattle.bus_lines.specs.Cut.{CallLineCuts}

@@ -1,6 +1,6 @@
 use Rattle.std.proofs.Common.{refl}
-use Rattle.local_objects.specs.LineTaken.{telled_of}
-use Rattle.local_objects.specs.Kept.{faults_of}
+use Rattle.step_net.specs.Taken.{telled_of}
+use Rattle.rpc_objects.specs.Kept.{faults_of}
 use Rattle.bus_lines.specs.Words.{supply_of}
 use Rattle.bus_lines.specs.CallLine.{CallLineDoes, ForDoes}
 use Rattle.bus_lines.specs.Cut.{CallLineCuts}

@@ -1,8 +1,8 @@
 use Rattle.std.proofs.Common.{refl}
-use Rattle.local_objects.specs.LineTaken.{telled_of}
-use Rattle.local_objects.specs.Passed.{CallPasses}
-use Rattle.local_objects.specs.Cut.{CallCuts}
-use Rattle.local_objects.specs.Kept.{faults_of}
+use Rattle.step_net.specs.Taken.{telled_of}
+use Rattle.rpc_objects.specs.Passed.{CallPasses}
+use Rattle.rpc_objects.specs.Cut.{CallCuts}
+use Rattle.rpc_objects.specs.Kept.{faults_of}
 use Rattle.bus_lines.specs.declared.callers.Callers.{Callers}
 use Rattle.bus_lines.specs.Words.{supply_of}
 use Rattle.bus_lines.specs.Ended.{world_of}

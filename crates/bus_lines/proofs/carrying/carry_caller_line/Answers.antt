@@ -1,8 +1,8 @@
 use Rattle.std.proofs.Common.{subst, sym}
-use Rattle.local_objects.specs.LineTaken.{telled_of}
-use Rattle.script_clients.specs.Bus.{part_of, opened, closed}
-use Rattle.local_objects.specs.Kept.{faults_of}
-use Rattle.local_objects.specs.Passed.{StaysOrStopsIn}
+use Rattle.step_net.specs.Taken.{telled_of}
+use Rattle.bus_clients.specs.Bus.{part_of, opened, closed}
+use Rattle.rpc_objects.specs.Kept.{faults_of}
+use Rattle.rpc_objects.specs.Passed.{StaysOrStopsIn}
 use Rattle.bus_lines.specs.declared.caller_line.CallerLine.{CallerLine}
 use Rattle.bus_lines.specs.declared.callers.Callers.{Callers}
 use Rattle.bus_lines.specs.Words.{supply_of}

@@ -1,9 +1,9 @@
 use Rattle.std.proofs.Common.{ap}
-use Rattle.script_clients.specs.Broker.{Broker}
-use Rattle.script_clients.specs.BrokerDid.{table_of}
-use Rattle.local_objects.specs.LineTaken.{telled_of}
-use Rattle.script_clients.specs.Bus.{part_of}
-use Rattle.local_objects.specs.Kept.{faults_of}
+use Rattle.ubus_broker.specs.declared.broker.Broker.{Broker}
+use Rattle.ubus_broker.specs.Did.{table_of}
+use Rattle.step_net.specs.Taken.{telled_of}
+use Rattle.bus_clients.specs.Bus.{part_of}
+use Rattle.rpc_objects.specs.Kept.{faults_of}
 use Rattle.bus_lines.specs.declared.callers.Callers.{Callers}
 use Rattle.bus_lines.specs.Words.{supply_of}
 use Rattle.bus_lines.specs.Passed.{FramesPass, BytesPass}

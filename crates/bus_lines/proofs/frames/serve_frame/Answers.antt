@@ -1,7 +1,7 @@
 use Rattle.std.proofs.Common.{refl, ap, sym, ◌∙◌}
-use Rattle.local_objects.specs.LineTaken.{telled_of}
-use Rattle.script_clients.specs.Bus.{BusPart}
-use Rattle.local_objects.specs.Kept.{faults_of}
+use Rattle.step_net.specs.Taken.{telled_of}
+use Rattle.bus_clients.specs.Bus.{BusPart}
+use Rattle.rpc_objects.specs.Kept.{faults_of}
 use Rattle.bus_lines.specs.declared.callers.Callers.{Callers}
 use Rattle.bus_lines.specs.declared.gathered.Gathered.{Gathered}
 use Rattle.bus_lines.specs.Words.{supply_of}

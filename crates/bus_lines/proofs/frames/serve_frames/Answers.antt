@@ -1,7 +1,7 @@
 use Rattle.std.proofs.Common.{◌≡◌, inl, [], ◌∷◌, ◌++◌, refl, ap, sym, subst, ◌∙◌, append_assoc}
 use Rattle.std.specs.Prelude.{Ok, Err}
-use Rattle.local_objects.specs.LineTaken.{telled_of}
-use Rattle.local_objects.specs.Kept.{faults_of}
+use Rattle.step_net.specs.Taken.{telled_of}
+use Rattle.rpc_objects.specs.Kept.{faults_of}
 use Rattle.bus_lines.specs.Passed.{FramePasses, FramesPass}
 use Rattle.bus_lines.specs.Ended.{world_of}
 use Rattle.bus_lines.specs.Words.{supply_of}

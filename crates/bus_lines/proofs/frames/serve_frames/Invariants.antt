@@ -1,10 +1,10 @@
 use Rattle.std.proofs.Common.{◌≡◌, ◌++◌, List, [], length}
 use Rattle.std.specs.Prelude.{Ok}
 use Rattle.ubus_frames.specs.declared.frame.Frame.{Frame}
-use Rattle.local_objects.specs.Network.{IsOf}
-use Rattle.local_objects.specs.LineTaken.{telled_of}
-use Rattle.local_objects.specs.Passed.{StaysOrStopsIn}
-use Rattle.local_objects.specs.Kept.{StaysOn, faults_of}
+use Rattle.net_plane.specs.Network.{IsOf}
+use Rattle.step_net.specs.Taken.{telled_of}
+use Rattle.rpc_objects.specs.Passed.{StaysOrStopsIn}
+use Rattle.rpc_objects.specs.Kept.{StaysOn, faults_of}
 use Rattle.bus_lines.specs.Passed.{FramesPass}
 use Rattle.bus_lines.specs.Ended.{world_of}
 use Rattle.bus_lines.specs.Calling.{seen_by}

@@ -1,4 +1,4 @@
-use Rattle.script_clients.specs.Bus.{part_of, opened}
+use Rattle.bus_clients.specs.Bus.{part_of, opened}
 use Rattle.bus_lines.proofs.ToldLemmas.{tells_of}
 use Rattle.bus_lines.proofs.told.open_client.Goals as goal
 

@@ -1,6 +1,6 @@
 use Rattle.std.proofs.Common.{subst}
 use Rattle.std.proofs.lemmas.Result.{IfOk-weaker}
-use Rattle.line_texts.specs.declared.line_error.LineError.{LineError}
+use Rattle.script_lines.specs.declared.line_error.LineError.{LineError}
 use Rattle.bus_lines.specs.declared.handled.Handled.{Handled}
 use Rattle.bus_lines.specs.Replied.{TellsError}
 use Rattle.bus_lines.specs.Told.{RefusesClient}

@@ -1,7 +1,7 @@
 use Rattle.std.proofs.Common.{arith, ◌<◌, List, subst}
 use Rattle.std.proofs.lemmas.List.{drop_all}
-use Rattle.net_claims.specs.declared.state.InterfaceState.{InterfaceState}
-use Rattle.net_claims.specs.Claims.{claims_of}
+use Rattle.net_rules.specs.declared.state.InterfaceState.{InterfaceState}
+use Rattle.net_rules.specs.Claims.{claims_of}
 use Rattle.claim_moves.proofs.NamedLemmas.{claims_same}
 use Rattle.claim_moves.proofs.ForgetLemmas.{none_claimed}
 use Rattle.claim_moves.proofs.forgetting.forget_claims.Goals as goal

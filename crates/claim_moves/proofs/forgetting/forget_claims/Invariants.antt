@@ -1,6 +1,6 @@
 use Rattle.std.proofs.Common.{ℕ, ◌<◌, List, drop}
 use Rattle.graph_rules.specs.State.{claims_in}
-use Rattle.net_claims.specs.Claims.{claims_of}
+use Rattle.net_rules.specs.Claims.{claims_of}
 use Rattle.claim_moves.specs.Claiming.{DiffersInClaims}
 use Rattle.claim_moves.proofs.forgetting.forget_claims.Given as goal
 

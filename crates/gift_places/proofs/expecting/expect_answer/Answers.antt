@@ -1,7 +1,7 @@
 use Rattle.std.proofs.Common.{ℕ, List, map, ap}
 use Rattle.net_addr.specs.declared.address.Addr.{Addr}
 use Rattle.kern_model.specs.declared.object.Object.TheVariants as object
-use Rattle.net_options.proofs.WordLemmas.{on_ok_then}
+use Rattle.net_rows.proofs.WordLemmas.{on_ok_then}
 use Rattle.net_rules.specs.declared.answer.AnswerRoute.{AnswerRoute}
 use Rattle.net_wants.specs.Given.{answer_route}
 use Rattle.gift_places.proofs.MoreLemmas.{both_more, both_places}

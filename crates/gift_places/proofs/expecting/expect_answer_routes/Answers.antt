@@ -1,5 +1,5 @@
 use Rattle.std.proofs.Common.{map, refl, ap, ◌∙◌}
-use Rattle.calls_parts.specs.Upper.{is_upper}
+use Rattle.kern_calls.specs.Upper.{is_upper}
 use Rattle.net_wants.specs.Given.{answer_route}
 use Rattle.gift_places.proofs.MoreLemmas.{all_left, item_done, all_done, both_more}
 use Rattle.gift_places.proofs.expecting.expect_answer_routes.Goals as goal

@@ -1,7 +1,7 @@
 use Rattle.std.proofs.Common.{ℕ, List, map, ap}
 use Rattle.net_addr.specs.declared.address.Addr.{Addr}
 use Rattle.kern_model.specs.declared.object.Object.TheVariants as object
-use Rattle.net_options.proofs.WordLemmas.{on_ok_then}
+use Rattle.net_rows.proofs.WordLemmas.{on_ok_then}
 use Rattle.net_rules.specs.Want.{default_route}
 use Rattle.gift_places.proofs.MoreLemmas.{both_more, both_places}
 use Rattle.gift_places.proofs.expecting.expect_options.Goals as goal

@@ -3,7 +3,7 @@ use Rattle.net_rules.specs.declared.event.Event.TheVariants as event
 use Rattle.net_rules.specs.Moment.{IsHistory}
 use Rattle.graph_rules.specs.State.{State, claims_in}
 use Rattle.net_follow.specs.Course.{held_of}
-use Rattle.net_claims.specs.Claims.{claims_of}
+use Rattle.net_rules.specs.Claims.{claims_of}
 use Rattle.net_follow.specs.Beside.{HoldsLower}
 use Rattle.net_follow.specs.Counted.{AgreesWith}
 use Rattle.net_follow.specs.InStep.{IsInStep}

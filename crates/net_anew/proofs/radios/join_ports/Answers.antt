@@ -3,7 +3,7 @@ use Rattle.net_rules.specs.declared.event.Event.TheVariants as event
 use Rattle.net_rules.specs.Moment.{IsHistory}
 use Rattle.graph_rules.specs.State.{State, names_in, claims_in}
 use Rattle.net_follow.specs.Course.{held_of}
-use Rattle.net_claims.specs.Claims.{claims_of}
+use Rattle.net_rules.specs.Claims.{claims_of}
 use Rattle.net_follow.specs.Beside.{HoldsLower}
 use Rattle.net_follow.specs.Counted.{AgreesWith}
 use Rattle.net_anew.proofs.RadioLemmas.{step_named, looks_named, may_be_ports, ported_agrees, ported_few_claims, radio_history, has_joined}

@@ -1,6 +1,6 @@
 use Rattle.std.proofs.Common.{ap, sym, ◌∙◌}
 use Rattle.net_addr.specs.Byte.{colon}
-use Rattle.net_options.proofs.CutLemmas.{no_first_cut, is_first_cut}
+use Rattle.net_rows.proofs.CutLemmas.{no_first_cut, is_first_cut}
 use Rattle.net_devices.specs.Entries as spec
 use Rattle.net_devices.proofs.entries.entry_of.Goals as goal
 

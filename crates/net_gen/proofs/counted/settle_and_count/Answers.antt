@@ -1,6 +1,6 @@
 use Rattle.std.proofs.Common.{inl, inr, refl, ap, subst, ◌∙◌, Err}
-use Rattle.step_net.specs.Network.{calls_of}
-use Rattle.step_net.specs.PlaneSettled as plane
+use Rattle.net_plane.specs.Network.{calls_of}
+use Rattle.net_plane.specs.Settled as plane
 use Rattle.net_gen.specs.Counted.{kernel_alone}
 use Rattle.net_gen.proofs.CountLemmas.{unwritten, none_so_far, one_more, ended, counted, rose, broken_off}
 use Rattle.net_gen.proofs.counted.settle_and_count.Goals as goal

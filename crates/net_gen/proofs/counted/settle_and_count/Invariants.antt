@@ -1,4 +1,4 @@
-use Rattle.step_net.specs.Network.{IsOf}
+use Rattle.net_plane.specs.Network.{IsOf}
 use Rattle.net_gen.specs.Counted.{kernel_alone}
 use Rattle.net_gen.proofs.CountLemmas.{SoFar}
 use Rattle.net_gen.proofs.counted.settle_and_count.Given as goal

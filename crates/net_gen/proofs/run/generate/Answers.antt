@@ -1,7 +1,7 @@
 use Rattle.std.proofs.Common.{refl, sym, ◌∙◌}
 use Rattle.std.specs.Prelude.{⊤}
 use Rattle.net_settle.specs.Outside.{outside_of}
-use Rattle.step_net.specs.Network.{moment_of}
+use Rattle.net_plane.specs.Network.{moment_of}
 use Rattle.net_gen.proofs.RunLemmas.{lacked_at_first, run_stopped, run_ended}
 use Rattle.net_gen.proofs.run.generate.Goals as goal
 

@@ -1,7 +1,7 @@
 use Rattle.std.proofs.Common.{arith, refl, subst}
 use Rattle.plane_words.specs.Growth.{Grows, GrowsByFront}
 use Rattle.net_settle.specs.Outside.{outside_of}
-use Rattle.step_net.specs.Network.{moment_of}
+use Rattle.net_plane.specs.Network.{moment_of}
 use Rattle.net_gen.specs.Steps.{steps, number_line}
 use Rattle.net_gen.proofs.RunLemmas.{none_ran, same_item, halted_at, ran_more, cut_at, ran_through}
 use Rattle.net_gen.proofs.run.take_steps.Goals as goal

@@ -1,6 +1,6 @@
 use Rattle.std.proofs.Common.{ℕ, ◌≡◌, []}
 use Rattle.net_settle.specs.Outside.{outside_of}
-use Rattle.step_net.specs.Network.{IsOf, moment_of}
+use Rattle.net_plane.specs.Network.{IsOf, moment_of}
 use Rattle.net_rules.specs.Moment.{want_of}
 use Rattle.net_gen.proofs.RunLemmas.{RanSoFar}
 use Rattle.net_gen.proofs.run.take_steps.Given as goal

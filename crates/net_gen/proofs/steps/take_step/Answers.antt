@@ -1,4 +1,4 @@
-use Rattle.step_net.specs.Network.{moment_of}
+use Rattle.net_plane.specs.Network.{moment_of}
 use Rattle.net_gen.specs.Counted.{kernel_alone}
 use Rattle.net_gen.proofs.StepLemmas.{step_ends, step_halted}
 use Rattle.net_gen.proofs.steps.take_step.Goals as goal

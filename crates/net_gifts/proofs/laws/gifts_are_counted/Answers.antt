@@ -1,5 +1,5 @@
 use Rattle.net_rows.specs.declared.rows.InterfaceRow.{InterfaceRow}
-use Rattle.net_claims.specs.declared.state.InterfaceState.{InterfaceState}
+use Rattle.net_rules.specs.declared.state.InterfaceState.{InterfaceState}
 use Rattle.net_gifts.specs.Giving.{gives}
 use Rattle.net_gifts.proofs.TimesLemmas.{times_move, times_part, times_most, gives_agree}
 use Rattle.net_gifts.proofs.GivenLemmas.{gives_are}

@@ -2,7 +2,7 @@ use Rattle.std.proofs.Common.{List, ap, ◌∙◌, ◌<◌, ◌≤◌, length, r
 use Rattle.net_rows.specs.declared.rows.RadioRow.{RadioRow}
 use Rattle.net_rows.specs.declared.rows.WifiRow.{WifiRow}
 use Rattle.std.proofs.Common.{set}
-use Rattle.net_options.proofs.WordLemmas.{on_ok_then}
+use Rattle.net_rows.proofs.WordLemmas.{on_ok_then}
 use Rattle.net_interfaces.proofs.RadioLemmas.{with_row_past, with_row_set}
 use Rattle.net_interfaces.proofs.radios.push_row.Goals as goal
 

@@ -1,6 +1,6 @@
 use Rattle.std.proofs.Common.{List, ◌++◌, ◌∙◌, ap}
 use Rattle.net_rows.specs.declared.rows.RouteRow.{RouteRow}
-use Rattle.net_options.proofs.WordLemmas.{on_ok_then}
+use Rattle.net_rows.proofs.WordLemmas.{on_ok_then}
 use Rattle.net_interfaces.proofs.RouteLemmas.{row_is}
 use Rattle.net_interfaces.proofs.routes.add_route.Goals as goal
 

@@ -1,7 +1,7 @@
 use Rattle.std.proofs.Common.{ℕ, List, false, refl}
 use Rattle.std.specs.Prelude.{◌||◌, bytes_eq}
 use Rattle.std.specs.List.{list_any}
-use Rattle.net_options.proofs.WordLemmas.{on_ok_then}
+use Rattle.net_rows.proofs.WordLemmas.{on_ok_then}
 use Rattle.net_reach.proofs.GroupLemmas.{gains_none, gains_as}
 use Rattle.net_reach.proofs.above.add_ports.Goals as goal
 

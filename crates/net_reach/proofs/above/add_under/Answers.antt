@@ -1,6 +1,6 @@
 use Rattle.std.proofs.Common.{ℕ, List, Option, false, refl, ap}
 use Rattle.std.specs.Prelude.{◌||◌, bytes_eq}
-use Rattle.net_options.proofs.WordLemmas.{on_ok_then}
+use Rattle.net_rows.proofs.WordLemmas.{on_ok_then}
 use Rattle.net_rules.specs.Rows.{is_name}
 use Rattle.net_reach.proofs.GroupLemmas.{gains_none, gains_as, last_more}
 use Rattle.net_reach.proofs.above.add_under.Goals as goal

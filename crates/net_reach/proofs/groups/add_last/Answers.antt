@@ -1,5 +1,5 @@
 use Rattle.std.proofs.Common.{ℕ, List, ap, sym, ◌∙◌}
-use Rattle.net_options.proofs.WordLemmas.{on_ok_then}
+use Rattle.net_rows.proofs.WordLemmas.{on_ok_then}
 use Rattle.net_reach.specs.Groups.{is_last}
 use Rattle.net_reach.proofs.GroupLemmas.{kept_last, new_last}
 use Rattle.net_reach.proofs.groups.add_last.Goals as goal

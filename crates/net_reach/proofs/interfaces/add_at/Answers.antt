@@ -1,6 +1,6 @@
 use Rattle.std.proofs.Common.{ℕ, List, Option, ap}
 use Rattle.std.specs.Prelude.{bytes_eq}
-use Rattle.net_options.proofs.WordLemmas.{on_ok_then}
+use Rattle.net_rows.proofs.WordLemmas.{on_ok_then}
 use Rattle.net_rules.specs.Rows.{is_name}
 use Rattle.net_reach.proofs.GroupLemmas.{gains_none, gains_as}
 use Rattle.net_reach.proofs.interfaces.add_at.Goals as goal

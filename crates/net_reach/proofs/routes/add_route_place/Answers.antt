@@ -3,7 +3,7 @@ use Rattle.std.specs.Prelude.{bytes_eq, not, ◌&&◌}
 use Rattle.std.specs.List.{slice_get}
 use Rattle.std.specs.Option.{option_map_or, option_and_then}
 use Rattle.net_rules.specs.Rows.{is_faultless}
-use Rattle.net_options.proofs.WordLemmas.{on_ok_then}
+use Rattle.net_rows.proofs.WordLemmas.{on_ok_then}
 use Rattle.net_rows.specs.declared.rows.InterfaceRow.{InterfaceRow}
 use Rattle.net_view.specs.RadioPorts.{group_in}
 use Rattle.net_wants.proofs.GroupLemmas.{route_named}

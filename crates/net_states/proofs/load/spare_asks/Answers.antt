@@ -1,7 +1,7 @@
 use Rattle.std.proofs.Common.{arith, List, subst}
 use Rattle.std.proofs.lemmas.List.{take_all}
 use Rattle.net_rows.specs.declared.rows.InterfaceRow.{InterfaceRow}
-use Rattle.net_claims.specs.declared.state.InterfaceState.{InterfaceState}
+use Rattle.net_rules.specs.declared.state.InterfaceState.{InterfaceState}
 use Rattle.net_states.specs.Load.{IsSpare, AreBeside}
 use Rattle.net_states.proofs.LoadLemmas.{beside_none, pushed_beside, spare_of}
 use Rattle.net_states.proofs.load.spare_asks.Goals as goal

@@ -1,6 +1,6 @@
 use Rattle.std.proofs.Common.{List, ◌++◌, Option, Some, None, ap, subst}
 use Rattle.std.specs.Prelude.{option_to_list}
-use Rattle.net_options.proofs.WordLemmas.{on_ok_then}
+use Rattle.net_rows.proofs.WordLemmas.{on_ok_then}
 use Rattle.net_rules.specs.RadioPorts.{RadioPort}
 use Rattle.net_view.specs.RadioPorts.{AreJoins}
 use Rattle.net_view.proofs.JoinLemmas.{join_none}

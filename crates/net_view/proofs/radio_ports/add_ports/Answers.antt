@@ -1,7 +1,7 @@
 use Rattle.std.proofs.Common.{List, [], ◌++◌, map, ap, ◌∙◌, None, Some}
 use Rattle.std.specs.Prelude.{unwrap_or}
 use Rattle.std.specs.List.{filter_map, zip}
-use Rattle.net_options.proofs.WordLemmas.{on_ok_then}
+use Rattle.net_rows.proofs.WordLemmas.{on_ok_then}
 use Rattle.net_rows.specs.declared.rows.WifiRow.{WifiRow}
 use Rattle.net_rules.specs.Inputs.{facts_of}
 use Rattle.net_rules.specs.RadioPorts.{AnsweredPort}

@@ -1,6 +1,6 @@
 use Rattle.std.specs.Prelude.{bytes_eq}
 use Rattle.std.specs.List.{list_any}
-use Rattle.net_options.proofs.WordLemmas.{on_ok_then}
+use Rattle.net_rows.proofs.WordLemmas.{on_ok_then}
 use Rattle.net_rules.specs.Inputs.{facts_of}
 use Rattle.net_rules.specs.RadioPorts.{radio_ports_of}
 use Rattle.net_rules.specs.Standing.{standing_of_row, lowers_of, stands}

@@ -1,7 +1,7 @@
 use Rattle.std.proofs.Common.{ℕ, List, true}
 use Rattle.std.specs.Prelude.{bytes_eq, ◌&&◌}
 use Rattle.std.specs.List.{list_any}
-use Rattle.net_options.proofs.WordLemmas.{on_ok_then}
+use Rattle.net_rows.proofs.WordLemmas.{on_ok_then}
 use Rattle.net_rules.specs.Inputs.{facts_of}
 use Rattle.net_rules.specs.Rows.{is_name}
 use Rattle.net_rules.specs.RadioPorts.{radio_ports_of}

@@ -2,7 +2,7 @@ use Rattle.std.proofs.Common.{ℕ, inl, List, map, string_bytes, refl, ap, sym, 
 use Rattle.std.specs.Prelude.{Err}
 use Rattle.plane_main.specs.declared.command.Command.TheVariants.{Start, Uci, Run, Gen, Show}
 use Rattle.net_settle.specs.Outside.{outside_of}
-use Rattle.uci_run.specs.Run.{RunEnds}
+use Rattle.uci_tool.specs.Run.{RunEnds}
 use Rattle.uci_tool.specs.Ends.{streams_of}
 use Rattle.plane_main.specs.Outside.{Seen, input_of, errors_of}
 use Rattle.plane_main.specs.Command.{AskFor}
@@ -10,7 +10,7 @@ use Rattle.plane_main.specs.Start.{StartEnds}
 use Rattle.plane_main.specs.Generated.{GenEnds}
 use Rattle.plane_main.specs.Page.{PageEnds}
 use Rattle.plane_main.specs.Run.{of_command}
-use Rattle.bus_access.specs.Form.{acl_of}
+use Rattle.ubus_acl.specs.Form.{acl_of}
 use Rattle.plane_main.specs.Script.{ReadsAcl}
 use Rattle.plane_main.proofs.RunLemmas.{script_ends, has_acl, run_alone, no_acl_ends, no_acl_alone, gen_alone}
 use Rattle.plane_main.proofs.carry_out.carry_out.Goals as goal

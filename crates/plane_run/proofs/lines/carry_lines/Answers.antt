@@ -3,10 +3,10 @@ use Rattle.kern_model.specs.ObjectOrder.{set_of}
 use Rattle.net_rules.specs.Moment.{want_of}
 use Rattle.net_settle.specs.Outside.{outside_of}
 use Rattle.uci_tool.specs.Ends.{Stream}
-use Rattle.uci_run.proofs.RunLemmas.{held}
-use Rattle.plane_step.specs.ObjectsPassed.{StaysOrStopsIn}
-use Rattle.plane_step.specs.Ended.{world_of}
-use Rattle.plane_step.specs.Words.{supply_of}
+use Rattle.uci_tool.proofs.FolderRunLemmas.{held}
+use Rattle.rpc_objects.specs.Passed.{StaysOrStopsIn}
+use Rattle.bus_lines.specs.Ended.{world_of}
+use Rattle.bus_lines.specs.Words.{supply_of}
 use Rattle.plane_step.specs.Kept.{faults_of}
 use Rattle.plane_step.specs.ScriptPasses.{ScriptPasses}
 use Rattle.plane_run.specs.Run.{Stage, IsKernelFailed}

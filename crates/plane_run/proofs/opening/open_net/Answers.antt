@@ -1,6 +1,6 @@
 use Rattle.std.proofs.Common.{◌∙◌}
 use Rattle.net_settle.specs.Outside.{outside_of}
-use Rattle.plane_step.specs.Network.{moment_of}
+use Rattle.net_plane.specs.Network.{moment_of}
 use Rattle.plane_run.proofs.OpeningLemmas.{opens_whole, opens_cut}
 use Rattle.plane_run.proofs.opening.open_net.Goals as goal
 

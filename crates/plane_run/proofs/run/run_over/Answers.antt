@@ -1,11 +1,11 @@
 use Rattle.std.proofs.Common.{ℕ, ◌≡◌, Option, refl, ap, ◌∙◌}
 use Rattle.uci_tool.specs.Ends.{source_of}
-use Rattle.uci_run.proofs.RunLemmas.{held}
+use Rattle.uci_tool.proofs.FolderRunLemmas.{held}
 use Rattle.net_settle.specs.Outside.{outside_of}
-use Rattle.plane_step.specs.Network.{moment_of}
-use Rattle.plane_step.specs.ObjectsPassed.{StaysOrStopsIn}
-use Rattle.plane_step.specs.ClientBus.{part_of}
-use Rattle.plane_step.specs.Words.{supply_of}
+use Rattle.net_plane.specs.Network.{moment_of}
+use Rattle.rpc_objects.specs.Passed.{StaysOrStopsIn}
+use Rattle.bus_clients.specs.Bus.{part_of}
+use Rattle.bus_lines.specs.Words.{supply_of}
 use Rattle.plane_step.specs.Kept.{faults_of}
 use Rattle.plane_step.specs.ScriptPasses.{ScriptPasses}
 use Rattle.plane_run.specs.Parts.{Over, no_rows}

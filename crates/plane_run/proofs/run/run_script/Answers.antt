@@ -1,10 +1,10 @@
 use Rattle.std.proofs.Common.{◌≡◌}
 use Rattle.uci_tool.specs.Ends.{source_of}
 use Rattle.uci_tool.specs.Folder.{folder_of}
-use Rattle.uci_run.specs.Folders.{IsFound}
-use Rattle.uci_run.proofs.RunLemmas.{found}
+use Rattle.uci_tool.specs.Folders.{IsFound}
+use Rattle.uci_tool.proofs.FolderRunLemmas.{found}
 use Rattle.net_settle.specs.Outside.{outside_of}
-use Rattle.plane_step.specs.ObjectsPassed.{StaysOrStopsIn}
+use Rattle.rpc_objects.specs.Passed.{StaysOrStopsIn}
 use Rattle.plane_step.specs.ScriptPasses.{ScriptPasses}
 use Rattle.plane_run.specs.Run.{Seen}
 use Rattle.plane_run.proofs.RunLemmas.{over_ends, stops_as_found, images_over, stops_over}

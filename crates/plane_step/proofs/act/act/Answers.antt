@@ -2,11 +2,11 @@ use Rattle.std.proofs.Common.{◌≡◌, [], Option, Some, sym, subst}
 use Rattle.std.specs.Prelude.{Result}
 use Rattle.script_lines.specs.declared.script_line.ScriptLine.{ScriptLine}
 use Rattle.script_lines.specs.declared.script_line.ScriptLine.TheVariants as line
-use Rattle.plane_lines.specs.LineTaken.{telled_of}
-use Rattle.plane_lines.specs.declared.stop.Stop.{Stop}
-use Rattle.plane_lines.specs.Kept.{StaysOn}
-use Rattle.bus_lines.specs.ObjectsKept.{faults_of}
-use Rattle.bus_lines.specs.ObjectsPassed.{StaysOrStopsIn}
+use Rattle.step_net.specs.Taken.{telled_of}
+use Rattle.plane_step.specs.declared.stop.Stop.{Stop}
+use Rattle.plane_step.specs.StoreKept.{StaysOn}
+use Rattle.rpc_objects.specs.Kept.{faults_of}
+use Rattle.rpc_objects.specs.Passed.{StaysOrStopsIn}
 use Rattle.bus_lines.specs.declared.callers.SpareWord.{SpareWord}
 use Rattle.bus_lines.specs.declared.handled.Handled.{Handled}
 use Rattle.bus_lines.specs.Words.{supply_of}
@@ -15,9 +15,9 @@ use Rattle.bus_lines.specs.Ended.{Seen, world_of}
 use Rattle.plane_step.specs.Passed.{Passes, PlainPasses}
 use Rattle.plane_step.specs.Done.{Ends, line_for}
 use Rattle.plane_step.specs.Plain.{IsPlain}
-use Rattle.plane_step.proofs.LiftLemmas.{read_ends, caller_is_not_plain, caller_ends, caller_passes, call_tells, nobodys_ends, nobodys_passes}
-use Rattle.plane_step.proofs.StoreLemmas.{call_stays}
-use Rattle.plane_step.proofs.PassLemmas.{images_more}
+use Rattle.plane_step.proofs.StepLiftLemmas.{read_ends, caller_is_not_plain, caller_ends, caller_passes, call_tells, nobodys_ends, nobodys_passes}
+use Rattle.plane_step.proofs.StepStoreLemmas.{call_stays}
+use Rattle.plane_step.proofs.StepPassLemmas.{images_more}
 use Rattle.plane_step.proofs.act.act.Goals as goal
 
 pub returns-in-Moment-clause-ends : goal.returns-in-Moment-clause-ends

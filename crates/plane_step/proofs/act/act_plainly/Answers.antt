@@ -1,15 +1,15 @@
 use Rattle.std.proofs.Common.{◌∙◌}
 use Rattle.std.specs.Prelude.{Ok}
-use Rattle.plane_lines.specs.LineTaken.{telled_of}
+use Rattle.step_net.specs.Taken.{telled_of}
 use Rattle.uci_tool.specs.Folder.{folder_of}
-use Rattle.plane_lines.specs.Done.{Front, Behind}
-use Rattle.plane_lines.specs.FilesMoved.{files_moved}
-use Rattle.plane_lines.proofs.StoreLemmas.{stays_as}
+use Rattle.plane_step.specs.LineDone.{Front, Behind}
+use Rattle.plane_step.specs.FilesMoved.{files_moved}
+use Rattle.plane_step.proofs.StoreLemmas.{stays_as}
 use Rattle.bus_lines.specs.Ended.{world_of}
 use Rattle.plane_step.specs.Passed.{PlainPasses}
-use Rattle.plane_step.proofs.LiftLemmas.{plain_told, plain_stops}
-use Rattle.plane_step.proofs.StoreLemmas.{stays_so}
-use Rattle.plane_step.proofs.PassLemmas.{images_listed, plain_listed}
+use Rattle.plane_step.proofs.StepLiftLemmas.{plain_told, plain_stops}
+use Rattle.plane_step.proofs.StepStoreLemmas.{stays_so}
+use Rattle.plane_step.proofs.StepPassLemmas.{images_listed, plain_listed}
 use Rattle.plane_step.proofs.act.act_plainly.Goals as goal
 
 pub returns-in-Ok-clause-ends : goal.returns-in-Ok-clause-ends

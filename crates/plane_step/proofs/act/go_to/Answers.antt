@@ -1,16 +1,16 @@
 use Rattle.std.proofs.Common.{inl, refl, Some}
 use Rattle.std.specs.Prelude.{Ok, Err}
 use Rattle.script_lines.specs.declared.script_line.ScriptLine.TheVariants as line
-use Rattle.plane_lines.specs.LineTaken.{telled_of}
-use Rattle.plane_lines.proofs.AskLemmas.{asks_nothing}
-use Rattle.plane_lines.specs.declared.stop.Stop.TheVariants as stop
-use Rattle.plane_lines.proofs.StoreLemmas.{stays_both}
-use Rattle.bus_lines.specs.ObjectsKept.{faults_of}
+use Rattle.step_net.specs.Taken.{telled_of}
+use Rattle.step_net.proofs.AskLemmas.{asks_nothing}
+use Rattle.plane_step.specs.declared.stop.Stop.TheVariants as stop
+use Rattle.plane_step.proofs.StoreLemmas.{stays_both}
+use Rattle.rpc_objects.specs.Kept.{faults_of}
 use Rattle.bus_lines.specs.Ended.{world_of}
 use Rattle.plane_step.specs.Passed.{PlainPasses, AtPasses}
-use Rattle.plane_step.proofs.LiftLemmas.{at_halts, at_ends, at_passes}
-use Rattle.plane_step.proofs.StoreLemmas.{expired_stays, expired_open}
-use Rattle.plane_step.proofs.PassLemmas.{images_from}
+use Rattle.plane_step.proofs.StepLiftLemmas.{at_halts, at_ends, at_passes}
+use Rattle.plane_step.proofs.StepStoreLemmas.{expired_stays, expired_open}
+use Rattle.plane_step.proofs.StepPassLemmas.{images_from}
 use Rattle.plane_step.proofs.act.go_to.Goals as goal
 
 pub returns-in_default-clause-ends : goal.returns-in_default-clause-ends

@@ -1,5 +1,5 @@
 use Rattle.std.proofs.Common.{Some, ap, ◌∙◌}
-use Rattle.plane_step.proofs.LiftLemmas.{is_nobodys}
+use Rattle.plane_step.proofs.StepLiftLemmas.{is_nobodys}
 use Rattle.plane_step.proofs.act.who_asks.Goals as goal
 
 pub returns-in-At : goal.returns-in-At

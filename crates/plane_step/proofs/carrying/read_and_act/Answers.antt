@@ -1,16 +1,16 @@
 use Rattle.std.proofs.Common.{Option, ap, sym, subst, ◌∙◌}
 use Rattle.script_lines.specs.declared.script_line.ScriptLine.{ScriptLine}
 use Rattle.script_lines.specs.Lines.{line_of}
-use Rattle.plane_lines.proofs.AskLemmas.{asks_nothing}
-use Rattle.bus_lines.specs.ObjectsKept.{faults_of}
-use Rattle.bus_lines.specs.ObjectsPassed.{StaysOrStopsIn}
-use Rattle.plane_lines.specs.LineTaken.{telled_of}
+use Rattle.step_net.proofs.AskLemmas.{asks_nothing}
+use Rattle.rpc_objects.specs.Kept.{faults_of}
+use Rattle.rpc_objects.specs.Passed.{StaysOrStopsIn}
+use Rattle.step_net.specs.Taken.{telled_of}
 use Rattle.bus_lines.specs.Words.{supply_of}
 use Rattle.bus_lines.specs.Ended.{Seen, world_of}
 use Rattle.plane_step.specs.Plain.{IsPlain}
 use Rattle.plane_step.specs.Passed.{Passes}
 use Rattle.plane_step.specs.Done.{Ends}
-use Rattle.plane_step.proofs.LiftLemmas.{nothing_ends}
+use Rattle.plane_step.proofs.StepLiftLemmas.{nothing_ends}
 use Rattle.plane_step.proofs.carrying.read_and_act.Goals as goal
 
 pub returns-in_default-clause-ends : goal.returns-in_default-clause-ends

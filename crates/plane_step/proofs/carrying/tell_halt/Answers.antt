@@ -1,5 +1,5 @@
 use Rattle.std.proofs.Common.{sym, subst}
-use Rattle.plane_lines.specs.declared.stop.Stop.{Stop}
+use Rattle.plane_step.specs.declared.stop.Stop.{Stop}
 use Rattle.plane_step.specs.Ran.{TellsHalt, disk_line, memory_line}
 use Rattle.plane_step.proofs.LineLemmas.{tells_line}
 use Rattle.plane_step.proofs.carrying.tell_halt.Goals as goal

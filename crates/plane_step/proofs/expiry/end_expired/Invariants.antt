@@ -1,6 +1,6 @@
 use Rattle.std.proofs.Common.{length}
 use Rattle.uci_store.specs.Store.{staged_in}
-use Rattle.local_answers.specs.SessionCall.{StaysOpen}
+use Rattle.rpc_objects.specs.SessionCall.{StaysOpen}
 use Rattle.plane_step.specs.Expiry.{Goes}
 use Rattle.plane_step.proofs.expiry.end_expired.Given as goal
 

@@ -1,6 +1,6 @@
 use Rattle.std.proofs.Common.{arith}
 use Rattle.std.proofs.lemmas.Result.{on_ok_weaker}
-use Rattle.plane_lines.specs.Network.{Network}
+use Rattle.net_plane.specs.Network.{Network}
 use Rattle.plane_step.specs.Expiry.{Reached}
 use Rattle.plane_step.proofs.ExpiryLemmas.{reaches, stays_itself}
 use Rattle.plane_step.proofs.expiry.expire.Goals as goal

@@ -1,15 +1,15 @@
 use Rattle.std.proofs.Common.{◌≡◌, inl, [], ◌∷◌, ◌++◌, refl, ap, sym, subst, ◌∙◌, append_assoc}
 use Rattle.std.specs.Prelude.{Ok, Err}
 use Rattle.net_settle.specs.Outside.{outside_of}
-use Rattle.plane_lines.proofs.StoreLemmas.{stays_itself, stays_both, stays_as}
-use Rattle.bus_lines.specs.ObjectsPassed.{StaysOrStopsIn}
+use Rattle.plane_step.proofs.StoreLemmas.{stays_itself, stays_both, stays_as}
+use Rattle.rpc_objects.specs.Passed.{StaysOrStopsIn}
 use Rattle.bus_lines.specs.Words.{supply_of}
 use Rattle.bus_lines.specs.Ended.{world_of}
 use Rattle.plane_step.specs.Passed.{LinePasses}
 use Rattle.plane_step.specs.Plain.{ArePlain}
 use Rattle.plane_step.specs.ScriptPasses.{ScriptPasses}
 use Rattle.plane_step.specs.Ran.{Ran}
-use Rattle.plane_step.proofs.PassLemmas.{images_join, front_passes, line_passes}
+use Rattle.plane_step.proofs.StepPassLemmas.{images_join, front_passes, line_passes}
 use Rattle.plane_step.proofs.ScriptLemmas.{none_ran, ran_more, stops_in, all_done, due_more}
 use Rattle.plane_step.proofs.script.run_lines.Goals as goal
 

@@ -3,9 +3,9 @@ use Rattle.std.specs.Prelude.{Ok}
 use Rattle.uci_text.specs.declared.line.Line.{Line}
 use Rattle.net_rules.specs.Moment.{want_of}
 use Rattle.net_settle.specs.Outside.{outside_of}
-use Rattle.plane_lines.specs.Finished.{HoldsOrFailed}
-use Rattle.plane_lines.specs.Network.{IsOf}
-use Rattle.bus_lines.specs.ObjectsPassed.{StaysOrStopsIn}
+use Rattle.step_net.specs.Finished.{HoldsOrFailed}
+use Rattle.net_plane.specs.Network.{IsOf}
+use Rattle.rpc_objects.specs.Passed.{StaysOrStopsIn}
 use Rattle.bus_lines.specs.Words.{supply_of}
 use Rattle.bus_lines.specs.Ended.{world_of}
 use Rattle.plane_step.specs.Plain.{ArePlain}

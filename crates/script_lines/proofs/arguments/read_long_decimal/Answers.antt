@@ -1,6 +1,6 @@
 use Rattle.std.proofs.Common.{◌≡◌, true, rules, subst, List, ℕ}
 use Rattle.std.specs.Str.Parse.{ParsesUnsigned}
-use Rattle.net_options.specs.Number.{is_numeral}
+use Rattle.net_rows.specs.Number.{is_numeral}
 use Rattle.script_lines.proofs.NumberLemmas.{numeral_is_utf8, no_long_decimal, long_decimal_is}
 use Rattle.script_lines.proofs.arguments.read_long_decimal.Goals as goal
 

@@ -1,6 +1,6 @@
 use Rattle.std.proofs.Common.{◌≡◌, ap}
 use Rattle.net_rules.specs.declared.ask.InterfaceAsk.{InterfaceAsk}
-use Rattle.net_claims.specs.declared.state.InterfaceState.{InterfaceState}
+use Rattle.net_rules.specs.declared.state.InterfaceState.{InterfaceState}
 use Rattle.state_asks.proofs.OpeningLemmas.{read_twice, none_after, none_more, is_at_hand, opens_new, opens_named, known_after, told_after, between_after}
 use Rattle.state_asks.proofs.opening.open_ask.Goals as goal
 

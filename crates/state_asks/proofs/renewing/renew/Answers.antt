@@ -1,7 +1,7 @@
 use Rattle.std.proofs.Common.{arith, ◌<◌, ◌==◌, ℕ, List, Contains, length, ap, subst, sym}
 use Rattle.std.specs.Prelude.{◌↔◌}
 use Rattle.std.specs.List.{IsDistinct}
-use Rattle.net_asked.proofs.NumberLemmas.{between}
+use Rattle.net_rules.proofs.TouchNumberLemmas.{between}
 use Rattle.known_inputs.specs.Known.{Known}
 use Rattle.asked_places.specs.Losing.{lost_at, lost_at_places}
 use Rattle.asked_places.proofs.OrderLemmas.{lost_once}

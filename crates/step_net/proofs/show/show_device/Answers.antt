@@ -5,7 +5,7 @@ use Rattle.kern_model.specs.Name.{is_name}
 use Rattle.net_plane.specs.declared.net_error.NetError.TheVariants as net_error
 use Rattle.net_plane.specs.Network.{moment_of}
 use Rattle.net_status.specs.Devices.{device_status}
-use Rattle.line_texts.specs.declared.line_error.LineError.TheVariants as error
+use Rattle.script_lines.specs.declared.line_error.LineError.TheVariants as error
 use Rattle.step_net.specs.NetLine.{NetLine}
 use Rattle.step_net.specs.Acted.{shown_or}
 use Rattle.step_net.proofs.FloatLemmas.{device_status_has_none}

@@ -2,7 +2,7 @@ use Rattle.std.proofs.Common.{ap, ◌∙◌, refl}
 use Rattle.std.specs.Prelude.{Some}
 use Rattle.serde_json.specs.Written.{has_float}
 use Rattle.net_status.specs.Interfaces.{dump}
-use Rattle.line_texts.specs.declared.line_error.LineError.TheVariants as error
+use Rattle.script_lines.specs.declared.line_error.LineError.TheVariants as error
 use Rattle.step_net.specs.NetLine.{NetLine}
 use Rattle.step_net.proofs.FloatLemmas.{dump_has_none}
 use Rattle.step_net.proofs.ShowLemmas.{shows}

@@ -2,7 +2,7 @@ use Rattle.std.proofs.Common.{refl}
 use Rattle.serde_json.specs.View.{view}
 use Rattle.net_plane.specs.declared.net_error.NetError.TheVariants as net_error
 use Rattle.net_status.specs.Radios.{radio_status}
-use Rattle.line_texts.specs.declared.line_error.LineError.TheVariants as error
+use Rattle.script_lines.specs.declared.line_error.LineError.TheVariants as error
 use Rattle.step_net.specs.NetLine.{NetLine}
 use Rattle.step_net.proofs.FloatLemmas.{radio_status_has_none}
 use Rattle.step_net.proofs.ShowLemmas.{shows, shows_none}

@@ -5,23 +5,23 @@ use Rattle.std.specs.List.{list_any, position}
 use Rattle.std.proofs.lemmas.Fn.{filter_same}
 use Rattle.blob_codec.specs.declared.blob.Attr.{Attr}
 use Rattle.ubus_frames.specs.declared.frame.Frame.{Frame}
-use Rattle.bus_table.specs.Table.{Table, Call, client_of, is_connected}
-use Rattle.bus_table.specs.declared.rows.Client.{Client}
-use Rattle.bus_table.specs.Frames.{Sent, where_fits, plain, hello}
-use Rattle.bus_table.specs.Refusal.{Step, says}
-use Rattle.bus_table.specs.Objects.{told}
-use Rattle.bus_table.specs.Clients.{is_handed_out, reply_sent, reply_status}
-use Rattle.bus_table.specs.Served.{served, said_by, connect, frame, leave, local_reply}
-use Rattle.bus_outbox.specs.declared.outbox.Outgoing.{Outgoing}
-use Rattle.bus_outbox.specs.Fits.{fits}
-use Rattle.bus_outbox.specs.Out.{outgoing, out_of}
-use Rattle.bus_outbox.proofs.OutLemmas.{out_more}
-use Rattle.bus_lists.specs.declared.calls.OpenCall.{OpenCall}
-use Rattle.bus_lists.specs.Calls.{call_of, calls_of}
-use Rattle.bus_lists.proofs.ListLemmas.{list_any_map, position_of_map, remove_of_map}
-use Rattle.bus_state.specs.State as state
-use Rattle.bus_plans.proofs.PlanLemmas.{taken, passed, says_plan, planned_as, plan_for}
-use Rattle.bus_plans.proofs.AnswerLemmas.{call_at}
+use Rattle.ubus_table.specs.Table.{Table, Call, client_of, is_connected}
+use Rattle.ubus_table.specs.declared.rows.Client.{Client}
+use Rattle.ubus_table.specs.Frames.{Sent, where_fits, plain, hello}
+use Rattle.ubus_table.specs.Refusal.{Step, says}
+use Rattle.ubus_table.specs.Objects.{told}
+use Rattle.ubus_table.specs.Clients.{is_handed_out, reply_sent, reply_status}
+use Rattle.ubus_table.specs.Served.{served, said_by, connect, frame, leave, local_reply}
+use Rattle.ubus_send.specs.declared.outbox.Outgoing.{Outgoing}
+use Rattle.ubus_send.specs.Fits.{fits}
+use Rattle.ubus_send.specs.Out.{outgoing, out_of}
+use Rattle.ubus_send.proofs.OutLemmas.{out_more}
+use Rattle.ubus_state.specs.declared.calls.OpenCall.{OpenCall}
+use Rattle.ubus_state.specs.Calls.{call_of, calls_of}
+use Rattle.ubus_state.proofs.ListLemmas.{list_any_map, position_of_map, remove_of_map}
+use Rattle.ubus_state.specs.State as state
+use Rattle.ubus_requests.proofs.PlanLemmas.{taken, passed, says_plan, planned_as, plan_for}
+use Rattle.ubus_requests.proofs.AnswerLemmas.{call_at}
 use Rattle.ubus_broker.specs.Did.{table_of, Did}
 use Rattle.ubus_broker.proofs.DidLemmas.{did_counted, connect_did, leave_did, reply_did, no_reply_did, not_false}
 use Rattle.ubus_broker.proofs.broker.to_others.Goals as goal

@@ -1,16 +1,16 @@
 use Rattle.std.proofs.Common.{ℕ, ◌≡◌, List, Option, None, IfOk, refl, sym, ap, ◌∙◌}
 use Rattle.ubus_frames.specs.declared.frame.Frame.{Frame}
-use Rattle.bus_table.specs.Table.{Table}
-use Rattle.bus_table.specs.declared.rows.Client.{Client}
-use Rattle.bus_table.specs.Refusal.{Step, says, refuses, numbered}
-use Rattle.bus_table.specs.Asked.{pinged, looked_up, asked_for}
-use Rattle.bus_table.specs.Objects.{adds, removes}
-use Rattle.bus_table.specs.Subscriptions.{subscribes, unsubscribes}
-use Rattle.bus_table.specs.Calls.{notifies, passes_data, passes_status, answered}
-use Rattle.bus_table.specs.Invoked.{invokes}
-use Rattle.bus_outbox.specs.Fits.{fits}
-use Rattle.bus_state.specs.State.{table_of}
-use Rattle.bus_plans.proofs.PlanLemmas.{says_plan, planned_as, plan_for}
+use Rattle.ubus_table.specs.Table.{Table}
+use Rattle.ubus_table.specs.declared.rows.Client.{Client}
+use Rattle.ubus_table.specs.Refusal.{Step, says, refuses, numbered}
+use Rattle.ubus_table.specs.Asked.{pinged, looked_up, asked_for}
+use Rattle.ubus_table.specs.Objects.{adds, removes}
+use Rattle.ubus_table.specs.Subscriptions.{subscribes, unsubscribes}
+use Rattle.ubus_table.specs.Calls.{notifies, passes_data, passes_status, answered}
+use Rattle.ubus_table.specs.Invoked.{invokes}
+use Rattle.ubus_send.specs.Fits.{fits}
+use Rattle.ubus_state.specs.State.{table_of}
+use Rattle.ubus_requests.proofs.PlanLemmas.{says_plan, planned_as, plan_for}
 use Rattle.ubus_broker.proofs.KindLemmas.{by_kind, by_other, data_quiet, told_quiet}
 use Rattle.ubus_broker.proofs.plans.plan_data.Goals as goal
 

@@ -1,6 +1,6 @@
 use Rattle.std.proofs.Common.{List, ℕ, ◌≡◌, ◌<◌, length, Result, Err, Option, ap, sym, subst, refl, ◌∙◌}
 use Rattle.uci_store.specs.Store.{names_of}
-use Rattle.uci_texts.specs.declared.refusal.Refusal.{Refusal}
+use Rattle.uci_cli.specs.declared.refusal.Refusal.{Refusal}
 use Rattle.uci_tool.specs.declared.stop.Stop.{Stop}
 use Rattle.uci_tool.specs.Answers.{Changes, Carries, Writes}
 use Rattle.uci_tool.specs.Commit.{commit_package, commit_each}

@@ -3,7 +3,7 @@ use Rattle.uci_tool.specs.Import.{replaced}
 use Rattle.uci_tool.specs.Merging.{merged}
 use Rattle.uci_tool.specs.Seen.{if_ok}
 use Rattle.uci_tree.specs.declared.package.Package.{Package}
-use Rattle.uci_texts.specs.declared.refusal.Refusal.{Refusal}
+use Rattle.uci_cli.specs.declared.refusal.Refusal.{Refusal}
 use Rattle.std.proofs.Common.{Result, ap}
 use Rattle.uci_tool.proofs.StopLemmas.{images_to}
 use Rattle.uci_tool.proofs.importing.replace_by.Goals as goal

@@ -1,8 +1,8 @@
 use Rattle.uci_tool.specs.Folder.{folder_of}
 use Rattle.uci_tool.proofs.CarryLemmas.{line_front}
 use Rattle.std.proofs.Common.{◌≡◌, Option, Some, subst, rules}
-use Rattle.uci_words.specs.declared.command.Command.{Command}
-use Rattle.uci_words.specs.Command.{command_of}
+use Rattle.uci_cli.specs.declared.command.Command.{Command}
+use Rattle.uci_cli.specs.Command.{command_of}
 use Rattle.uci_tool.specs.Passes.{asked_passes}
 use Rattle.uci_tool.specs.Stops.{StaysOrStops}
 use Rattle.uci_tool.proofs.line.carry_line.Goals as goal

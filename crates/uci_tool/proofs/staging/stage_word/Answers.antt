@@ -1,5 +1,5 @@
 use Rattle.std.proofs.Common.{List, ℕ}
-use Rattle.uci_texts.specs.declared.refusal.Refusal.TheVariants.{Invalid}
+use Rattle.uci_cli.specs.declared.refusal.Refusal.TheVariants.{Invalid}
 use Rattle.uci_tool.specs.declared.stop.Stop.TheVariants.{Refused}
 use Rattle.uci_tool.specs.Folder.{folder_of}
 use Rattle.uci_tool.specs.Staging.{cut_word, stage_cut}

@@ -4,7 +4,7 @@ use Rattle.uci_tool.specs.Answers.{Answers}
 use Rattle.uci_tool.specs.Folder.{folder_of}
 use Rattle.uci_tool.specs.Texts.{changes_of}
 use Rattle.uci_delta.specs.declared.delta.Delta.{Delta}
-use Rattle.uci_texts.specs.Changes.{HaveShape, change_lines}
+use Rattle.uci_cli.specs.Changes.{HaveShape, change_lines}
 use Rattle.uci_store.specs.Store.{staged_in}
 use Rattle.uci_tool.proofs.SeenLemmas.{changes_are, changes_refused, shapes_in}
 use Rattle.uci_tool.proofs.texts.changes_of.Goals as goal

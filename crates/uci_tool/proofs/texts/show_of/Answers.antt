@@ -1,8 +1,8 @@
 use Rattle.std.proofs.Common.{Err, ap, subst, ◌∙◌, sym, List, ℕ}
 use Rattle.std.specs.Option.{ok_or}
 use Rattle.uci_tree.specs.declared.package.Package.{Package}
-use Rattle.uci_texts.specs.Show.{shown_path}
-use Rattle.uci_texts.specs.declared.refusal.Refusal.TheVariants.{NotFound}
+use Rattle.uci_cli.specs.Show.{shown_path}
+use Rattle.uci_cli.specs.declared.refusal.Refusal.TheVariants.{NotFound}
 use Rattle.uci_tool.specs.Answers.{Answers}
 use Rattle.uci_tool.specs.Seen.{seen}
 use Rattle.uci_tool.specs.Folder.{folder_of}

@@ -1,5 +1,5 @@
 use Rattle.std.proofs.Common.{Ok}
-use Rattle.uci_texts.specs.Show.{shown}
+use Rattle.uci_cli.specs.Show.{shown}
 use Rattle.uci_tool.specs.Seen.{seen}
 use Rattle.uci_tool.specs.Folder.{folder_of}
 use Rattle.uci_tool.proofs.AnswerLemmas.{stops}

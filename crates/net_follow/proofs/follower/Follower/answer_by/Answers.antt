@@ -2,8 +2,8 @@ use Rattle.std.proofs.Common.{arith, ◌≡◌, ◌≤◌, ◌<◌, [], ◌∷�
 use Rattle.net_rules.specs.declared.inputs.Inputs.{Inputs}
 use Rattle.net_rules.specs.declared.event.Event.TheVariants as event
 use Rattle.net_rules.specs.After.{changed}
-use Rattle.net_apart.proofs.EventLemmas.{history_reached}
-use Rattle.net_asked.proofs.EventLemmas.{answer_after, answer_silent}
+use Rattle.net_rules.proofs.EventLemmas.{history_reached}
+use Rattle.net_rules.proofs.TouchEventLemmas.{answer_after, answer_silent}
 use Rattle.state_asks.specs.Course.{held_of}
 use Rattle.known_inputs.specs.Known.{Known}
 use Rattle.net_reach.specs.Reach.{IsReachOf}

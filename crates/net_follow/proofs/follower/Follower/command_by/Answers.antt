@@ -1,7 +1,7 @@
 use Rattle.std.proofs.Common.{arith, ◌≤◌, ◌<◌, [], ◌∷◌, length, vec_capacity, refl, ap}
 use Rattle.net_rules.specs.declared.event.Event.TheVariants as event
 use Rattle.net_rules.specs.After.{changed}
-use Rattle.net_apart.proofs.EventLemmas.{history_reached}
+use Rattle.net_rules.proofs.EventLemmas.{history_reached}
 use Rattle.state_asks.specs.Course.{held_of}
 use Rattle.known_inputs.specs.Known.{Known}
 use Rattle.touch_laws.proofs.CommandLemmas.{follows}

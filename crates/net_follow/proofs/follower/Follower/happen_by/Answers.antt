@@ -4,7 +4,7 @@ use Rattle.net_rules.specs.declared.inputs.Inputs.{Inputs}
 use Rattle.net_rules.specs.declared.event.Event.TheVariants as event
 use Rattle.net_rules.specs.After.{changed}
 use Rattle.net_rules.proofs.RefusalLemmas.{device_may}
-use Rattle.net_apart.proofs.EventLemmas.{history_reached}
+use Rattle.net_rules.proofs.EventLemmas.{history_reached}
 use Rattle.state_asks.specs.Course.{held_of}
 use Rattle.known_inputs.specs.Known.{Known}
 use Rattle.net_reach.specs.Reach.{IsReachOf, AreTouched}

@@ -1,6 +1,6 @@
 use Rattle.std.proofs.Common.{◌≡◌, ap, sym, ◌∙◌, rules}
 use Rattle.std.specs.Prelude.{is_none}
-use Rattle.net_options.specs.Dotted.{vlan_parts}
+use Rattle.net_rows.specs.Dotted.{vlan_parts}
 use Rattle.net_rows.specs.declared.rows.NameRow.{NameRow}
 use Rattle.net_rules.specs.Rows.{is_plain_kind}
 use Rattle.net_view.proofs.PortLemmas.{row_is, row_is_none, plain_without_row}

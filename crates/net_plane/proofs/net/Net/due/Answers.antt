@@ -1,7 +1,7 @@
 use Rattle.std.proofs.Common.{ap, sym, ◌∙◌}
 use Rattle.kern_model.specs.ObjectOrder.{Objects, set_of}
 use Rattle.kern_calls.specs.Due.{due_count}
-use Rattle.calls_parts.proofs.CountLemmas.{set_of_items}
+use Rattle.kern_calls.proofs.CountLemmas.{set_of_items}
 use Rattle.net_anew.specs.Course.{held_of}
 use Rattle.net_rules.specs.Moment.{want_of}
 use Rattle.net_anew.specs.InStep.{inputs_of}

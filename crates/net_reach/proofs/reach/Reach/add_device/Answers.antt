@@ -1,4 +1,4 @@
-use Rattle.net_options.proofs.WordLemmas.{on_ok_then}
+use Rattle.net_rows.proofs.WordLemmas.{on_ok_then}
 use Rattle.net_reach.proofs.DeviceLemmas.{device_comes, devices_stay, on_err_then}
 use Rattle.net_reach.proofs.reach.Reach.add_device.Goals as goal
 

@@ -1,5 +1,5 @@
 use Rattle.std.proofs.Common.{arith, ◌≡◌, ◌<◌, ◌+◌, ℕ, List, length, get_or, take, slice_get, slice_set, Some, sym, subst}
-use Rattle.net_claims.specs.declared.state.InterfaceState.{InterfaceState}
+use Rattle.net_rules.specs.declared.state.InterfaceState.{InterfaceState}
 use Rattle.net_states.specs.Kept.{FollowBut, AreIdleAt}
 use Rattle.net_states.specs.Becoming.{idle}
 use Rattle.net_states.proofs.PlaceLemmas.{at_within, at_index, member_at, has_member}

@@ -3,8 +3,8 @@ use Rattle.net_rows.specs.declared.rows.Conf.{Conf}
 use Rattle.net_rows.specs.declared.rows.InterfaceRow.{InterfaceRow}
 use Rattle.net_rules.specs.Inputs.{facts_of}
 use Rattle.net_rules.specs.Interfaces.{is_claimed, is_up, layer_of}
-use Rattle.net_claims.specs.declared.state.InterfaceState.{InterfaceState}
-use Rattle.net_claims.proofs.MoveLemmas.{some_is}
+use Rattle.net_rules.specs.declared.state.InterfaceState.{InterfaceState}
+use Rattle.net_rules.proofs.MoveLemmas.{some_is}
 use Rattle.net_states.proofs.PlaceLemmas.{read_same}
 use Rattle.net_states.proofs.BecomeLemmas.{stands, device_noted}
 use Rattle.net_states.proofs.states.States.next_state.Goals as goal

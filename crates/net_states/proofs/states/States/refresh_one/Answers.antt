@@ -1,6 +1,6 @@
 use Rattle.std.proofs.Common.{◌≡◌, true, ap, sym, ◌∙◌}
-use Rattle.net_claims.specs.declared.state.InterfaceState.{InterfaceState}
-use Rattle.net_claims.proofs.MoveLemmas.{some_is}
+use Rattle.net_rules.specs.declared.state.InterfaceState.{InterfaceState}
+use Rattle.net_rules.proofs.MoveLemmas.{some_is}
 use Rattle.net_states.proofs.PlaceLemmas.{at_within}
 use Rattle.net_states.proofs.BecomeLemmas.{stands, can_next, follows_next, follows_idle}
 use Rattle.net_states.proofs.states.States.refresh_one.Goals as goal

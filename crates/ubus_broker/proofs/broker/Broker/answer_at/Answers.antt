@@ -1,10 +1,10 @@
 use Rattle.std.proofs.Common.{List, refl, ap}
 use Rattle.std.specs.Prelude.{remove}
-use Rattle.bus_table.specs.Table.{Table, Call}
-use Rattle.bus_lists.specs.declared.calls.OpenCall.{OpenCall}
-use Rattle.bus_lists.specs.Calls.{call_of, calls_of}
-use Rattle.bus_state.specs.State as state
-use Rattle.bus_plans.proofs.AnswerLemmas.{call_at}
+use Rattle.ubus_table.specs.Table.{Table, Call}
+use Rattle.ubus_state.specs.declared.calls.OpenCall.{OpenCall}
+use Rattle.ubus_state.specs.Calls.{call_of, calls_of}
+use Rattle.ubus_state.specs.State as state
+use Rattle.ubus_requests.proofs.AnswerLemmas.{call_at}
 use Rattle.ubus_broker.specs.Did.{table_of}
 use Rattle.ubus_broker.proofs.DidLemmas.{reply_did}
 use Rattle.ubus_broker.proofs.broker.Broker.answer_at.Goals as goal

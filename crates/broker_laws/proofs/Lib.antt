@@ -1,2 +1,0 @@
--- runs of a broker beside those of the definitions
-pub mod RanLemmas

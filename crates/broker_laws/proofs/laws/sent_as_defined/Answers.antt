@@ -1,5 +1,0 @@
-use Rattle.broker_laws.proofs.RanLemmas.{sent_alike}
-use Rattle.broker_laws.proofs.laws.sent_as_defined.Goals as goal
-
-pub returns : goal.returns
-returns c = sent_alike c.places_change_nothing.ensures

@@ -1,4 +1,0 @@
--- Runs of a broker.
-
--- calls of a broker, one after another
-pub mod Ran

@@ -1,6 +1,0 @@
-use Rattle.std.proofs.Common.{◌∙◌}
-use Rattle.bus_lists.proofs.PathLemmas.{path_there}
-use Rattle.bus_lists.proofs.object_rows.ObjectRows.has_path.Goals as goal
-
-pub returns : goal.returns
-returns c = c.contains_key.ensures ∙ path_there c.args.self.now.by_path c.args.self.now.rows.items c.args.path.now c.args.self.now.named

@@ -1,9 +1,0 @@
-use Rattle.std.proofs.Common.{ℕ, List, Option, Some, sym, subst}
-use Rattle.bus_lists.specs.Paths.{IsNoted}
-use Rattle.bus_lists.proofs.PathLemmas.{noted_at}
-use Rattle.bus_lists.proofs.paths.note_path.Goals as goal
-
-pub returns-clause-ok : goal.returns-clause-ok
-returns-clause-ok c =
-    subst (λ (path : Option (List ℕ)). IsNoted c.args.paths.now c.insert.new.self path (Some c.args.number)) (sym c.in-Some.is)
-    (noted_at c.args.paths.now c.insert.new.self c.in_ok-key.key c.in-Some.path (Some c.args.number) c.in_ok-key.ensures c.in_ok-insert.ensures.updates.0)

@@ -1,4 +1,0 @@
--- Steps of the message bus, but for places.
-
--- tables and frames without places
-pub mod Places

@@ -1,4 +1,0 @@
-pub mod PlanLemmas
-pub mod AskedLemmas
-pub mod OpenedLemmas
-pub mod AnswerLemmas

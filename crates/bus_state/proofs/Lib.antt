@@ -1,2 +1,0 @@
-pub mod LeaveLemmas
-pub mod AllLeftLemmas

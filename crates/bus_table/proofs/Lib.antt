@@ -1,9 +1,0 @@
-mod CountLemmas
-mod PlainLemmas
-mod StepLemmas
-mod MessageLemmas
-mod InvokeLemmas
-mod EventLemmas
-mod EndLemmas
-mod RunLemmas
-mod Examples

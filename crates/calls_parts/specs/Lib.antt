@@ -1,4 +1,0 @@
--- Addresses and routes, beside the objects below them.
-
--- which objects these are, and the calls of them
-pub mod Upper

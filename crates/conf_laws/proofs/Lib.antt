@@ -1,3 +1,0 @@
-pub mod DistinctLemmas
-pub mod OnceLemmas
-pub mod LimitLemmas

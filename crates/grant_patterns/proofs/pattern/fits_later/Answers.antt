@@ -1,5 +1,0 @@
-use Rattle.std.proofs.Common.{refl}
-use Rattle.grant_patterns.proofs.pattern.fits_later.Goals as goal
-
-pub loop-rest-smaller : goal.loop-rest-smaller
-loop-rest-smaller c = (c.in-Star.ensures.star c.in-Star.rest c.in-Star.left refl).shorter

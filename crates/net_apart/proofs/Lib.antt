@@ -1,4 +1,0 @@
-pub mod KnownLemmas
-pub mod SameLemmas
-pub mod DeviceLemmas
-pub mod EventLemmas

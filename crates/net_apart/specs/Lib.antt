@@ -1,4 +1,0 @@
--- Names that no row reaches.
-
--- which names rows reach
-pub mod Reach

@@ -1,6 +1,0 @@
-use Rattle.net_asked.proofs.AskedLemmas.{asked_then, others_stay}
-use Rattle.net_asked.proofs.ToldLemmas.{told_then}
-use Rattle.net_asked.proofs.laws.asks_follow_touched_needs.Goals as goal
-
-pub returns : goal.returns
-returns c = record { asked = asked_then; told = told_then; others = others_stay }

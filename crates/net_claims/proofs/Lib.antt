@@ -1,4 +1,0 @@
-pub mod PairLemmas
-pub mod MoveLemmas
-pub mod AnswerLemmas
-pub mod ClaimLemmas

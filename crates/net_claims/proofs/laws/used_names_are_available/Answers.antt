@@ -1,5 +1,0 @@
-use Rattle.net_claims.proofs.AnswerLemmas.{used_available}
-use Rattle.net_claims.proofs.laws.used_names_are_available.Goals as goal
-
-pub returns : goal.returns
-returns c = used_available

@@ -1,4 +1,0 @@
-pub mod CutLemmas
-pub mod DottedLemmas
-pub mod NumberLemmas
-pub mod WordLemmas

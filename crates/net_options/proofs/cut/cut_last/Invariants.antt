@@ -1,7 +1,0 @@
-use Rattle.std.proofs.Common.{drop}
-use Rattle.net_options.specs.Cut.{HasNone}
-use Rattle.net_options.proofs.cut.cut_last.Given as goal
-
--- the bytes from here on are others
-abbrev pub invariant-loop-at : goal.invariant-loop-at
-invariant-loop-at l = HasNone l.byte (drop l.at l.text)

@@ -1,0 +1,3 @@
+pub mod EventLemmas
+pub mod ShowLemmas
+pub mod CallLemmas

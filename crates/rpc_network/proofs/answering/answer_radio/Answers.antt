@@ -1,0 +1,16 @@
+use Rattle.net_rules.specs.declared.event.Event.TheVariants as event
+use Rattle.rpc_network.proofs.EventLemmas.{takes}
+use Rattle.step_net.proofs.EventLemmas.{same_kernel}
+use Rattle.rpc_network.proofs.answering.answer_radio.Goals as goal
+
+pub returns-clause-takes : goal.returns-clause-takes
+returns-clause-takes c =
+    takes (event.Radio c.args.radio c.args.number c.args.ports) c.args.net.now c.radio-ended.new.self
+    c.answer.new.net c.radio-ended.result c.answer.result c.radio-ended.ensures.ok
+    c.radio-ended.ensures.refused c.radio-ended.ensures.err c.requires c.answer.ensures.ends
+    c.answer.ensures.stays.0 c.answer.ensures.stays.1
+
+pub returns-clause-kernel : goal.returns-clause-kernel
+returns-clause-kernel c =
+    same_kernel c.args.net.now c.radio-ended.new.self c.answer.new.net c.radio-ended.ensures.kernel
+    c.answer.ensures.stays.0 c.answer.ensures.stays.1

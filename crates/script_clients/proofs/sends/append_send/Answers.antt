@@ -1,5 +1,0 @@
-use Rattle.bus_outbox.proofs.FitsLemmas.{fits_to}
-use Rattle.script_clients.proofs.sends.append_send.Goals as goal
-
-pub write_frame-requires : goal.write_frame-requires
-write_frame-requires c = record { fits = fits_to c.args.frame.now c.requires }

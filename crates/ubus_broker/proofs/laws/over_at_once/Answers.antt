@@ -1,0 +1,17 @@
+use Rattle.std.proofs.Common.{◌++◌, ◌∷◌, sym, ap, ◌∙◌, refl}
+use Rattle.ubus_table.specs.Table.{nobody}
+use Rattle.ubus_table.specs.Served.{frame}
+use Rattle.ubus_table.specs.Run.{after, is_over}
+use Rattle.ubus_send.specs.Fits.{fits}
+use Rattle.ubus_broker.proofs.RanLemmas.{Alike, alike, joined, same_client, same_way}
+use Rattle.ubus_broker.proofs.laws.over_at_once.Goals as goal
+
+pub returns : goal.returns
+returns c = λ acl earlier later number client message first second before now asks ran there over more.
+    let one : Alike (nobody acl) earlier first before = alike c.places_change_nothing.ensures (nobody acl) (nobody acl) earlier first before refl ran in (
+      c.sent_as_defined.ensures acl (earlier ++ frame number message ∷ later) (first ++ second) now
+          (joined (nobody acl) before now earlier (frame number message ∷ later) first second ran more),
+      c.over_at_once.ensures fits acl earlier later number client message asks
+          (sym (same_client before (after fits (nobody acl) earlier) number one.knows) ∙ there)
+          (sym (ap is_over (same_way before (after fits (nobody acl) earlier) client message one.knows)) ∙ over),
+    )

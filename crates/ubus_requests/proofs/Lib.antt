@@ -1,0 +1,5 @@
+pub mod PlanLemmas
+pub mod AskedLemmas
+pub mod OpenedLemmas
+pub mod AnswerLemmas
+pub mod WayLemmas

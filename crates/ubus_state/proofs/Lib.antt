@@ -1,0 +1,12 @@
+pub mod ListLemmas
+pub mod OrderLemmas
+pub mod CallLemmas
+pub mod RisingLemmas
+pub mod NamedLemmas
+pub mod PlaceLemmas
+pub mod PairLemmas
+pub mod SubscriptionLemmas
+pub mod ObjectLemmas
+pub mod PathLemmas
+pub mod LeaveLemmas
+pub mod AllLeftLemmas

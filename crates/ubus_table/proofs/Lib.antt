@@ -1,0 +1,10 @@
+mod CountLemmas
+mod PlainLemmas
+mod StepLemmas
+mod MessageLemmas
+mod InvokeLemmas
+mod EventLemmas
+mod EndLemmas
+mod RunLemmas
+mod Examples
+mod PlaceLemmas
