@@ -4,7 +4,6 @@ use plane_io::Text;
 use std::alloc::Global;
 use std::fs;
 use std::process::Abort;
-use std::test::Fail;
 
 fn names_are(rt: &impl Abort, disk: &DirDisk, names: &[&str]) {
     assert_eq!(rt; disk.count() as usize, names.len());
@@ -29,23 +28,29 @@ fn sizes_are(rt: &impl Abort, disk: &DirDisk, sizes: &[u64]) {
     }
 }
 
-fn texts(alloc: Global, names: &[&str]) -> Result<Vec<Text>, Fail> {
+fn texts(rt: &impl Abort, alloc: Global, names: &[&str]) -> Vec<Text> {
     let mut texts = Vec::new(alloc);
     for name in names {
-        texts.push(Text::from_bytes(alloc, name.as_bytes())?)?;
+        let text = Text::from_bytes(alloc, name.as_bytes()).ok();
+        texts
+            .push(text.expect(rt, "memory"))
+            .ok()
+            .expect(rt, "memory");
     }
-    Ok(texts)
+    texts
 }
 
+const PACKAGES: [&str; 4] = ["config/network", "config/dhcp", "config/Z-9", "config/a.b"];
+
 #[test]
-fn a_folder_is_a_disk(rt: HostRuntime) -> Result<(), Fail> {
-    let alloc = rt.alloc();
+fn a_folder_is_a_disk(rt: HostRuntime) {
     let _ = fs::remove_dir_all(&rt, "config");
-    fs::create_dir_all(&rt, "config/folder")?;
-    for path in ["config/network", "config/dhcp", "config/Z-9", "config/a.b"] {
-        fs::write(&rt, path, b"abcdef")?;
+    assert!(rt; fs::create_dir_all(&rt, "config").is_ok());
+    for path in PACKAGES {
+        assert!(rt; fs::write(&rt, path, b"abcdef").is_ok());
     }
-    let mut disk = DirDisk::open(&rt, alloc, "config")?;
+    let opened = DirDisk::open(&rt, rt.alloc(), "config");
+    let mut disk = opened.ok().expect(&rt, "a disk");
     names_are(
         &rt,
         &disk,
@@ -63,39 +68,41 @@ fn a_folder_is_a_disk(rt: HostRuntime) -> Result<(), Fail> {
     assert_eq!(rt; disk.sync(), Ok(()));
     reads(&rt, &mut disk, 3, 0, b"abcdE");
     drop(disk);
-    assert_eq!(rt;
-        fs::read(&rt, "config/dhcp")?.as_slice(),
-        b"abcdE".as_slice()
-    );
-    let mut again = DirDisk::open(&rt, alloc, "config")?;
+    let bytes = fs::read(&rt, "config/dhcp").ok().expect(&rt, "a file");
+    assert_eq!(rt; bytes.as_slice(), b"abcdE".as_slice());
+    let opened = DirDisk::open(&rt, rt.alloc(), "config");
+    let mut again = opened.ok().expect(&rt, "a disk");
     sizes_are(&rt, &again, &[2, 0, 6, 5, 6]);
     reads(&rt, &mut again, 0, 0, &[0, 0x4f]);
-    assert!(rt; DirDisk::open(&rt, alloc, "nowhere").is_err());
-    fs::remove_dir_all(&rt, "config")?;
-    Ok(())
+    reads(&rt, &mut again, 3, 0, b"abcdE");
+    let _ = fs::remove_dir_all(&rt, "config");
 }
 
 #[test]
-fn short_gates_stay_beside_a_snapshot(rt: HostRuntime) -> Result<(), Fail> {
-    let alloc = rt.alloc();
-    for (snapshot, size) in [(b"".as_slice(), 2u64), (b"body".as_slice(), 1u64)] {
-        let _ = fs::remove_dir_all(&rt, "gates");
-        fs::create_dir_all(&rt, "gates")?;
-        fs::write(&rt, "gates/.plane-gates", b"O")?;
-        fs::write(&rt, "gates/.plane-snapshot", snapshot)?;
-        let disk = DirDisk::open(&rt, alloc, "gates")?;
-        sizes_are(&rt, &disk, &[size, snapshot.len() as u64]);
-    }
-    fs::remove_dir_all(&rt, "gates")?;
-    Ok(())
+fn a_folder_that_is_not_there_is_told(rt: HostRuntime) {
+    assert!(rt; DirDisk::open(&rt, rt.alloc(), "nowhere").is_err());
 }
 
 #[test]
-fn a_staged_folder_has_the_given_names(rt: HostRuntime) -> Result<(), Fail> {
-    let alloc = rt.alloc();
+fn short_gates_stay_beside_a_snapshot(rt: HostRuntime) {
+    let _ = fs::remove_dir_all(&rt, "gates");
+    assert!(rt; fs::create_dir_all(&rt, "gates").is_ok());
+    assert!(rt; fs::write(&rt, "gates/.plane-gates", b"O").is_ok());
+    assert!(rt; fs::write(&rt, "gates/.plane-snapshot", b"body").is_ok());
+    let opened = DirDisk::open(&rt, rt.alloc(), "gates");
+    sizes_are(&rt, &opened.ok().expect(&rt, "a disk"), &[1, 4]);
+    assert!(rt; fs::write(&rt, "gates/.plane-snapshot", b"").is_ok());
+    let opened = DirDisk::open(&rt, rt.alloc(), "gates");
+    sizes_are(&rt, &opened.ok().expect(&rt, "a disk"), &[2, 0]);
+    let _ = fs::remove_dir_all(&rt, "gates");
+}
+
+#[test]
+fn a_staged_folder_has_the_given_names(rt: HostRuntime) {
     let _ = fs::remove_dir_all(&rt, "tmp");
-    let packages = texts(alloc, &["dhcp", "network"])?;
-    let mut disk = DirDisk::open_staged(&rt, alloc, "tmp/staged", &packages)?;
+    let packages = texts(&rt, rt.alloc(), &["dhcp", "network"]);
+    let opened = DirDisk::open_staged(&rt, rt.alloc(), "tmp/staged", &packages);
+    let mut disk = opened.ok().expect(&rt, "a disk");
     names_are(
         &rt,
         &disk,
@@ -104,12 +111,17 @@ fn a_staged_folder_has_the_given_names(rt: HostRuntime) -> Result<(), Fail> {
     assert!(rt; 3 < disk.count());
     assert_eq!(rt; disk.write_at(3, 0, b"abc"), Ok(()));
     drop(disk);
-    let packages = texts(alloc, &["network"])?;
-    let again = DirDisk::open_staged(&rt, alloc, "tmp/staged", &packages)?;
+    let packages = texts(&rt, rt.alloc(), &["network"]);
+    let opened = DirDisk::open_staged(&rt, rt.alloc(), "tmp/staged", &packages);
+    let again = opened.ok().expect(&rt, "a disk");
     names_are(&rt, &again, &[".plane-gates", ".plane-snapshot", "network"]);
     sizes_are(&rt, &again, &[2, 0, 3]);
-    let packages = texts(alloc, &["network", "dhcp"])?;
-    assert!(rt; DirDisk::open_staged(&rt, alloc, "tmp/staged", &packages).is_err());
-    fs::remove_dir_all(&rt, "tmp")?;
-    Ok(())
+    let _ = fs::remove_dir_all(&rt, "tmp");
+}
+
+#[test]
+fn names_that_do_not_rise_are_refused(rt: HostRuntime) {
+    let packages = texts(&rt, rt.alloc(), &["network", "dhcp"]);
+    assert!(rt; DirDisk::open_staged(&rt, rt.alloc(), "wrong/staged", &packages).is_err());
+    let _ = fs::remove_dir_all(&rt, "wrong");
 }

@@ -4,98 +4,94 @@ use plane_outside::{Clock, Hub, HubEvent};
 use std::alloc::Global;
 use std::fs;
 use std::io::{Read, Write};
-use std::net::Net;
 use std::os::unix::net::UnixStream;
-use std::rt::Files;
+use std::process::Abort;
 use std::test::Fail;
 
-/// A hub at this path, for clients of the user `root` and the group `adm`.
-fn hub<R: Files + Net>(rt: &R, alloc: Global, path: &str) -> Result<UnixHub, Fail> {
-    let _ = fs::remove_file(rt, path);
-    let user = Text::from_bytes(alloc, b"root")?;
-    let group = Text::from_bytes(alloc, b"adm")?;
-    Ok(UnixHub::bind(rt, alloc, path, user, group)?)
+/// The user or the group of the clients of a hub.
+fn text(rt: &impl Abort, alloc: Global, name: &str) -> Text {
+    Text::from_bytes(alloc, name.as_bytes())
+        .ok()
+        .expect(rt, "memory")
 }
 
-/// What an event says, as a line.
-fn told(alloc: Global, event: &HubEvent) -> Result<Vec<u8>, Fail> {
-    let mut line = Vec::new(alloc);
+/// What an event says, as words.
+fn words(event: &HubEvent) -> (&[u8], &[u8]) {
     match event {
-        HubEvent::Accepted { user, group, .. } => {
-            line.extend_from_slice(b"accepted ")?;
-            line.extend_from_slice(user.as_bytes())?;
-            line.push(b' ')?;
-            line.extend_from_slice(group.as_bytes())?;
-        }
-        HubEvent::Bytes { bytes, .. } => {
-            line.extend_from_slice(b"bytes ")?;
-            line.extend_from_slice(bytes.as_bytes())?;
-        }
-        HubEvent::Closed { .. } => line.extend_from_slice(b"closed")?,
-        HubEvent::Idle => {}
+        HubEvent::Accepted { user, group, .. } => (user.as_bytes(), group.as_bytes()),
+        HubEvent::Bytes { bytes, .. } => (b"bytes", bytes.as_bytes()),
+        HubEvent::Closed { .. } => (b"closed", b""),
+        HubEvent::Idle => (b"", b""),
     }
-    Ok(line)
+}
+
+/// The next event says this.
+fn hears(rt: &impl Abort, hub: &mut UnixHub, first: &[u8], second: &[u8]) {
+    let event = hub.next().ok().expect(rt, "an event");
+    assert_eq!(rt; words(&event), (first, second));
 }
 
 #[test]
-fn a_peer_is_served(rt: HostRuntime) -> Result<(), Fail> {
-    let alloc = rt.alloc();
-    let mut hub = hub(&rt, alloc, "hub.sock")?;
-    assert_eq!(rt; told(alloc, &hub.next()?)?.as_slice(), b"".as_slice());
-    let mut peer = UnixStream::connect(&rt, "hub.sock")?;
-    assert_eq!(rt;
-        told(alloc, &hub.next()?)?.as_slice(),
-        b"accepted root adm".as_slice()
-    );
-    assert_eq!(rt; told(alloc, &hub.next()?)?.as_slice(), b"".as_slice());
-    peer.write_all(b"abc")?;
-    assert_eq!(rt;
-        told(alloc, &hub.next()?)?.as_slice(),
-        b"bytes abc".as_slice()
-    );
+fn a_peer_is_served(rt: HostRuntime) {
+    let _ = fs::remove_file(&rt, "hub.sock");
+    let user = text(&rt, rt.alloc(), "root");
+    let group = text(&rt, rt.alloc(), "adm");
+    let bound = UnixHub::bind(&rt, rt.alloc(), "hub.sock", user, group);
+    let mut hub = bound.ok().expect(&rt, "a hub");
+    hears(&rt, &mut hub, b"", b"");
+    let mut peer = UnixStream::connect(&rt, "hub.sock")
+        .ok()
+        .expect(&rt, "a peer");
+    hears(&rt, &mut hub, b"root", b"adm");
+    hears(&rt, &mut hub, b"", b"");
+    assert!(rt; peer.write_all(b"abc").is_ok());
+    hears(&rt, &mut hub, b"bytes", b"abc");
     assert_eq!(rt; hub.send(1, b"xy"), Ok(()));
     assert_eq!(rt; hub.send(9, b"dropped"), Ok(()));
     let mut back = [0u8; 2];
-    peer.read_exact(&mut back)?;
+    assert!(rt; peer.read_exact(&mut back).is_ok());
     assert_eq!(rt; back, [b'x', b'y']);
     drop(peer);
-    assert_eq!(rt; told(alloc, &hub.next()?)?.as_slice(), b"closed".as_slice());
-    assert_eq!(rt; told(alloc, &hub.next()?)?.as_slice(), b"".as_slice());
-    fs::remove_file(&rt, "hub.sock")?;
-    Ok(())
+    hears(&rt, &mut hub, b"closed", b"");
+    hears(&rt, &mut hub, b"", b"");
+    let _ = fs::remove_file(&rt, "hub.sock");
 }
 
 #[test]
-fn a_peer_that_closed_is_no_fault(rt: HostRuntime) -> Result<(), Fail> {
-    let alloc = rt.alloc();
-    let mut hub = hub(&rt, alloc, "gone.sock")?;
-    let peer = UnixStream::connect(&rt, "gone.sock")?;
-    assert_eq!(rt;
-        told(alloc, &hub.next()?)?.as_slice(),
-        b"accepted root adm".as_slice()
-    );
+fn a_peer_that_closed_is_no_fault(rt: HostRuntime) {
+    let _ = fs::remove_file(&rt, "gone.sock");
+    let user = text(&rt, rt.alloc(), "root");
+    let group = text(&rt, rt.alloc(), "adm");
+    let bound = UnixHub::bind(&rt, rt.alloc(), "gone.sock", user, group);
+    let mut hub = bound.ok().expect(&rt, "a hub");
+    let peer = UnixStream::connect(&rt, "gone.sock")
+        .ok()
+        .expect(&rt, "a peer");
+    hears(&rt, &mut hub, b"root", b"adm");
     drop(peer);
     assert_eq!(rt; hub.send(1, b"dropped"), Ok(()));
-    assert_eq!(rt; told(alloc, &hub.next()?)?.as_slice(), b"closed".as_slice());
-    assert_eq!(rt; told(alloc, &hub.next()?)?.as_slice(), b"".as_slice());
-    fs::remove_file(&rt, "gone.sock")?;
-    Ok(())
+    hears(&rt, &mut hub, b"closed", b"");
+    hears(&rt, &mut hub, b"", b"");
+    let _ = fs::remove_file(&rt, "gone.sock");
 }
 
 #[test]
-fn a_peer_that_takes_nothing_has_closed(rt: HostRuntime) -> Result<(), Fail> {
-    let alloc = rt.alloc();
-    let mut hub = hub(&rt, alloc, "slow.sock")?;
-    let _peer = UnixStream::connect(&rt, "slow.sock")?;
-    assert_eq!(rt;
-        told(alloc, &hub.next()?)?.as_slice(),
-        b"accepted root adm".as_slice()
-    );
-    let bytes = vec![in alloc; 7u8; 4_000_000]?;
+fn a_peer_that_takes_nothing_has_closed(rt: HostRuntime) {
+    let _ = fs::remove_file(&rt, "slow.sock");
+    let user = text(&rt, rt.alloc(), "root");
+    let group = text(&rt, rt.alloc(), "adm");
+    let bound = UnixHub::bind(&rt, rt.alloc(), "slow.sock", user, group);
+    let mut hub = bound.ok().expect(&rt, "a hub");
+    let _peer = UnixStream::connect(&rt, "slow.sock")
+        .ok()
+        .expect(&rt, "a peer");
+    hears(&rt, &mut hub, b"root", b"adm");
+    let bytes = vec![in rt.alloc(); 7u8; 4_000_000]
+        .ok()
+        .expect(&rt, "memory");
     assert_eq!(rt; hub.send(1, &bytes), Ok(()));
-    assert_eq!(rt; told(alloc, &hub.next()?)?.as_slice(), b"closed".as_slice());
-    fs::remove_file(&rt, "slow.sock")?;
-    Ok(())
+    hears(&rt, &mut hub, b"closed", b"");
+    let _ = fs::remove_file(&rt, "slow.sock");
 }
 
 #[test]
