@@ -5,7 +5,8 @@ ghost use Rattle.net_addr.specs.declared.address.Addr.{Addr};
 ghost use Rattle.net_rules.specs.declared.answer.Answer.{Answer};
 ghost use Rattle.net_rules.specs.declared.answer.AnswerRoute.{AnswerRoute};
 ghost use Rattle.answer_json.specs.Members.{IsOptional, IsOr, IsArray};
-ghost use Rattle.answer_json.specs.AnswerJson.{IsDevice, IsAddress, IsPrefix, IsMetric, IsRoute, IsAnswer};
+ghost use Rattle.answer_json.specs.AnswerJson.{IsDevice, IsAddress, IsPrefix, IsMetric, IsRoute};
+ghost use Rattle.answer_json.specs.AnswerJson.{IsAnswer};
 
 use kern_model::{DevName, read_name};
 use net_addr::{Addr, Cidr, read_addr, read_cidr};
@@ -14,8 +15,8 @@ use plane_io::{Items, Memory};
 use serde_json::Value;
 use std::alloc::Global;
 
-/// The answer of the handler of an interface: an object with the member `up`, and perhaps `device`, `addresses` and
-/// `routes`. `None` where it is no answer. Other members are passed over.
+/// The answer of the handler of an interface: an object with the member `up`, and perhaps `device`,
+/// `addresses` and `routes`. `None` where it is no answer. Other members are passed over.
 ///
 /// # Errors
 ///

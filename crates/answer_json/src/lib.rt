@@ -1,4 +1,5 @@
-//! The answers of handlers of protocols and radios, read from JSON (the keys of netifd's `notify_proto`).
+//! The answers of handlers of protocols and radios, read from JSON (the keys of netifd's
+//! `notify_proto`).
 #![tactic(auto)]
 
 mod answer_json;

@@ -9,8 +9,9 @@ use plane_io::{Items, Memory};
 use serde_json::Value;
 use std::alloc::Global;
 
-/// The answer of the handler of a radio: an object with the member `ports`, an array with the name of a device or
-/// `null` for each of its sections. `None` where it is no answer. Other members are passed over.
+/// The answer of the handler of a radio: an object with the member `ports`, an array with the name
+/// of a device or `null` for each of its sections. `None` where it is no answer. Other members are
+/// passed over.
 ///
 /// # Errors
 ///

@@ -1,7 +1,8 @@
 ghost use Rattle.std.specs.Prelude.{◌≡◌, IfOk, filter, not};
 ghost use Rattle.serde_json.specs.View.{view};
 ghost use Rattle.serde_json.specs.Written.{compact_text};
-ghost use Rattle.ask_lines.specs.OptionData.{texts_data, value_data, options_data, rows_data, radio_data};
+ghost use Rattle.ask_lines.specs.OptionData.{texts_data, value_data, options_data, rows_data};
+ghost use Rattle.ask_lines.specs.OptionData.{radio_data};
 
 use blob_codec::json_string;
 use net_rows::{RadioRow, WifiRow};
@@ -10,8 +11,8 @@ use serde_json::{Map, Value, json};
 use std::alloc::Global;
 use uci_tree::{Opt, Value as OptionValue};
 
-/// The options as the text of a JSON object: a single value is a string, and a list an array of strings. Bytes that
-/// are no UTF-8 are given as the characters of their numbers.
+/// The options as the text of a JSON object: a single value is a string, and a list an array of
+/// strings. Bytes that are no UTF-8 are given as the characters of their numbers.
 ///
 /// # Errors
 ///
@@ -23,8 +24,8 @@ pub fn options_text(alloc: Global, options: &[Opt]) -> Result<Vec<u8>, Memory>
     Ok(value.to_vec(alloc)?)
 }
 
-/// What the handler of a radio is shown, as JSON text: `config`, the options of the radio, and `interfaces`, those of
-/// each of its enabled sections in file order.
+/// What the handler of a radio is shown, as JSON text: `config`, the options of the radio, and
+/// `interfaces`, those of each of its enabled sections in file order.
 ///
 /// # Errors
 ///
@@ -76,7 +77,8 @@ fn radio_json(alloc: Global, radio: &RadioRow) -> Result<Value, Memory>
 }
 
 fn rows_json(alloc: Global, rows: &[WifiRow]) -> Result<Value, Memory>
-    ensures { IfOk result (λ json. view json ≡ rows_data (filter (λ row. not row.disabled) rows.now)) }
+    ensures { IfOk result (λ json. view json
+        ≡ rows_data (filter (λ row. not row.disabled) rows.now)) }
 {
     let mut items = Vec::new(alloc);
     for row in rows {

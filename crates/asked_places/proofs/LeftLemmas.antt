@@ -56,7 +56,8 @@ left_more inputs done place =
     let now = facts_of (left_at inputs done) in
     ap (λ (os : List OpenInterface). let after : Inputs = record inputs { interfaces = os } in after)
     (filter_twice (λ (o : OpenInterface). not (is_touched rows (place ∷ []) o.ask.name) || is_needed now o) (λ (o : OpenInterface). not (is_touched rows done o.ask.name) || is_needed facts o) inputs.interfaces
-    ∙ filter_agree (λ (o : OpenInterface). (not (is_touched rows (place ∷ []) o.ask.name) || is_needed now o) && (not (is_touched rows done o.ask.name) || is_needed facts o)) (λ (o : OpenInterface). not (is_touched rows (done ++ place ∷ []) o.ask.name) || is_needed facts o)
+    ∙ filter_agree (λ (o : OpenInterface). (not (is_touched rows (place ∷ []) o.ask.name) || is_needed now o) && (not (is_touched rows done o.ask.name) || is_needed facts o))
+    (λ (o : OpenInterface). not (is_touched rows (done ++ place ∷ []) o.ask.name) || is_needed facts o)
     (λ o.
     ap (λ n. (not (is_touched rows (place ∷ []) o.ask.name) || n) && (not (is_touched rows done o.ask.name) || is_needed facts o)) (needed_same facts now.answer o)
     ∙ both_left (is_touched rows done o.ask.name) (is_touched rows (place ∷ []) o.ask.name) (is_needed facts o)
@@ -74,7 +75,9 @@ lost_still inputs done place other = by (slice_get inputs.conf.interfaces place)
     rows : List InterfaceRow
     rows = inputs.conf.interfaces
 
-    first : (row : InterfaceRow) → slice_get inputs.conf.interfaces place ≡ Some row → (b : Bool) → is_first inputs.conf.interfaces place row.name ≡ b → cond {A = Option ℕ} b (lost_number (facts_of (left_at inputs done)) (open_interface (left_at inputs done).interfaces row.name)) None ≡ cond {A = Option ℕ} b (lost_number (facts_of inputs) (open_interface inputs.interfaces row.name)) None
+    first : (row : InterfaceRow) → slice_get inputs.conf.interfaces place ≡ Some row → (b : Bool) → is_first inputs.conf.interfaces place row.name ≡ b
+        → cond {A = Option ℕ} b (lost_number (facts_of (left_at inputs done)) (open_interface (left_at inputs done).interfaces row.name)) None
+        ≡ cond {A = Option ℕ} b (lost_number (facts_of inputs) (open_interface inputs.interfaces row.name)) None
     first row at true is =
         let off : is_touched inputs.conf.interfaces done row.name ≡ false = ap (λ (o : Option ℕ). option_map_or (has done) o false) (place_of_first inputs.conf.interfaces place row at is) ∙ other in
         lost_same (facts_of inputs) (facts_of (left_at inputs done)).answer (open_interface (left_at inputs done).interfaces row.name)

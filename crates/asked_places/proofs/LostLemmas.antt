@@ -21,7 +21,8 @@ use Rattle.asked_places.specs.Losing.{lost_number, lost_row, lost_at, left_at}
 use Rattle.asked_places.proofs.PlaceLemmas.{place_of_first, first_at_place, touched_one, touches_one}
 
 -- what is lost at the place of a first row
-pub lost_of_row : (inputs : Inputs) (place : ℕ) (row : InterfaceRow) → slice_get inputs.conf.interfaces place ≡ Some row → is_first inputs.conf.interfaces place row.name ≡ true → lost_at inputs place ≡ lost_number (facts_of inputs) (open_interface inputs.interfaces row.name)
+pub lost_of_row : (inputs : Inputs) (place : ℕ) (row : InterfaceRow) → slice_get inputs.conf.interfaces place ≡ Some row → is_first inputs.conf.interfaces place row.name ≡ true → lost_at inputs place
+    ≡ lost_number (facts_of inputs) (open_interface inputs.interfaces row.name)
 lost_of_row inputs place row at first =
     ap (option_and_then (lost_row inputs place)) at
     ∙ ap (λ b. cond {A = Option ℕ} b (lost_number (facts_of inputs) (open_interface inputs.interfaces row.name)) None) first
@@ -34,7 +35,8 @@ module _ (inputs : Inputs) (once : StandOnce inputs) where
   pub one_of_number : (a b : OpenInterface) → Contains inputs.interfaces a → Contains inputs.interfaces b → a.number ≡ b.number → a ≡ b
   one_of_number a b first second same = some_is a b (sym (found_numbered inputs a once first) ∙ ap (ask_of inputs) same ∙ found_numbered inputs b once second)
 
-  module _ (place : ℕ) (row : InterfaceRow) (o : OpenInterface) (at : slice_get inputs.conf.interfaces place ≡ Some row) (first : is_first inputs.conf.interfaces place row.name ≡ true) (member : Contains inputs.interfaces o) (named : o.ask.name ≡ row.name) (needless : is_needed (facts_of inputs) o ≡ false) where
+  module _ (place : ℕ) (row : InterfaceRow) (o : OpenInterface) (at : slice_get inputs.conf.interfaces place ≡ Some row) (first : is_first inputs.conf.interfaces place row.name ≡ true) (member : Contains inputs.interfaces o)
+      (named : o.ask.name ≡ row.name) (needless : is_needed (facts_of inputs) o ≡ false) where
     abbrev rows : List InterfaceRow
     rows = inputs.conf.interfaces
 

@@ -52,15 +52,19 @@ one_more inputs (Some ask) asks =
     ∙ ap (λ n. let now : Inputs = record inputs { interfaces = inputs.interfaces ++ x ∷ opened_interfaces (inputs.next + 1) asks; next = n } in now) count
 
 -- the name of what is opened at a place
-opened_named : (inputs : Inputs) (place : ℕ) (ask : InterfaceAsk) → opened_at inputs place ≡ Some ask → (row : InterfaceRow) × (slice_get inputs.conf.interfaces place ≡ Some row) × (is_first inputs.conf.interfaces place row.name ≡ true) × (ask.name ≡ row.name)
+opened_named : (inputs : Inputs) (place : ℕ) (ask : InterfaceAsk) → opened_at inputs place ≡ Some ask → (row : InterfaceRow) × (slice_get inputs.conf.interfaces place ≡ Some row) × (is_first inputs.conf.interfaces place row.name ≡ true)
+    × (ask.name ≡ row.name)
 opened_named inputs place ask h = by (slice_get inputs.conf.interfaces place) refl h
   where
-    test : (row : InterfaceRow) → slice_get inputs.conf.interfaces place ≡ Some row → (first none : Bool) → is_first inputs.conf.interfaces place row.name ≡ first → cond {A = Option InterfaceAsk} (first && none) (interface_need (facts_of inputs) row) None ≡ Some ask → (row : InterfaceRow) × (slice_get inputs.conf.interfaces place ≡ Some row) × (is_first inputs.conf.interfaces place row.name ≡ true) × (ask.name ≡ row.name)
+    test : (row : InterfaceRow) → slice_get inputs.conf.interfaces place ≡ Some row → (first none : Bool) → is_first inputs.conf.interfaces place row.name ≡ first
+        → cond {A = Option InterfaceAsk} (first && none) (interface_need (facts_of inputs) row) None ≡ Some ask → (row : InterfaceRow) × (slice_get inputs.conf.interfaces place ≡ Some row)
+        × (is_first inputs.conf.interfaces place row.name ≡ true) × (ask.name ≡ row.name)
     test row at true true is h = (row, at, is, interface_named_as (facts_of inputs) row ask h)
     test row at true false is h = cc h
     test row at false none is h = cc h
 
-    by : (found : Option InterfaceRow) → slice_get inputs.conf.interfaces place ≡ found → option_and_then (opened_row inputs place) found ≡ Some ask → (row : InterfaceRow) × (slice_get inputs.conf.interfaces place ≡ Some row) × (is_first inputs.conf.interfaces place row.name ≡ true) × (ask.name ≡ row.name)
+    by : (found : Option InterfaceRow) → slice_get inputs.conf.interfaces place ≡ found → option_and_then (opened_row inputs place) found ≡ Some ask → (row : InterfaceRow) × (slice_get inputs.conf.interfaces place ≡ Some row)
+        × (is_first inputs.conf.interfaces place row.name ≡ true) × (ask.name ≡ row.name)
     by None at h = cc h
     by (Some row) at h = test row at (is_first inputs.conf.interfaces place row.name) (is_none (open_interface inputs.interfaces row.name)) refl h
 
@@ -93,7 +97,9 @@ opened_still inputs p q less = with_one (opened_at inputs p) refl
             let place : p ≡ q = some_is p q (sym (place_of_first inputs.conf.interfaces p named.0 named.1 named.2) ∙ ap (place_of (names_of_rows inputs.conf.interfaces)) same ∙ place_of_first inputs.conf.interfaces q row at first) in
             absurd (omega (arith, less, place)))
 
-        test : (row : InterfaceRow) → slice_get inputs.conf.interfaces q ≡ Some row → (first : Bool) → is_first inputs.conf.interfaces q row.name ≡ first → cond {A = Option InterfaceAsk} (first && is_none (open_interface (inputs.interfaces ++ x ∷ []) row.name)) (interface_need (facts_of (with_ask inputs ask)) row) None ≡ cond {A = Option InterfaceAsk} (first && is_none (open_interface inputs.interfaces row.name)) (interface_need (facts_of inputs) row) None
+        test : (row : InterfaceRow) → slice_get inputs.conf.interfaces q ≡ Some row → (first : Bool) → is_first inputs.conf.interfaces q row.name ≡ first
+            → cond {A = Option InterfaceAsk} (first && is_none (open_interface (inputs.interfaces ++ x ∷ []) row.name)) (interface_need (facts_of (with_ask inputs ask)) row) None
+            ≡ cond {A = Option InterfaceAsk} (first && is_none (open_interface inputs.interfaces row.name)) (interface_need (facts_of inputs) row) None
         test row at true first =
             ap (λ (o : Option OpenInterface). cond {A = Option InterfaceAsk} (is_none o) (interface_need (facts_of (with_ask inputs ask)) row) None) (found_still inputs.interfaces x row.name (other row at first))
             ∙ ap (λ (need : Option InterfaceAsk). cond {A = Option InterfaceAsk} (is_none (open_interface inputs.interfaces row.name)) need None) (same_need (facts_of inputs) (facts_of (with_ask inputs ask)).answer row)
@@ -130,7 +136,8 @@ opened_all inputs least bound (p ∷ ps) rising =
     ∙ one_more inputs (opened_at inputs p) (filter_map (opened_at inputs) ps)
 
 -- what is told of them
-told_more : (conf : Conf) (inputs : Inputs) (o : Option InterfaceAsk) (asks : List InterfaceAsk) → map (interface_notice conf) (opened_interfaces inputs.next (option_to_list o)) ++ map (interface_notice conf) (opened_interfaces (with_opened inputs o).next asks) ≡ map (interface_notice conf) (opened_interfaces inputs.next (cons_option o asks))
+told_more : (conf : Conf) (inputs : Inputs) (o : Option InterfaceAsk) (asks : List InterfaceAsk) → map (interface_notice conf) (opened_interfaces inputs.next (option_to_list o))
+    ++ map (interface_notice conf) (opened_interfaces (with_opened inputs o).next asks) ≡ map (interface_notice conf) (opened_interfaces inputs.next (cons_option o asks))
 told_more conf inputs None asks = refl
 told_more conf inputs (Some ask) asks = refl
 
@@ -165,7 +172,8 @@ module _ (inputs : Inputs) where
   abbrev need_of : InterfaceRow → List InterfaceAsk
   need_of row = cond {A = List InterfaceAsk} (is_none (open_interface inputs.interfaces row.name)) (option_to_list (interface_need (facts_of inputs) row)) []
 
-  filtered_need : (row : InterfaceRow) (o : Option InterfaceAsk) (rest : List InterfaceAsk) → interface_need (facts_of inputs) row ≡ o → filter free_ask (cons_option o rest) ≡ cond {A = List InterfaceAsk} (is_none (open_interface inputs.interfaces row.name)) (option_to_list o) [] ++ filter free_ask rest
+  filtered_need : (row : InterfaceRow) (o : Option InterfaceAsk) (rest : List InterfaceAsk) → interface_need (facts_of inputs) row ≡ o → filter free_ask (cons_option o rest)
+      ≡ cond {A = List InterfaceAsk} (is_none (open_interface inputs.interfaces row.name)) (option_to_list o) [] ++ filter free_ask rest
   filtered_need row None rest is = none (is_none (open_interface inputs.interfaces row.name))
     where
       none : (b : Bool) → filter free_ask rest ≡ cond {A = List InterfaceAsk} b [] [] ++ filter free_ask rest
@@ -193,7 +201,8 @@ module _ (inputs : Inputs) where
       ap (λ (o : Option InterfaceRow). option_to_list (option_and_then (opened_row inputs place) o)) at
       ∙ by (is_first inputs.conf.interfaces place row.name) (is_none (open_interface inputs.interfaces row.name))
     where
-      by : (first none : Bool) → option_to_list (cond {A = Option InterfaceAsk} (first && none) (interface_need (facts_of inputs) row) None) ≡ cond {A = List InterfaceAsk} first (cond {A = List InterfaceAsk} none (option_to_list (interface_need (facts_of inputs) row)) []) []
+      by : (first none : Bool) → option_to_list (cond {A = Option InterfaceAsk} (first && none) (interface_need (facts_of inputs) row) None)
+          ≡ cond {A = List InterfaceAsk} first (cond {A = List InterfaceAsk} none (option_to_list (interface_need (facts_of inputs) row)) []) []
       by true true = refl
       by true false = refl
       by false none = refl
@@ -207,7 +216,8 @@ module _ (inputs : Inputs) where
     swapped true first row = refl
     swapped false first row = refl
 
-    named_first : (i : ℕ) (row : InterfaceRow) → slice_get inputs.conf.interfaces i ≡ Some row → (first : Bool) → is_first inputs.conf.interfaces i row.name ≡ first → (has places i && first) ≡ (is_touched inputs.conf.interfaces places row.name && first)
+    named_first : (i : ℕ) (row : InterfaceRow) → slice_get inputs.conf.interfaces i ≡ Some row → (first : Bool) → is_first inputs.conf.interfaces i row.name ≡ first → (has places i && first)
+        ≡ (is_touched inputs.conf.interfaces places row.name && first)
     named_first i row at true is = ap (λ b. b && true) (sym (ap (λ (o : Option ℕ). option_map_or (has places) o false) (place_of_first inputs.conf.interfaces i row at is)))
     named_first i row at false is = never (has places i) (is_touched inputs.conf.interfaces places row.name)
       where
@@ -217,7 +227,8 @@ module _ (inputs : Inputs) where
         never false true = refl
         never false false = refl
 
-    give_as : (i : ℕ) (row : InterfaceRow) (k : ℕ) → slice_get inputs.conf.interfaces i ≡ Some row → slice_get (range 0 (length inputs.conf.interfaces)) i ≡ Some k → beside (row, k) ≡ cond {A = List InterfaceAsk} (is_touched inputs.conf.interfaces places row.name && not (list_any (λ (y : InterfaceRow). bytes_eq y.name row.name) (take i inputs.conf.interfaces))) (need_of row) []
+    give_as : (i : ℕ) (row : InterfaceRow) (k : ℕ) → slice_get inputs.conf.interfaces i ≡ Some row → slice_get (range 0 (length inputs.conf.interfaces)) i ≡ Some k → beside (row, k)
+        ≡ cond {A = List InterfaceAsk} (is_touched inputs.conf.interfaces places row.name && not (list_any (λ (y : InterfaceRow). bytes_eq y.name row.name) (take i inputs.conf.interfaces))) (need_of row) []
     give_as i row k at here_is =
         let same : k ≡ i = range_at 0 (length inputs.conf.interfaces) i k here_is ∙ omega arith in
         ap (λ n. beside (row, n)) same

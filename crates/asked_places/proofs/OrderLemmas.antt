@@ -80,7 +80,8 @@ pub record IsLostAt (inputs : Inputs) (place n : ℕ) : Type 0 where
 pub lost_is : (inputs : Inputs) (place n : ℕ) → lost_at inputs place ≡ Some n → IsLostAt inputs place n
 lost_is inputs place n h = by (slice_get inputs.conf.interfaces place) refl h
   where
-    of_ask : (row : InterfaceRow) → slice_get inputs.conf.interfaces place ≡ Some row → is_first inputs.conf.interfaces place row.name ≡ true → (found : Option OpenInterface) → open_interface inputs.interfaces row.name ≡ found → lost_number (facts_of inputs) found ≡ Some n → IsLostAt inputs place n
+    of_ask : (row : InterfaceRow) → slice_get inputs.conf.interfaces place ≡ Some row → is_first inputs.conf.interfaces place row.name ≡ true → (found : Option OpenInterface) → open_interface inputs.interfaces row.name ≡ found
+        → lost_number (facts_of inputs) found ≡ Some n → IsLostAt inputs place n
     of_ask row at first None found h = cc h
     of_ask row at first (Some o) found h = needless (is_needed (facts_of inputs) o) refl h
       where
@@ -90,7 +91,8 @@ lost_is inputs place n h = by (slice_get inputs.conf.interfaces place) refl h
             let there = found_member (λ (x : OpenInterface). x.ask.name) inputs.interfaces row.name o found in
             record { row = row; at = at; first = first; asked = o; member = there.member; named = there.same; needless = is; number = some_is o.number n h }
 
-    of_row : (row : InterfaceRow) → slice_get inputs.conf.interfaces place ≡ Some row → (b : Bool) → is_first inputs.conf.interfaces place row.name ≡ b → cond {A = Option ℕ} b (lost_number (facts_of inputs) (open_interface inputs.interfaces row.name)) None ≡ Some n → IsLostAt inputs place n
+    of_row : (row : InterfaceRow) → slice_get inputs.conf.interfaces place ≡ Some row → (b : Bool) → is_first inputs.conf.interfaces place row.name ≡ b
+        → cond {A = Option ℕ} b (lost_number (facts_of inputs) (open_interface inputs.interfaces row.name)) None ≡ Some n → IsLostAt inputs place n
     of_row row at true is h = of_ask row at is (open_interface inputs.interfaces row.name) refl h
     of_row row at false is h = cc h
 
@@ -118,7 +120,8 @@ module _ (inputs : Inputs) (once : StandOnce inputs) (places : List ℕ) where
   lost_here n h =
       let from = from_filter_map (lost_at inputs) places n h in
       let lost = lost_is inputs from.source n from.gives in
-      let place : place_of (names_of_rows inputs.conf.interfaces) lost.asked.ask.name ≡ Some from.source = ap (place_of (names_of_rows inputs.conf.interfaces)) lost.named ∙ place_of_first inputs.conf.interfaces from.source lost.row lost.at lost.first in
+      let place : place_of (names_of_rows inputs.conf.interfaces) lost.asked.ask.name ≡ Some from.source = ap (place_of (names_of_rows inputs.conf.interfaces)) lost.named
+      ∙ place_of_first inputs.conf.interfaces from.source lost.row lost.at lost.first in
       let on : touched lost.asked.ask.name ≡ true = ap (λ (o : Option ℕ). option_map_or (has places) o false) place ∙ has_member places from.source from.member in
       let passes : is_lost lost.asked ≡ true = of_both (touched lost.asked.ask.name) (not (is_needed (facts_of inputs) lost.asked)) on (ap not lost.needless) in
       subst (Contains (lost_numbers (facts_of inputs) touched inputs.interfaces)) lost.number
@@ -133,7 +136,8 @@ module _ (inputs : Inputs) (once : StandOnce inputs) (places : List ℕ) where
       let needless : is_needed (facts_of inputs) o ≡ false = false_of_not (is_needed (facts_of inputs) o) (λ yes. not_true (is_needed (facts_of inputs) o) parts.1 yes) in
       by o member needless (place_of (names_of_rows inputs.conf.interfaces) o.ask.name) refl parts.0 from.same
     where
-      by : (o : OpenInterface) → Contains inputs.interfaces o → is_needed (facts_of inputs) o ≡ false → (found : Option ℕ) → place_of (names_of_rows inputs.conf.interfaces) o.ask.name ≡ found → option_map_or (has places) found false ≡ true → o.number ≡ n → Contains (lost_at_places inputs places) n
+      by : (o : OpenInterface) → Contains inputs.interfaces o → is_needed (facts_of inputs) o ≡ false → (found : Option ℕ) → place_of (names_of_rows inputs.conf.interfaces) o.ask.name ≡ found → option_map_or (has places) found false ≡ true
+          → o.number ≡ n → Contains (lost_at_places inputs places) n
       by o member needless None at on same = cc on
       by o member needless (Some p) at on same =
           let there = first_at_place inputs.conf.interfaces o.ask.name p at in

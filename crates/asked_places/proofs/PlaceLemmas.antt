@@ -28,7 +28,8 @@ place_of_first (r ∷ rs) zero row at first =
     ∙ ap (λ b. behind b (place_of (names_of_rows rs) row.name)) (same_bytes r.name row.name same)
 place_of_first (r ∷ rs) (suc k) row at first = by (bytes_eq r.name row.name) refl first (λ h. place_of_first rs k row at h)
   where
-    by : (b : Bool) → bytes_eq r.name row.name ≡ b → not (b || list_any (λ x. bytes_eq x.name row.name) (take k rs)) ≡ true → (not (list_any (λ x. bytes_eq x.name row.name) (take k rs)) ≡ true → place_of (names_of_rows rs) row.name ≡ Some k) → place_of (names_of_rows (r ∷ rs)) row.name ≡ Some (suc k)
+    by : (b : Bool) → bytes_eq r.name row.name ≡ b → not (b || list_any (λ x. bytes_eq x.name row.name) (take k rs)) ≡ true
+        → (not (list_any (λ x. bytes_eq x.name row.name) (take k rs)) ≡ true → place_of (names_of_rows rs) row.name ≡ Some k) → place_of (names_of_rows (r ∷ rs)) row.name ≡ Some (suc k)
     by true is h rest = cc h
     by false is h rest =
         place_cons r rs row.name
@@ -47,7 +48,8 @@ pub first_at_place : (rows : List InterfaceRow) (name : List ℕ) (place : ℕ) 
 first_at_place [] name place is = cc is
 first_at_place (r ∷ rs) name place is = by (bytes_eq r.name name) (place_of (names_of_rows rs) name) refl refl (sym (place_cons r rs name) ∙ is) (λ k at. first_at_place rs name k at)
   where
-    by : (b : Bool) (rest : Option ℕ) → bytes_eq r.name name ≡ b → place_of (names_of_rows rs) name ≡ rest → behind b rest ≡ Some place → ((k : ℕ) → place_of (names_of_rows rs) name ≡ Some k → StandsAt rs k name) → StandsAt (r ∷ rs) place name
+    by : (b : Bool) (rest : Option ℕ) → bytes_eq r.name name ≡ b → place_of (names_of_rows rs) name ≡ rest → behind b rest ≡ Some place → ((k : ℕ) → place_of (names_of_rows rs) name ≡ Some k → StandsAt rs k name)
+        → StandsAt (r ∷ rs) place name
     by true rest same at h further =
         let zero_is : 0 ≡ place = some_is 0 place h in
         subst (λ k. StandsAt (r ∷ rs) k name) zero_is (record { row = r; at = refl; named = bytes_same r.name name same; first = refl })

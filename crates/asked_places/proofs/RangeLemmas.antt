@@ -55,7 +55,8 @@ rising_range from (suc n) (p ∷ ps) rising = by (from == p) refl (λ others. ri
     high : p < from + suc n
     high = rising.1
 
-    by : (b : Bool) → (from == p) ≡ b → (AreRising (suc from) (suc from + n) ps → filter (has ps) (range (suc from) n) ≡ ps) → (AreRising (suc from) (suc from + n) (p ∷ ps) → filter (has (p ∷ ps)) (range (suc from) n) ≡ p ∷ ps) → cond (b || has ps from) (from ∷ filter (has (p ∷ ps)) (range (suc from) n)) (filter (has (p ∷ ps)) (range (suc from) n)) ≡ p ∷ ps
+    by : (b : Bool) → (from == p) ≡ b → (AreRising (suc from) (suc from + n) ps → filter (has ps) (range (suc from) n) ≡ ps) → (AreRising (suc from) (suc from + n) (p ∷ ps) → filter (has (p ∷ ps)) (range (suc from) n) ≡ p ∷ ps)
+        → cond (b || has ps from) (from ∷ filter (has (p ∷ ps)) (range (suc from) n)) (filter (has (p ∷ ps)) (range (suc from) n)) ≡ p ∷ ps
     by true is shorter same =
         let here : from ≡ p = (Decides-eqb from p).0 is in
         let next : p + 1 ≡ suc from = omega (arith, here) in

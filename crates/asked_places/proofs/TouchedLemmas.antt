@@ -15,13 +15,15 @@ use Rattle.asked_places.specs.Losing.{left_at}
 use Rattle.asked_places.specs.Opening.{opened_at}
 use Rattle.asked_places.proofs.OpenLemmas.{opened_are}
 
-needs_same : (inputs now : Inputs) → ((row : InterfaceRow) → interface_need (facts_of now) row ≡ interface_need (facts_of inputs) row) → (rows : List InterfaceRow) → filter_map (interface_need (facts_of now)) rows ≡ filter_map (interface_need (facts_of inputs)) rows
+needs_same : (inputs now : Inputs) → ((row : InterfaceRow) → interface_need (facts_of now) row ≡ interface_need (facts_of inputs) row) → (rows : List InterfaceRow) → filter_map (interface_need (facts_of now)) rows
+    ≡ filter_map (interface_need (facts_of inputs)) rows
 needs_same inputs now same [] = refl
 needs_same inputs now same (row ∷ rows) =
     ap (λ (o : Option InterfaceAsk). cons_option o (filter_map (interface_need (facts_of now)) rows)) (same row)
     ∙ ap (cons_option (interface_need (facts_of inputs) row)) (needs_same inputs now same rows)
 
-pub opened_touched : (inputs : Inputs) (places : List ℕ) → AreRising 0 (length inputs.conf.interfaces) places → filter_map (opened_at (left_at inputs places)) places ≡ touched_asks inputs (is_touched inputs.conf.interfaces places) (left_at inputs places).interfaces
+pub opened_touched : (inputs : Inputs) (places : List ℕ) → AreRising 0 (length inputs.conf.interfaces) places → filter_map (opened_at (left_at inputs places)) places
+    ≡ touched_asks inputs (is_touched inputs.conf.interfaces places) (left_at inputs places).interfaces
 opened_touched inputs places rising =
     let now = left_at inputs places in
     opened_are now places rising

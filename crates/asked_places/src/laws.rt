@@ -1,5 +1,7 @@
 // Laws of the definitions. Each body is empty, and the contract is the law.
-ghost use Rattle.std.specs.Prelude.{◌≡◌, ◌<◌, ◌↔◌, ◌==◌, ◌++◌, [], ◌∷◌, ℕ, List, None, Some, Contains, fold, length, map, option_to_list, slice_get, true, false};
+ghost use Rattle.std.specs.Prelude.{◌≡◌, ◌<◌, ◌↔◌, ◌==◌, ◌++◌, [], ◌∷◌, ℕ, List, None, Some};
+ghost use Rattle.std.specs.Prelude.{Contains, fold, length, map, option_to_list, slice_get, true};
+ghost use Rattle.std.specs.Prelude.{false};
 ghost use Rattle.std.specs.List.{IsDistinct};
 ghost use Rattle.std.specs.List.Sorted.{IsStrictlySortedBy};
 ghost use Rattle.std.specs.Ordering.{nat_cmp};
@@ -18,8 +20,8 @@ ghost use Rattle.asked_places.specs.Touched.{has, is_touched};
 ghost use Rattle.asked_places.specs.Losing.{lost_at, lost_at_places, left_at};
 ghost use Rattle.asked_places.specs.Opening.{opened_after, told_of_all};
 
-/// The asks of touched interfaces that are no longer needed are lost one place after the other: at no place none; what is lost at a place
-/// more, behind others, is what is lost at all of them.
+/// The asks of touched interfaces that are no longer needed are lost one place after the other: at
+/// no place none; what is lost at a place more, behind others, is what is lost at all of them.
 pub fn asks_are_lost_by_place()
     ensures none { (inputs : Inputs) → left_at inputs [] ≡ inputs }
     ensures more { (inputs : Inputs) (done : List ℕ) (place : ℕ)
@@ -31,8 +33,8 @@ pub fn asks_are_lost_by_place()
         ≡ lost_at_places inputs done ++ option_to_list (lost_at inputs place) }
 {}
 
-/// What is lost at a place is the open ask of its row, where that is the first of its name and is not needed; it goes by its number.
-/// Where none is lost, the asks stay.
+/// What is lost at a place is the open ask of its row, where that is the first of its name and is
+/// not needed; it goes by its number. Where none is lost, the asks stay.
 pub fn lost_asks_are_those_of_touched()
     ensures one { (inputs : Inputs) (place : ℕ) (row : InterfaceRow) (o : OpenInterface)
         → StandOnce inputs → slice_get inputs.conf.interfaces place ≡ Some row
@@ -50,7 +52,8 @@ pub fn places_in_order_rise()
         → ((place : ℕ) → Contains places place → place < bound) → AreRising 0 bound places }
 {}
 
-/// At rising places each number is lost once. In order these are the numbers that touched interfaces lose.
+/// At rising places each number is lost once. In order these are the numbers that touched
+/// interfaces lose.
 pub fn lost_numbers_are_in_order()
     ensures once { (inputs : Inputs) (least bound : ℕ) (places : List ℕ) → StandOnce inputs
         → AreRising least bound places
@@ -62,8 +65,8 @@ pub fn lost_numbers_are_in_order()
         inputs.interfaces }
 {}
 
-/// Where the asks that are lost at rising places are gone, those that are opened place by place are the asks of touched interfaces, and
-/// what is told of each is told of them.
+/// Where the asks that are lost at rising places are gone, those that are opened place by place are
+/// the asks of touched interfaces, and what is told of each is told of them.
 pub fn asks_are_opened_by_place()
     ensures asked { (inputs : Inputs) (places : List ℕ)
         → AreRising 0 (length inputs.conf.interfaces) places

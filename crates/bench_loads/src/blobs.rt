@@ -1,5 +1,6 @@
-//! `blob read|write TIMES`: reads a blob from the standard input so many times, and gives how many attributes stand in it at the
-//! top; or reads it once, writes it so many times, and gives how many bytes that takes.
+//! `blob read|write TIMES`: reads a blob from the standard input so many times, and gives how many
+//! attributes stand in it at the top; or reads it once, writes it so many times, and gives how many
+//! bytes that takes.
 ghost use Rattle.std.specs.Prelude.{◌<◌, ◌^◌, length};
 
 use blob_codec::{BlobError, blob_size, read_blob, write_blob};

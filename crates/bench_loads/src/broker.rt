@@ -1,5 +1,6 @@
-//! `broker OBJECTS CLIENTS TIMES`: a bus with so many objects of so many clients, of which nine are picked, spread evenly. One after
-//! the other is called by a client, and its owner answers by STATUS. Given is how many answers came back to the callers.
+//! `broker OBJECTS CLIENTS TIMES`: a bus with so many objects of so many clients, of which nine are
+//! picked, spread evenly. One after the other is called by a client, and its owner answers by
+//! STATUS. Given is how many answers came back to the callers.
 use plane_io::{Memory, Text};
 use std::alloc::Global;
 use ubus_acl::Acl;

@@ -1,5 +1,6 @@
-//! `counts port|name BRIDGES TURNS`: a graph of so many bridges, each over a port of its own, and a name beside them. So many times
-//! the carrier of a device goes on or off, of the port of the last bridge or of the name beside. Given is how many times that was.
+//! `counts port|name BRIDGES TURNS`: a graph of so many bridges, each over a port of its own, and a
+//! name beside them. So many times the carrier of a device goes on or off, of the port of the last
+//! bridge or of the name beside. Given is how many times that was.
 ghost use Rattle.std.specs.Prelude.{◌≡◌, ◌<◌};
 
 use plane_io::Memory;

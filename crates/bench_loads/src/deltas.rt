@@ -1,5 +1,5 @@
-//! `deltas TIMES`: reads a package from the standard input, makes a delta for each of its sections, applies them all to it so many
-//! times, and gives how many sections it has then.
+//! `deltas TIMES`: reads a package from the standard input, makes a delta for each of its sections,
+//! applies them all to it so many times, and gives how many sections it has then.
 ghost use Rattle.std.specs.Prelude.{◌<◌, ◌-◌, ◌^◌, length};
 
 use plane_io::{Items, Memory, Text, read_to_end};

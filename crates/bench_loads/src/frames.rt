@@ -1,5 +1,5 @@
-//! `frames SIZE TIMES`: reads a stream of frames from the standard input, feeds it so many times to a new feeder, in pieces of so
-//! many bytes, and gives how many frames were taken the last time.
+//! `frames SIZE TIMES`: reads a stream of frames from the standard input, feeds it so many times to
+//! a new feeder, in pieces of so many bytes, and gives how many frames were taken the last time.
 ghost use Rattle.std.specs.Prelude.{◌<◌};
 
 use plane_io::read_to_end;

@@ -1,5 +1,6 @@
-//! `bench_loads VERB WORDS..`: one part of the project, loaded as much as the words say, for the scripts in `bench/`. It prints what
-//! came of it. The status is 1 where the words ask for nothing, and where what was read is refused: then it tells why.
+//! `bench_loads VERB WORDS..`: one part of the project, loaded as much as the words say, for the
+//! scripts in `bench/`. It prints what came of it. The status is 1 where the words ask for nothing,
+//! and where what was read is refused: then it tells why.
 #![tactic(auto)]
 
 mod blobs;

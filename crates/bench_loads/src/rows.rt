@@ -1,5 +1,5 @@
-//! `rows PREFIX COUNT TURNS`: so many times reads the rows of a bridge `br0` with COUNT ports, PREFIX1 and so on, and gives how many
-//! names there were in all.
+//! `rows PREFIX COUNT TURNS`: so many times reads the rows of a bridge `br0` with COUNT ports,
+//! PREFIX1 and so on, and gives how many names there were in all.
 use net_devices::read_devices;
 use net_rows::ConfError;
 use std::alloc::Global;

@@ -1,5 +1,5 @@
-//! `scan lanes|bytes TURNS`: looks so many times for the end of the plain run that the standard input begins with, by `plain_run` or
-//! byte by byte, and gives the sum of what was found.
+//! `scan lanes|bytes TURNS`: looks so many times for the end of the plain run that the standard
+//! input begins with, by `plain_run` or byte by byte, and gives the sum of what was found.
 use lanes_scan::plain_run;
 use plane_io::read_to_end;
 use plane_real::StdSource;
@@ -19,7 +19,8 @@ fn run_by_bytes(bytes: &[u8]) -> usize {
     bytes.len()
 }
 
-/// The sum of the runs that were found. Each turn begins at another place, so that it does not repeat the one before.
+/// The sum of the runs that were found. Each turn begins at another place, so that it does not
+/// repeat the one before.
 fn sum_of_runs(text: &[u8], by_lanes: bool, turns: u16) -> u64 {
     let mut sum: u64 = 0;
     for turn in 0..turns {

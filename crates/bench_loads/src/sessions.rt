@@ -1,5 +1,6 @@
-//! `sessions SESSIONS PICKED TIMES`: makes so many sessions of 20 grants each, and picks so many of them, spread evenly. Of one after
-//! the other it asks whether it may do what its last grant permits, and gives how often it may.
+//! `sessions SESSIONS PICKED TIMES`: makes so many sessions of 20 grants each, and picks so many of
+//! them, spread evenly. Of one after the other it asks whether it may do what its last grant
+//! permits, and gives how often it may.
 use plane_io::Memory;
 use rpc_session::{Grant, SessionError, Sessions};
 use std::alloc::Global;

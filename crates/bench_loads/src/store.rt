@@ -1,5 +1,6 @@
-//! `store TIMES`: reads a package from the standard input into a store in memory, of which the command line has staged a change for
-//! each section, looks at what is seen then so many times, and gives how many sections that has and how many changes are staged.
+//! `store TIMES`: reads a package from the standard input into a store in memory, of which the
+//! command line has staged a change for each section, looks at what is seen then so many times, and
+//! gives how many sections that has and how many changes are staged.
 ghost use Rattle.std.specs.Prelude.{◌<◌, ◌-◌, ◌^◌, length};
 
 use plane_disk::{MemDisk, MemFile, are_disk_names, file_names};

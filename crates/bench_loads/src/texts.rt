@@ -1,5 +1,5 @@
-//! `texts commands|sections`: reads UCI text from the standard input, and gives how many commands it has, or as a package how many
-//! sections.
+//! `texts commands|sections`: reads UCI text from the standard input, and gives how many commands
+//! it has, or as a package how many sections.
 ghost use Rattle.std.specs.Prelude.{◌<◌, ◌-◌, ◌^◌, length};
 
 use plane_io::read_to_end;

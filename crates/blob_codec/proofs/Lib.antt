@@ -8,3 +8,4 @@ pub mod TotalLemmas
 pub mod WrittenLemmas
 pub mod SpellingLemmas
 pub mod SizeLemmas
+pub mod HeadLemmas

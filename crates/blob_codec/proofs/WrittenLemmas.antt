@@ -1,5 +1,6 @@
 -- Values as bytes, level by level, and bytes that the writer puts together.
-use Rattle.std.proofs.Common.{ℕ, zero, suc, ◌≡◌, ◌+◌, ◌-◌, ◌*◌, ◌^◌, ◌<◌, ◌≤◌, List, [], ◌∷◌, ◌++◌, length, take, drop, set, get_or, replicate, rules, arith, refl, sym, ap, subst, ◌∙◌, append_assoc, append-nil, length-append, drop-cons, Result, Ok, Err, OnOk, OnErr}
+use Rattle.std.proofs.Common.{ℕ, zero, suc, ◌≡◌, ◌+◌, ◌-◌, ◌*◌, ◌^◌, ◌<◌, ◌≤◌, List, [], ◌∷◌, ◌++◌, length, take, drop, set, get_or, replicate, rules, arith, refl, sym, ap, subst, ◌∙◌, append_assoc, append-nil, length-append, drop-cons}
+use Rattle.std.proofs.Common.{Result, Ok, Err, OnOk, OnErr}
 use Rattle.std.specs.Int.{w16, w32, to_be_bytes}
 use Rattle.blob_codec.specs.Attribute.{padded}
 use Rattle.std.proofs.lemmas.List.{take_more}

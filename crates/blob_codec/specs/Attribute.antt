@@ -1,5 +1,6 @@
 -- The fields of the attribute in front of bytes, each at its place (libubox's blob and blobmsg).
-use Rattle.std.specs.Prelude.{ℕ, ◌+◌, ◌-◌, ◌*◌, ◌/◌, ◌%◌, ◌^◌, ◌≡◌, ◌≤◌, List, take, drop, length, position, Bool, false, IsTrue, nat_eq, option_map, unwrap_or}
+use Rattle.std.specs.Prelude.{ℕ, ◌+◌, ◌-◌, ◌*◌, ◌/◌, ◌%◌, ◌^◌, ◌≡◌, ◌≤◌, List, take, drop, length, position, Bool}
+use Rattle.std.specs.Prelude.{false, IsTrue, nat_eq, option_map, unwrap_or}
 use Rattle.std.specs.Int.{w16, w32, from_be_bytes}
 use Rattle.lanes_scan.specs.ByteTest.{is_nul}
 

@@ -1,7 +1,8 @@
 -- Numbers of errors.
 use Rattle.std.specs.Prelude.{ℕ}
 use Rattle.blob_codec.specs.declared.blob_error.BlobError.{BlobError}
-use Rattle.blob_codec.specs.declared.blob_error.BlobError.TheVariants.{Short, BadLength, BadType, Double, NoNul, Deep, Memory}
+use Rattle.blob_codec.specs.declared.blob_error.BlobError.TheVariants.{Short, BadLength, BadType, Double, NoNul, Deep}
+use Rattle.blob_codec.specs.declared.blob_error.BlobError.TheVariants.{Memory}
 
 -- 40 for an attribute cut short, 41 for a bad length, 42 for a bad type, 43 for a double, 44 for a
 -- string without its zero byte, 45 for nesting too deep, 8 for memory

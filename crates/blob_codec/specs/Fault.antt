@@ -1,11 +1,13 @@
 -- The first fault of bytes that spell no list of attributes, with the place of its attribute's
 -- first byte.
-use Rattle.std.specs.Prelude.{ℕ, suc, ◌+◌, ◌≡◌, ◌<◌, List, [], ◌∷◌, length, Bool, IsTrue, not, ◌||◌, ◌&&◌, nat_eq, nat_lt, Option, Some, None, if◌then◌else◌}
+use Rattle.std.specs.Prelude.{ℕ, suc, ◌+◌, ◌≡◌, ◌<◌, List, [], ◌∷◌, length, Bool, IsTrue, not, ◌||◌, ◌&&◌, nat_eq}
+use Rattle.std.specs.Prelude.{nat_lt, Option, Some, None, if◌then◌else◌}
 use Rattle.blob_codec.specs.declared.blob.TheConstants.{MOST_LEVELS}
 use Rattle.blob_codec.specs.declared.blob.Blob.{Blob}
 use Rattle.blob_codec.specs.declared.blob_error.BlobError.{BlobError}
 use Rattle.blob_codec.specs.declared.blob_error.BlobError.TheVariants.{Short, BadLength, BadType, Double, NoNul, Deep}
-use Rattle.blob_codec.specs.Attribute.{IsWhole, is_terminated, padded, flag_in, type_in, length_in, named_in, value_place, value_in, behind}
+use Rattle.blob_codec.specs.Attribute.{IsWhole, is_terminated, padded, flag_in, type_in, length_in, named_in}
+use Rattle.blob_codec.specs.Attribute.{value_place, value_in, behind}
 use Rattle.blob_codec.specs.Blob.{SpellsValue}
 
 -- a test, and the fault that is told where it holds

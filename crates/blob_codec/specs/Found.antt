@@ -5,7 +5,8 @@ use Rattle.blob_codec.specs.declared.attribute.Parts.{Parts}
 use Rattle.blob_codec.specs.declared.blob.Attr.{Attr}
 use Rattle.blob_codec.specs.declared.blob_error.BlobError.{BlobError}
 use Rattle.blob_codec.specs.declared.blob_error.BlobError.TheVariants.{Deep}
-use Rattle.blob_codec.specs.Attribute.{IsWhole, padded, flag_in, type_in, length_in, name_in, value_in, value_place, behind}
+use Rattle.blob_codec.specs.Attribute.{IsWhole, padded, flag_in, type_in, length_in, name_in, value_in, value_place}
+use Rattle.blob_codec.specs.Attribute.{behind}
 use Rattle.blob_codec.specs.Blob.{Spells}
 use Rattle.blob_codec.specs.Fault.{IsFirstFault, first_held, value_tests, is_nested}
 

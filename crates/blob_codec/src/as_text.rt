@@ -5,8 +5,8 @@ use plane_io::{Memory, Text};
 use std::alloc::Global;
 use std::str;
 
-/// Bytes as the text that JSON gives them: themselves where they are UTF-8, and otherwise each byte as the character of
-/// that number.
+/// Bytes as the text that JSON gives them: themselves where they are UTF-8, and otherwise each byte
+/// as the character of that number.
 pub fn json_text(alloc: Global, bytes: &[u8]) -> Result<Text, Memory>
     ensures { IfOk result (λ text. text ≡ json_text_of bytes.now) }
 {

@@ -87,7 +87,7 @@ fn read_head(bytes: &[u8], place: usize) -> Result<Head, BlobError>
     Ok(head)
 }
 
-#[tactic(auto, unfolding(crate::specs::Attribute::word_in, crate::specs::Attribute::flag_in, crate::specs::Attribute::type_in, crate::specs::Attribute::length_in))]
+#[tactic(auto, using(crate::proofs::HeadLemmas::head_fields))]
 fn read_word(bytes: &[u8]) -> Option<Head>
     ensures { MatchOption result (length bytes.now < 4) (λ head. IsWord bytes.now head) }
 {

@@ -1,4 +1,5 @@
-ghost use Rattle.std.specs.Prelude.{◌≡◌, ◌<◌, ◌+◌, ◌-◌, ◌^◌, MatchOption, IfSome, IfNone, length, min};
+ghost use Rattle.std.specs.Prelude.{◌≡◌, ◌<◌, ◌+◌, ◌-◌, ◌^◌, MatchOption, IfSome, IfNone, length};
+ghost use Rattle.std.specs.Prelude.{min};
 ghost use Rattle.blob_codec.specs.Limits.{Fits, FitsBlob, FitsValue, HasNoNul};
 ghost use Rattle.blob_codec.specs.Writing.{AttrFitsAt, FitDeeper};
 ghost use Rattle.blob_codec.specs.Written.{body_of, size_of, written};

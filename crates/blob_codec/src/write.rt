@@ -1,7 +1,9 @@
-ghost use Rattle.std.specs.Prelude.{◌≡◌, ◌∷◌, [], ◌++◌, ◌+◌, ◌<◌, ◌≤◌, ◌^◌, OnOk, OnErr, length, take, drop};
+ghost use Rattle.std.specs.Prelude.{◌≡◌, ◌∷◌, [], ◌++◌, ◌+◌, ◌<◌, ◌≤◌, ◌^◌, OnOk, OnErr, length};
+ghost use Rattle.std.specs.Prelude.{take, drop};
 ghost use Rattle.blob_codec.specs.Limits.{FitsBlob};
 ghost use Rattle.blob_codec.specs.Writing.{AllFit, AttrFits, ValueFits, BeginsWith};
-ghost use Rattle.blob_codec.specs.Written.{body_of, name_field, padding, word_of, written, written_attr};
+ghost use Rattle.blob_codec.specs.Written.{body_of, name_field, padding, word_of, written};
+ghost use Rattle.blob_codec.specs.Written.{written_attr};
 
 use crate::attribute::padded_size;
 use crate::{Attr, Blob};

@@ -1,7 +1,9 @@
 -- The attributes of a JSON value, or its first fault.
-use Rattle.std.specs.Prelude.{ℕ, ◌+◌, ◌-◌, ◌^◌, pos, neg_ℤ, int_lt, List, [], ◌∷◌, length, take, position, unwrap_or, nat_eq, nat_lt, Result, Ok, Err, if◌then◌else◌, decimal}
+use Rattle.std.specs.Prelude.{ℕ, ◌+◌, ◌-◌, ◌^◌, pos, neg_ℤ, int_lt, List, [], ◌∷◌, length, take, position, unwrap_or}
+use Rattle.std.specs.Prelude.{nat_eq, nat_lt, Result, Ok, Err, if◌then◌else◌, decimal}
 use Rattle.lanes_scan.specs.ByteTest.{is_nul}
-use Rattle.serde_json.specs.Data.{Num, unsigned, negative, float, Data, null, boolean, number, string, array, object, Items, no_items, item, Members, no_members, member}
+use Rattle.serde_json.specs.Data.{Num, unsigned, negative, float, Data, null, boolean, number, string, array, object}
+use Rattle.serde_json.specs.Data.{Items, no_items, item, Members, no_members, member}
 use Rattle.blob_codec.specs.declared.blob.TheConstants.{MOST_LEVELS}
 use Rattle.blob_codec.specs.declared.blob.Blob.{Blob}
 use Rattle.blob_codec.specs.declared.blob.Blob.TheVariants.{Unspec, Array, Table, Str, I64, I32, I8}

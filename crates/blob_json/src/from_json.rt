@@ -1,7 +1,9 @@
 ghost use Rattle.std.specs.Prelude.{◌≡◌, ◌≢◌, ◌-◌, [], IfOk, IfErr, Ok as Found, Err as Refused};
 ghost use Rattle.serde_json.specs.View.{view, number_view, items_view, members_view};
-ghost use Rattle.blob_json.specs.FromJson.{attrs_of, before_nul, items_from, members_of, number_value, value_of};
-ghost use Rattle.blob_json.specs.declared.json_error.JsonError.TheVariants.{Deep, Memory as NoMemory};
+ghost use Rattle.blob_json.specs.FromJson.{attrs_of, before_nul, items_from, members_of};
+ghost use Rattle.blob_json.specs.FromJson.{number_value, value_of};
+ghost use Rattle.blob_json.specs.declared.json_error.JsonError.TheVariants.{Deep};
+ghost use Rattle.blob_json.specs.declared.json_error.JsonError.TheVariants.{Memory as NoMemory};
 
 use crate::JsonError;
 use crate::json_error::escape;

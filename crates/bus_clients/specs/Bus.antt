@@ -1,5 +1,6 @@
 -- A message bus with the clients of a script.
-use Rattle.std.specs.Prelude.{ℕ, ◌≡◌, List, [], ◌∷◌, ◌++◌, Option, Some, None, Result, Ok, Err, is_some, ⊤, if◌then◌else◌, refl}
+use Rattle.std.specs.Prelude.{ℕ, ◌≡◌, List, [], ◌∷◌, ◌++◌, Option, Some, None, Result, Ok, Err, is_some, ⊤}
+use Rattle.std.specs.Prelude.{if◌then◌else◌, refl}
 use Rattle.ubus_acl.specs.declared.acl.Acl.{Acl}
 use Rattle.ubus_table.specs.declared.rows.LocalCall.{LocalCall}
 use Rattle.ubus_table.specs.Table.{Table, nobody}
@@ -91,13 +92,15 @@ not_open : (table : Table) → closed (record { table = table; clients = new_cli
 not_open table = refl
 
 -- a refusal leaves the bus as it was, and tells nothing
-pub record IsRefused {A : Type 0} (error : ClientError) (before after : BusPart) (told told_now : List ℕ) (result : Result A ClientError) : Type 0 where
+pub record IsRefused {A : Type 0} (error : ClientError) (before after : BusPart) (told told_now : List ℕ)
+    (result : Result A ClientError) : Type 0 where
   pub answer : result ≡ Err error
   pub same : after ≡ before
   pub silent : told_now ≡ told
 
 -- it came so, or was refused so; only where nothing refuses it may there be no memory
-abbrev pub Answers : {A : Type 0} → Result Came ClientError → BusPart → BusPart → List ℕ → List ℕ → Result A ClientError → Type 0
+abbrev pub Answers : {A : Type 0} → Result Came ClientError → BusPart → BusPart → List ℕ → List ℕ → Result A ClientError
+    → Type 0
 Answers (Err why) before after told told_now result = IsRefused why before after told told_now result
 Answers (Ok done) before after told told_now (Ok ended) = IsTold done after told told_now
 Answers (Ok done) before after told told_now (Err error.Memory) = ⊤

@@ -19,7 +19,8 @@ IsFaultIn (Ok fed) fault = fault ≡ None
 IsFaultIn (Err error) fault = (fault ≡ Some error) × (error ≢ FrameMemory)
 
 -- A piece is taken: all frames that are whole then are handed out, and what is behind them stays.
-pub record IsTaken (piece : List ℕ) (before after : Stream) (frames : List Frame) (fault : Option FrameError) : Type 0 where
+pub record IsTaken (piece : List ℕ) (before after : Stream) (frames : List Frame) (fault : Option FrameError)
+    : Type 0 where
   pub brings : Brings piece before (record { frames = frames; rest = after.rest }) fault
   pub none : after.frames ≡ []
 

@@ -1,4 +1,5 @@
--- The lines that tell what clients are sent: `send`, the script's number of the client, and the frame in hexadecimal digits.
+-- The lines that tell what clients are sent: `send`, the script's number of the client, and the frame in hexadecimal
+-- digits.
 use Rattle.std.specs.Prelude.{ℕ, List, [], ◌∷◌, ◌++◌, Option, Some, None, codes, decimal, if◌then◌else◌, ◌≡◌, refl}
 use Rattle.std.specs.List.{flat_map}
 use Rattle.hex.specs.Hex.{encode_lower, encode_with}

@@ -1,5 +1,5 @@
 ghost use Rattle.std.specs.Prelude.{◌≡◌};
-ghost use Rattle.bus_clients.specs.declared.client_error.ClientError.TheVariants.{Memory as NoMemory};
+ghost use Rattle.bus_clients.specs.declared.client_error.ClientError.TheVariants as refusal;
 
 use plane_io::Memory;
 use std::alloc::{AllocError, AllocFailed};
@@ -23,7 +23,7 @@ pub enum ClientError {
 }
 
 impl From<Memory> for ClientError {
-    ghost from_gives = { λ _ e. e ≡ NoMemory };
+    ghost from_gives = { λ _ e. e ≡ refusal.Memory };
 
     fn from(_error: Memory) -> ClientError {
         ClientError::Memory
@@ -31,7 +31,7 @@ impl From<Memory> for ClientError {
 }
 
 impl From<AllocError> for ClientError {
-    ghost from_gives = { λ _ e. e ≡ NoMemory };
+    ghost from_gives = { λ _ e. e ≡ refusal.Memory };
 
     fn from(_error: AllocError) -> ClientError {
         ClientError::Memory
@@ -39,7 +39,7 @@ impl From<AllocError> for ClientError {
 }
 
 impl<T: Drop> From<AllocFailed<T>> for ClientError {
-    ghost from_gives = { λ _ e. e ≡ NoMemory };
+    ghost from_gives = { λ _ e. e ≡ refusal.Memory };
 
     fn from(_error: AllocFailed<T>) -> ClientError {
         ClientError::Memory

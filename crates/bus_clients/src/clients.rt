@@ -1,4 +1,5 @@
-ghost use Rattle.std.specs.Prelude.{◌≡◌, ◌==◌, ◌<◌, IfOk, IfSome, OnOk, length, position, filter, not, []};
+ghost use Rattle.std.specs.Prelude.{◌≡◌, ◌==◌, ◌<◌, IfOk, IfSome, OnOk, length, position, filter};
+ghost use Rattle.std.specs.Prelude.{not, []};
 ghost use Rattle.std.specs.Option.{option_copied};
 ghost use Rattle.bus_clients.specs.declared.clients.ScriptClient.{ScriptClient as ClientRow};
 ghost use Rattle.bus_clients.specs.Clients as spec;

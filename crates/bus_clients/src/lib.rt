@@ -1,4 +1,5 @@
-//! The clients of a script: a message bus with the clients that the script opened, by its own numbers, and the lines that tell what they are sent.
+//! The clients of a script: a message bus with the clients that the script opened, by its own
+//! numbers, and the lines that tell what they are sent.
 #![tactic(auto)]
 
 mod client_error;

@@ -1,8 +1,9 @@
-ghost use Rattle.std.specs.Prelude.{◌≡◌, ◌≢◌, ◌↔◌, ◌++◌, ◌∷◌, [], None, Err, IfOk, IfErr, OnOk, OnErr};
+ghost use Rattle.std.specs.Prelude.{◌≡◌, ◌≢◌, ◌↔◌, ◌++◌, ◌∷◌, [], None, Err, IfOk, IfErr, OnOk};
+ghost use Rattle.std.specs.Prelude.{OnErr};
 ghost use Rattle.ubus_send.specs.Fits.{fits};
 ghost use Rattle.ubus_table.specs.Table.{nobody};
 ghost use Rattle.ubus_table.specs.Served.{served, frame as frame_event, local_reply};
-ghost use Rattle.bus_clients.specs.declared.client_error.ClientError.TheVariants.{ClientOpen as IsOpen, NoClient as IsUnknown, Full as IsFull, Memory as NoMemory};
+ghost use Rattle.bus_clients.specs.declared.client_error.ClientError.TheVariants as refusal;
 ghost use Rattle.bus_clients.specs.Clients.{client_at};
 ghost use Rattle.bus_clients.specs.Fed.{HasFed};
 ghost use Rattle.bus_clients.specs.Bus as spec;
@@ -49,8 +50,8 @@ impl ScriptBus {
     ///
     /// # Errors
     ///
-    /// `ClientOpen` where the script has a client of that number open, and else `Full` where there are 256 or their numbers are
-    /// used up: the bus stays then. `Memory` may leave anything of it.
+    /// `ClientOpen` where the script has a client of that number open, and else `Full` where there
+    /// are 256 or their numbers are used up: the bus stays then. `Memory` may leave anything of it.
     pub fn open(
         &mut self,
         key: u32,
@@ -78,19 +79,22 @@ impl ScriptBus {
         Ok(())
     }
 
-    /// Takes a piece of what a client of the script sends, and hands out all of its frames that are whole now.
+    /// Takes a piece of what a client of the script sends, and hands out all of its frames that are
+    /// whole now.
     ///
     /// # Errors
     ///
-    /// `NoClient` exactly where the script has no client of that number open. `Memory` may leave anything of what the client
-    /// has sent.
+    /// `NoClient` exactly where the script has no client of that number open. `Memory` may leave
+    /// anything of what the client has sent.
     pub fn feed(&mut self, key: u32, piece: &[u8]) -> Result<Fed, ClientError>
         ensures fed { IfOk result
             (HasFed key piece.now self.old.clients.items self.new.clients.items) }
         ensures bus { self.new.broker ≡ self.old.broker }
-        ensures unknown { (result ≡ Err IsUnknown) ↔ (client_at self.old.clients.items key ≡ None) }
-        ensures stays { result ≡ Err IsUnknown → self.new.clients.items ≡ self.old.clients.items }
-        ensures others { (result ≢ Err IsOpen) × (result ≢ Err IsFull) }
+        ensures unknown { (result ≡ Err refusal.NoClient)
+            ↔ (client_at self.old.clients.items key ≡ None) }
+        ensures stays { result ≡ Err refusal.NoClient
+            → self.new.clients.items ≡ self.old.clients.items }
+        ensures others { (result ≢ Err refusal.ClientOpen) × (result ≢ Err refusal.Full) }
     {
         let Some(place) = place_of(&self.clients, key) else {
             return Err(ClientError::NoClient);
@@ -101,7 +105,8 @@ impl ScriptBus {
         }
     }
 
-    /// Serves a frame of the client of this number of the bus, and appends the lines of what is sent.
+    /// Serves a frame of the client of this number of the bus, and appends the lines of what is
+    /// sent.
     ///
     /// # Errors
     ///
@@ -122,7 +127,8 @@ impl ScriptBus {
         }
     }
 
-    /// A local object answers a call that was handed out, and the lines of what is sent are appended.
+    /// A local object answers a call that was handed out, and the lines of what is sent are
+    /// appended.
     ///
     /// # Errors
     ///
@@ -152,7 +158,8 @@ impl ScriptBus {
     ///
     /// # Errors
     ///
-    /// `NoClient` where the script has no client of that number open: the bus stays then. `Memory` may leave anything of it.
+    /// `NoClient` where the script has no client of that number open: the bus stays then. `Memory`
+    /// may leave anything of it.
     pub fn close(&mut self, key: u32, told: &mut Vec<u8>) -> Result<(), ClientError>
         ensures { Answers (spec.closed (part_of self.old) key)
             (part_of self.old) (part_of self.new) told.old.items told.new.items result }

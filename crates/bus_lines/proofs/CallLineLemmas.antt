@@ -25,7 +25,7 @@ use Rattle.rpc_objects.specs.Cut.{Cut, CallCuts, IsCutSo, behind_call, untouched
 use Rattle.bus_lines.specs.declared.caller_line.CallWords.{CallWords}
 use Rattle.bus_lines.specs.declared.handled.Handled.{Handled}
 use Rattle.bus_lines.specs.World.{World, parts_of, with_parts}
-use Rattle.bus_lines.specs.Words.{Uses}
+use Rattle.plane_outside.specs.Supply.{Uses}
 use Rattle.bus_lines.specs.Did.{Did, first_of, refused_did}
 use Rattle.bus_lines.specs.CallLine.{Admits, CallsPath, CallsFor, CallDoes, CallLineDoes, ForDoes, call_with, told_of, status_at}
 use Rattle.bus_lines.specs.ClientLine.{or_memory}

@@ -15,7 +15,8 @@ use Rattle.rpc_objects.specs.Passed.{CallPasses}
 use Rattle.rpc_objects.specs.Cut.{Cut, CallCuts, IsCutSo, untouched}
 use Rattle.rpc_objects.specs.Ended.{Asked, IsCalled, Ends}
 use Rattle.bus_lines.specs.World.{World, parts_of, with_parts}
-use Rattle.bus_lines.specs.Words.{Uses, used_by}
+use Rattle.plane_outside.specs.Supply.{Uses}
+use Rattle.bus_lines.specs.Words.{used_by}
 use Rattle.bus_lines.specs.Ended.{Seen, IsHalted}
 use Rattle.bus_lines.specs.Calling.{IsOut, CallEnds, ObjectDoes, ObjectCuts, ObjectPasses}
 

@@ -20,7 +20,7 @@ use Rattle.rpc_objects.specs.Cut.{IsCutSo, untouched}
 use Rattle.bus_lines.specs.declared.gathered.Gathered.{Gathered}
 use Rattle.bus_lines.specs.declared.handled.Handled.{Handled}
 use Rattle.bus_lines.specs.World.{World}
-use Rattle.bus_lines.specs.Words.{Uses}
+use Rattle.plane_outside.specs.Supply.{Uses}
 use Rattle.bus_lines.specs.Did.{Did, first_of, followed, refused_did}
 use Rattle.bus_lines.specs.ClientLine.{BytesDo, error_of, fault_error, came_did, came_or_refused, fault_did, fed_world, or_memory}
 use Rattle.bus_lines.specs.Cut.{BytesCut, FramesCut}

@@ -19,7 +19,7 @@ use Rattle.rpc_objects.specs.Calls.{Called}
 use Rattle.rpc_objects.specs.Cut.{Cut, CallCuts, behind_call}
 use Rattle.bus_lines.specs.declared.gathered.Gathered.{Gathered}
 use Rattle.bus_lines.specs.World.{World}
-use Rattle.bus_lines.specs.Words.{Uses}
+use Rattle.plane_outside.specs.Supply.{Uses}
 use Rattle.bus_lines.specs.Did.{Did, first_of, nothing_did, followed}
 use Rattle.bus_lines.specs.ClientLine.{CallAnswers, HandsOut, came_did, replied_did}
 use Rattle.bus_lines.specs.Cut.{FrameCuts}

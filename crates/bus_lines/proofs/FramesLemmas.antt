@@ -17,7 +17,7 @@ use Rattle.rpc_objects.specs.Cut.{Cut, untouched}
 use Rattle.rpc_objects.specs.Kept.{DiskFaults, DiskRose}
 use Rattle.bus_lines.specs.declared.gathered.Gathered.{Gathered}
 use Rattle.bus_lines.specs.World.{World, parts_of}
-use Rattle.bus_lines.specs.Words.{Supply, Uses}
+use Rattle.plane_outside.specs.Supply.{Supply, Uses}
 use Rattle.bus_lines.specs.Did.{Did, first_of, nothing_did, followed}
 use Rattle.bus_lines.specs.ClientLine.{CallAnswers, HandsOut, FrameDoes, FramesDo, came_did}
 use Rattle.bus_lines.specs.Cut.{FrameCuts, FramesCut, cut_behind}

@@ -2,7 +2,8 @@
 use Rattle.std.proofs.Common.{zero, suc, ℕ, ◌≡◌, ◌+◌, List, [], ◌∷◌, ◌++◌, Option, Some, None, Bool, true, false, refl, ap, sym, subst, ◌∙◌, arith}
 use Rattle.std.specs.Prelude.{if◌then◌else◌}
 use Rattle.plane_outside.specs.Given.{Advances}
-use Rattle.bus_lines.specs.Words.{Supply, ahead, supply_of, AreNext, Uses, IsFirst, used_by}
+use Rattle.plane_outside.specs.Supply.{Supply, ahead, supply_of, AreNext, Uses, IsFirst}
+use Rattle.bus_lines.specs.Words.{used_by}
 
 -- no word
 pub uses_none : (supply : Supply) → Uses supply [] supply

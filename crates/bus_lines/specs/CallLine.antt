@@ -63,10 +63,11 @@ pub record Call : Type 0 where
   pub method : List ℕ
   pub args : List Attr
 
--- Whether a session may call: the sessions behind that, and the arguments then, or the answer. With none no grant is asked. Else it is 4
--- where no live session has the id; a live one is renewed, and it is 6 with the grant where that is missing; and else the
--- arguments name the session.
-pub data Admits (now : ℕ) (sessions : SessionList) (call : Call) : Option ℕ → SessionList → Result (List Attr) LocalAnswer → Type 0 where
+-- Whether a session may call: the sessions behind that, and the arguments then, or the answer. With none no grant is
+-- asked. Else it is 4 where no live session has the id; a live one is renewed, and it is 6 with the grant where that is
+-- missing; and else the arguments name the session.
+pub data Admits (now : ℕ) (sessions : SessionList) (call : Call) : Option ℕ → SessionList
+    → Result (List Attr) LocalAnswer → Type 0 where
   nobody : Admits now sessions call None sessions (Ok call.args)
   unknown : (session : ℕ) (why : SessionError) → used session now sessions ≡ Err why
       → Admits now sessions call (Some session) sessions (Err (answers_status 4))
@@ -79,7 +80,8 @@ pub data Admits (now : ℕ) (sessions : SessionList) (call : Call) : Option ℕ 
       → Admits now sessions call (Some session) list (Ok (with_session session call.args))
 
 -- the object of the path is called with these arguments, if there is one
-pub data CallsPath (now word : ℕ) (failed : Bool) (before : Parts) (call : Call) (args : List Attr) : Called → Type 0 where
+pub data CallsPath (now word : ℕ) (failed : Bool) (before : Parts) (call : Call) (args : List Attr) : Called
+    → Type 0 where
   none : of_path call.path ≡ None
       → CallsPath now word failed before call args (quiet before (answers_status 4))
   some : (object : LocalObject) → of_path call.path ≡ Some object → (done : Called)
@@ -87,7 +89,8 @@ pub data CallsPath (now word : ℕ) (failed : Bool) (before : Parts) (call : Cal
       → CallsPath now word failed before call args done
 
 -- a call for a session, or for none
-pub data CallsFor (now word : ℕ) (failed : Bool) (before : Parts) (call : Call) (session : Option ℕ) : Called → Type 0 where
+pub data CallsFor (now word : ℕ) (failed : Bool) (before : Parts) (call : Call) (session : Option ℕ) : Called
+    → Type 0 where
   refused : (list : SessionList) (answer : LocalAnswer)
       → Admits now before.sessions call session list (Err answer)
       → CallsFor now word failed before call session

@@ -9,8 +9,8 @@ use Rattle.bus_lines.specs.Did.{Did}
 use Rattle.bus_lines.specs.CallLine.{CallDoes}
 use Rattle.bus_lines.specs.ClientLine.{open_did, close_did, BytesDo}
 
--- a line at this number of the script, with its luck: the random words at hand, one a call or a frame, and whether the kernel fails at
--- their events
+-- a line at this number of the script, with its luck: the random words at hand, one a call or a frame, and whether the
+-- kernel fails at their events
 abbrev pub LineDoes : World → ℕ → CallerLine → List ℕ → List Bool → Did → Type 0
 LineDoes world number (line.Call words) random failures did =
     CallDoes world number (first_word random) (fails_first failures) words did

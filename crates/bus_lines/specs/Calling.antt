@@ -15,7 +15,8 @@ use Rattle.rpc_objects.specs.Cut.{Cut, CallCuts}
 use Rattle.rpc_objects.specs.Kept.{DiskFaults}
 use Rattle.bus_lines.specs.declared.callers.Callers.{Callers}
 use Rattle.bus_lines.specs.World.{World, parts_of, with_parts}
-use Rattle.bus_lines.specs.Words.{Supply, Uses, used_by, supply_of}
+use Rattle.plane_outside.specs.Supply.{Supply, Uses, supply_of}
+use Rattle.bus_lines.specs.Words.{used_by}
 use Rattle.bus_lines.specs.Ended.{Seen, IsHalted, HasFailed}
 
 -- what is seen of the outside, with the words of a source before and now
@@ -27,7 +28,8 @@ seen_by kernel callers now words words_now disks = record {
   disks = disks;
 }
 
--- a call was carried out, with this random word and whether the kernel failed at its event, and this is to be told of it
+-- a call was carried out, with this random word and whether the kernel failed at its event, and this is to be told of
+-- it
 pub record IsOut (Does : ℕ → Bool → Called → Type 0) (before now : World) (seen : Seen) (told : Outcome) : Type 0 where
   pub word : ℕ
   pub failed : Bool
@@ -41,7 +43,8 @@ pub record IsOut (Does : ℕ → Bool → Called → Type 0) (before now : World
   pub refusal : told.refusal ≡ option_map error_line done.refusal
 
 -- how a call ended that does this, may be cut so, and passes through these folders
-abbrev pub CallEnds : (ℕ → Bool → Called → Type 0) → (Cut → Type 0) → (Folder → Type 0) → World → World → Seen → Result Outcome CallStop → Type 0
+abbrev pub CallEnds : (ℕ → Bool → Called → Type 0) → (Cut → Type 0) → (Folder → Type 0) → World → World → Seen
+    → Result Outcome CallStop → Type 0
 CallEnds Does Cuts Passes before now seen (Ok told) = IsOut Does before now seen told
 CallEnds Does Cuts Passes before now seen (Err stop.DiskFailed) = HasFailed Cuts now seen
 CallEnds Does Cuts Passes before now seen (Err stop.Memory) = IsHalted Cuts Passes now seen
@@ -51,7 +54,8 @@ abbrev pub ObjectDoes : World → LocalObject → List ℕ → List Attr → ℕ
 ObjectDoes world object method args word failed done =
     CallsTo world.now word failed (parts_of world) object method args done
 
-pub record ObjectCuts (world : World) (object : LocalObject) (method : List ℕ) (args : List Attr) (cut : Cut) : Type 0 where
+pub record ObjectCuts (world : World) (object : LocalObject) (method : List ℕ) (args : List Attr) (cut : Cut)
+    : Type 0 where
   pub word : ℕ
   pub is : CallCuts world.now word (parts_of world) object method args cut
 

@@ -1,4 +1,5 @@
--- What lines of calls and clients had done to the plane of interfaces, and asked of the kernel, where they were stopped.
+-- What lines of calls and clients had done to the plane of interfaces, and asked of the kernel, where they were
+-- stopped.
 use Rattle.std.specs.Prelude.{ℕ, ◌≡◌, ◌+◌, List, ◌∷◌, ◌++◌, Bool, Some, Ok}
 use Rattle.blob_codec.specs.declared.blob.Attr.{Attr}
 use Rattle.ubus_frames.specs.declared.frame.Frame.{Frame}

@@ -4,8 +4,8 @@ use Rattle.kern_model.specs.declared.kernel.Asked.{Asked}
 use Rattle.script_lines.specs.declared.line_error.LineError.{LineError}
 use Rattle.bus_lines.specs.World.{World}
 
--- The world behind it, what the kernel was asked, the lines of sends, of asks and of the reply, why the line is refused, if it is, and the
--- random words that it used up.
+-- The world behind it, what the kernel was asked, the lines of sends, of asks and of the reply, why the line is
+-- refused, if it is, and the random words that it used up.
 pub record Did : Type 0 where
   pub world : World
   pub asked : List Asked

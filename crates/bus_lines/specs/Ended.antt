@@ -18,7 +18,7 @@ use Rattle.rpc_objects.specs.Kept.{DiskFaults, DiskRose}
 use Rattle.bus_lines.specs.declared.callers.Callers.{Callers}
 use Rattle.bus_lines.specs.declared.handled.Handled.{Handled}
 use Rattle.bus_lines.specs.World.{World}
-use Rattle.bus_lines.specs.Words.{Supply, Uses}
+use Rattle.plane_outside.specs.Supply.{Supply, Uses}
 use Rattle.bus_lines.specs.Did.{Did}
 
 -- a world as the code keeps it
@@ -75,7 +75,8 @@ pub record HasFailed (Cuts : Cut → Type 0) (now : World) (seen : Seen) : Type 
   pub left : IsCutSo cut now.net seen.kernel
 
 -- how a line ended that does this, passes through these folders, and may be cut so
-abbrev pub Ends : (List ℕ → List Bool → Did → Type 0) → (Cut → Type 0) → (Folder → Type 0) → World → Seen → Result Handled CallStop → Type 0
+abbrev pub Ends : (List ℕ → List Bool → Did → Type 0) → (Cut → Type 0) → (Folder → Type 0) → World → Seen
+    → Result Handled CallStop → Type 0
 Ends Does Cuts Passes now seen (Ok told) = IsDone Does now seen told
 Ends Does Cuts Passes now seen (Err stop.DiskFailed) = HasFailed Cuts now seen
 Ends Does Cuts Passes now seen (Err stop.Memory) = IsHalted Cuts Passes now seen

@@ -14,7 +14,7 @@ use Rattle.rpc_objects.specs.Object.{of_number}
 use Rattle.rpc_objects.specs.Cut.{Cut, CallCuts, untouched}
 use Rattle.bus_lines.specs.declared.gathered.Gathered.{Gathered}
 use Rattle.bus_lines.specs.World.{World, parts_of}
-use Rattle.bus_lines.specs.Words.{Uses}
+use Rattle.plane_outside.specs.Supply.{Uses}
 use Rattle.bus_lines.specs.Did.{Did, followed}
 use Rattle.bus_lines.specs.ClientLine.{CallAnswers, FrameDoes, FramesDo, fault_did}
 use Rattle.bus_lines.specs.Cut.{FrameCuts}
@@ -22,7 +22,8 @@ use Rattle.bus_lines.specs.Ended.{Seen, AsksBy, IsHalted, HasFailed}
 use Rattle.bus_lines.specs.Gathered.{Gathers}
 
 -- a part of a line was done, with this random word and whether the kernel failed at its event, and was gathered
-pub record HasStepped (Does : ℕ → Bool → Did → Type 0) (now : World) (seen : Seen) (before after : Gathered) : Type 0 where
+pub record HasStepped (Does : ℕ → Bool → Did → Type 0) (now : World) (seen : Seen) (before after : Gathered)
+    : Type 0 where
   pub word : ℕ
   pub failed : Bool
   pub did : Did
@@ -33,7 +34,8 @@ pub record HasStepped (Does : ℕ → Bool → Did → Type 0) (now : World) (se
   pub gathers : Gathers did before after
 
 -- how such a part ended that may be cut so, and passes through these folders
-abbrev pub StepEnds : {X : Type 0} → (ℕ → Bool → Did → Type 0) → (Cut → Type 0) → (Folder → Type 0) → World → Seen → Gathered → Gathered → Result X CallStop → Type 0
+abbrev pub StepEnds : {X : Type 0} → (ℕ → Bool → Did → Type 0) → (Cut → Type 0) → (Folder → Type 0) → World → Seen
+    → Gathered → Gathered → Result X CallStop → Type 0
 StepEnds Does Cuts Passes now seen before after (Ok done) = HasStepped Does now seen before after
 StepEnds Does Cuts Passes now seen before after (Err stop.DiskFailed) = HasFailed Cuts now seen
 StepEnds Does Cuts Passes now seen before after (Err stop.Memory) = IsHalted Cuts Passes now seen
@@ -57,7 +59,8 @@ pub record OneCuts (world : World) (number : ℕ) (frame : Frame) (cut : Cut) : 
   pub is : FrameCuts world word number frame cut
 
 -- all frames were served, with these random words and whether the kernel failed at their events, and were gathered
-pub record HasServed (world : World) (number : ℕ) (frames : List Frame) (now : World) (seen : Seen) (all : Gathered) : Type 0 where
+pub record HasServed (world : World) (number : ℕ) (frames : List Frame) (now : World) (seen : Seen) (all : Gathered)
+    : Type 0 where
   pub words : List ℕ
   pub failures : List Bool
   pub did : Did
@@ -69,13 +72,15 @@ pub record HasServed (world : World) (number : ℕ) (frames : List Frame) (now :
   pub asks : all.asks.items ≡ did.asks
   pub refusal : all.refusal ≡ option_map error_line did.refusal
 
-abbrev pub ServeEnds : World → ℕ → List Frame → (Cut → Type 0) → (Folder → Type 0) → World → Seen → Result Gathered CallStop → Type 0
+abbrev pub ServeEnds : World → ℕ → List Frame → (Cut → Type 0) → (Folder → Type 0) → World → Seen
+    → Result Gathered CallStop → Type 0
 ServeEnds world number frames Cuts Passes now seen (Ok all) = HasServed world number frames now seen all
 ServeEnds world number frames Cuts Passes now seen (Err stop.DiskFailed) = HasFailed Cuts now seen
 ServeEnds world number frames Cuts Passes now seen (Err stop.Memory) = IsHalted Cuts Passes now seen
 
 -- the frames that a client has sent are served, and then their fault, if there is one
-pub record FedDoes (world : World) (key : ℕ) (fed : Fed) (words : List ℕ) (failures : List Bool) (did : Did) : Type 0 where
+pub record FedDoes (world : World) (key : ℕ) (fed : Fed) (words : List ℕ) (failures : List Bool) (did : Did)
+    : Type 0 where
   pub front : Did
   pub frames : FramesDo world fed.number fed.frames words failures front
   pub is : did ≡ followed front (fault_did front.world key fed.fault)

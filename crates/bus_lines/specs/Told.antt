@@ -51,7 +51,8 @@ faulted part key None = record { part = part; told = []; call = None }
 faulted part key (Some why) = came_or_stays part (closed part key)
 
 -- the bus behind the end of a line of bytes, and what is told of it
-pub record EndsBytes (before : BusPart) (key : ℕ) (fault : Option FrameError) (all : Gathered) (now : BusPart) (told : Handled) : Type 0 where
+pub record EndsBytes (before : BusPart) (key : ℕ) (fault : Option FrameError) (all : Gathered) (now : BusPart)
+    (told : Handled) : Type 0 where
   pub part : now ≡ (faulted before key fault).part
   pub sent : told.sent ≡ all.sent.items ++ (faulted before key fault).told
   pub shown : told.told.shown ≡ all.asks.items

@@ -6,8 +6,8 @@ use Rattle.net_rules.specs.Moment.{Moment}
 use Rattle.bus_clients.specs.Bus.{BusPart}
 use Rattle.rpc_objects.specs.Calls.{Parts}
 
--- the moment in seconds, the files, the sessions, the message bus with the clients of the script, and the plane of interfaces with what
--- the kernel holds
+-- the moment in seconds, the files, the sessions, the message bus with the clients of the script, and the plane of
+-- interfaces with what the kernel holds
 pub record World : Type 0 where
   pub now : ℕ
   pub files : Folder

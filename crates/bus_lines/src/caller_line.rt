@@ -1,6 +1,7 @@
 use plane_io::Text;
 
-/// The words of a line that calls a method: for a session or for none, the path of the object, the method, and the arguments as JSON.
+/// The words of a line that calls a method: for a session or for none, the path of the object, the
+/// method, and the arguments as JSON.
 #[derive(Drop)]
 pub struct CallWords {
     pub session: Option<u128>,

@@ -1,7 +1,7 @@
 ghost use Rattle.std.specs.Prelude.{◌≡◌, [], Some, None, IfOk, if◌then◌else◌};
 ghost use Rattle.rpc_session.specs.Sessions as sessions_spec;
 ghost use Rattle.bus_clients.specs.Bus.{part_of, begun};
-ghost use Rattle.bus_lines.specs.Words as spec;
+ghost use Rattle.plane_outside.specs.Supply as spec;
 
 use bus_clients::ScriptBus;
 use plane_io::Memory;
@@ -44,8 +44,8 @@ impl SpareWord {
     }
 }
 
-/// Who calls methods: the sessions, the message bus with the clients of the script, and the random word that is at hand for the next
-/// session.
+/// Who calls methods: the sessions, the message bus with the clients of the script, and the random
+/// word that is at hand for the next session.
 #[derive(Drop)]
 pub struct Callers {
     pub sessions: Sessions,

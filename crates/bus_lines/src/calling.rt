@@ -21,7 +21,8 @@ use uci_store::Store;
 /// A call may make a session only where its number is below this one.
 const END_OF_NUMBERS: u64 = 9_223_372_036_854_775_808;
 
-/// Calls a method of an object with the next random word, which a call uses up that makes a session.
+/// Calls a method of an object with the next random word, which a call uses up that makes a
+/// session.
 pub(crate) fn call_with_word<K: Kernel, D: Disk, T: Disk, R: Random>(
     alloc: Global,
     now: u64,

@@ -4,7 +4,7 @@ ghost use Rattle.net_plane.specs.Network.{IsOf};
 ghost use Rattle.step_net.specs.Taken.{telled_of};
 ghost use Rattle.rpc_objects.specs.Passed.{StaysOrStopsIn};
 ghost use Rattle.rpc_objects.specs.Kept.{StaysOn, faults_of};
-ghost use Rattle.bus_lines.specs.Words.{supply_of};
+ghost use Rattle.plane_outside.specs.Supply.{supply_of};
 ghost use Rattle.bus_lines.specs.CallerLine.{LineDoes};
 ghost use Rattle.bus_lines.specs.Passed.{LinePasses};
 ghost use Rattle.bus_lines.specs.Cut.{LineCuts};
@@ -24,7 +24,8 @@ use rpc_objects::CallStop;
 use std::alloc::Global;
 use uci_store::Store;
 
-/// Carries a line of a call or of a client out, which stands at this number in the script. The calls of its settling are not made.
+/// Carries a line of a call or of a client out, which stands at this number in the script. The
+/// calls of its settling are not made.
 ///
 /// # Errors
 ///

@@ -26,7 +26,8 @@ use rpc_objects::CallStop;
 use std::alloc::Global;
 use uci_store::Store;
 
-/// A client sends bytes: the frames that they complete are served, and then a fault behind them, if there is one.
+/// A client sends bytes: the frames that they complete are served, and then a fault behind them, if
+/// there is one.
 pub(crate) fn client_bytes<K: Kernel, D: Disk, T: Disk, R: Random>(
     alloc: Global,
     now: u64,

@@ -42,7 +42,8 @@ pub(crate) fn tell_outcome(alloc: Global, outcome: Outcome) -> Result<Handled, M
     })
 }
 
-// This is shown. A status that is not 0 refuses the line, and else this refusal does, if there is one.
+// This is shown. A status that is not 0 refuses the line, and else this refusal does, if there is
+// one.
 fn tell_reply(
     alloc: Global,
     shown: Text,

@@ -71,8 +71,8 @@ pub(crate) fn refuse_client(alloc: Global, error: ClientError) -> Result<Handled
     }
 }
 
-/// What was gathered of the frames of a line is told. A fault behind them closes the client, and is the error of the line where no
-/// refusal came before.
+/// What was gathered of the frames of a line is told. A fault behind them closes the client, and is
+/// the error of the line where no refusal came before.
 pub(crate) fn end_bytes(
     alloc: Global,
     bus: &mut ScriptBus,

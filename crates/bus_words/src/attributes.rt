@@ -25,7 +25,8 @@ pub fn put_json(alloc: Global, out: &mut Vec<u8>, attrs: &[Attr]) -> anyhow::Res
     Ok(())
 }
 
-/// Puts the attributes in their order behind the bytes, each with its name, `=`, its value with its type, and a blank.
+/// Puts the attributes in their order behind the bytes, each with its name, `=`, its value with its
+/// type, and a blank.
 ///
 /// # Errors
 ///

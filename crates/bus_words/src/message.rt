@@ -5,8 +5,8 @@ use sqlite_items::Items;
 use std::alloc::Global;
 use ubus_frames::Frame;
 
-/// A message of a kind, told by its name or by its number, with a sequence and fields `NAME=VALUE`. A value that is `<` is this
-/// input.
+/// A message of a kind, told by its name or by its number, with a sequence and fields `NAME=VALUE`.
+/// A value that is `<` is this input.
 ///
 /// # Errors
 ///

@@ -21,7 +21,8 @@ pub const KINDS: [&str; 12] = [
     "MONITOR",
 ];
 
-/// Puts a message behind the bytes: its kind, its sequence, and each field that it has as `NAME=VALUE`.
+/// Puts a message behind the bytes: its kind, its sequence, and each field that it has as
+/// `NAME=VALUE`.
 ///
 /// # Errors
 ///

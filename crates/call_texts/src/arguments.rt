@@ -17,8 +17,8 @@ use std::alloc::Global;
 ///
 /// # Errors
 ///
-/// `BadLine` where the text is no JSON, `NotTable`, `Deep`, `Wide` or `Fraction` where its value is no object or has a part that no blob
-/// holds, and `Memory`.
+/// `BadLine` where the text is no JSON, `NotTable`, `Deep`, `Wide` or `Fraction` where its value is
+/// no object or has a part that no blob holds, and `Memory`.
 pub fn read_arguments(alloc: Global, number: u32, json: &Text) -> Result<Items<Attr>, LineError>
     ensures found { IfOk result (λ args. spec.arguments_of number json.now ≡ Ok args) }
     ensures refused { (e : _) → result ≡ Err e → e ≢ error.Memory →
@@ -74,7 +74,8 @@ fn line_error(error: JsonError) -> LineError
     }
 }
 
-/// The arguments with this session behind them, which goes before any that they name: of equal names the last counts.
+/// The arguments with this session behind them, which goes before any that they name: of equal
+/// names the last counts.
 ///
 /// # Errors
 ///

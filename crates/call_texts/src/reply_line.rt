@@ -10,7 +10,8 @@ use plane_io::Memory;
 use sqlite_items::Items;
 use std::alloc::Global;
 
-/// Appends the line that tells of a reply: `reply`, its status, and its payload as JSON where there is one.
+/// Appends the line that tells of a reply: `reply`, its status, and its payload as JSON where there
+/// is one.
 ///
 /// # Errors
 ///

@@ -55,8 +55,8 @@ impl Texts {
         Ok(read)
     }
 
-    /// Puts what a line of a body, behind its mark, stands for behind these bytes. A name is one of these texts or of a file.
-    /// Gives nothing where it is no such line.
+    /// Puts what a line of a body, behind its mark, stands for behind these bytes. A name is one of
+    /// these texts or of a file. Gives nothing where it is no such line.
     pub(crate) fn put_line(
         &self,
         files: &Texts,
@@ -90,7 +90,8 @@ impl Texts {
     }
 }
 
-/// Puts the text of `N TEXT` so many times behind these bytes, with the number of each in the place of `{}`.
+/// Puts the text of `N TEXT` so many times behind these bytes, with the number of each in the place
+/// of `{}`.
 fn repeat(alloc: Global, bytes: &mut Vec<u8>, line: &str) -> anyhow::Result<Option<()>> {
     let Some((count, text)) = line.split_once(' ') else {
         return Ok(None);

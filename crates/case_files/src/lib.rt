@@ -1,6 +1,8 @@
-//! Cases as data: a program reads files of cases, plays each on a stage of its own, and tells what differs.
+//! Cases as data: a program reads files of cases, plays each on a stage of its own, and tells what
+//! differs.
 //!
-//! A file of cases is text. An empty line divides its cases, and a line that begins with `#` is a comment.
+//! A file of cases is text. An empty line divides its cases, and a line that begins with `#` is a
+//! comment.
 //!
 //! ```text
 //! text lan
@@ -13,9 +15,10 @@
 //! > words of the second step
 //! ```
 //!
-//! `text NAME` names the bytes of the lines behind it. `case NAME` begins a case: its steps are lines `> WORDS`. Behind a step
-//! stand the lines of its input, which begin with `|`, and those of what it is to give, which begin with `=`. A step that gives
-//! nothing has no line of the second kind. Behind the mark of such a line stands
+//! `text NAME` names the bytes of the lines behind it. `case NAME` begins a case: its steps are
+//! lines `> WORDS`. Behind a step stand the lines of its input, which begin with `|`, and those of
+//! what it is to give, which begin with `=`. A step that gives nothing has no line of the second
+//! kind. Behind the mark of such a line stands
 //!
 //! - nothing, or a space and TEXT: that text and a newline,
 //! - `. TEXT`: that text without a newline,

@@ -15,8 +15,8 @@ pub trait Stage: Sized + Drop {
     /// A stage on which nothing was played.
     fn new(alloc: Global) -> anyhow::Result<Self>;
 
-    /// Carries a step out: its words, and its input. Puts what it gives behind `out`. A step that the stage does not know,
-    /// or whose words are off, is an error.
+    /// Carries a step out: its words, and its input. Puts what it gives behind `out`. A step that
+    /// the stage does not know, or whose words are off, is an error.
     fn step(&mut self, words: &str, input: &[u8], out: &mut Vec<u8>) -> anyhow::Result<()>;
 }
 
@@ -141,8 +141,9 @@ impl Player {
     }
 }
 
-/// Plays the files of cases that the command line names, and prints what is told. A file whose name does not end in `.cases` is a
-/// text that the files behind it may name. The status is 0 where nothing differs.
+/// Plays the files of cases that the command line names, and prints what is told. A file whose name
+/// does not end in `.cases` is a text that the files behind it may name. The status is 0 where
+/// nothing differs.
 ///
 /// # Errors
 ///

@@ -1,7 +1,7 @@
 use std::alloc::Global;
 
-/// The words of a line, between which spaces stand. A word that begins with `'` goes on to the next `'`, and may be empty or
-/// have spaces; a quote that is not closed goes on to the end of the line.
+/// The words of a line, between which spaces stand. A word that begins with `'` goes on to the next
+/// `'`, and may be empty or have spaces; a quote that is not closed goes on to the end of the line.
 ///
 /// # Errors
 ///

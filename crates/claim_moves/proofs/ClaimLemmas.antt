@@ -40,10 +40,12 @@ not_apart first second (Some name) q h is = by (is_name first name) (is_name sec
 
 -- ---- one name
 
-pub moved_one : (name : List ℕ) (old new : InterfaceState) (before now : Known) → ((q : List ℕ) → claims_in now q + one_at name q (uses_by name old) ≡ claims_in before q + one_at name q (uses_by name new)) → MovesNamed (Some name) old new before now
+pub moved_one : (name : List ℕ) (old new : InterfaceState) (before now : Known) → ((q : List ℕ) → claims_in now q + one_at name q (uses_by name old) ≡ claims_in before q + one_at name q (uses_by name new))
+    → MovesNamed (Some name) old new before now
 moved_one name old new before now moves q = by (bytes_eq name q) refl (moves q)
   where
-    by : (b : Bool) → bytes_eq name q ≡ b → claims_in now q + cond b (one (uses_by name old)) 0 ≡ claims_in before q + cond b (one (uses_by name new)) 0 → claims_in now q + cond b (claim_of q old) 0 ≡ claims_in before q + cond b (claim_of q new) 0
+    by : (b : Bool) → bytes_eq name q ≡ b → claims_in now q + cond b (one (uses_by name old)) 0 ≡ claims_in before q + cond b (one (uses_by name new)) 0 → claims_in now q + cond b (claim_of q old) 0 ≡ claims_in before q
+        + cond b (claim_of q new) 0
     by true is h =
         let same : name ≡ q = bytes_same name q is in
         subst (λ x. claims_in now q + one (uses_by x old) ≡ claims_in before q + one (uses_by x new)) same h
@@ -183,7 +185,8 @@ module _ (old new : InterfaceState) where
   pub second_can : (r s : State) → MovesNamed old.device old new r.known s.known → DiffersInClaims r s → CanMove r.known old new → (q : List ℕ) → is_name second_name q ≡ true → CanMoveAt s.known q
   second_can r s moves stays can q h = can_still old.device r s moves stays q (second_alone q h).0 (can_at r.known can q)
 
-  pub third_can : (r s t : State) → MovesNamed old.device old new r.known s.known → DiffersInClaims r s → MovesNamed second_name old new s.known t.known → DiffersInClaims s t → CanMove r.known old new → (q : List ℕ) → is_name third_name q ≡ true → CanMoveAt t.known q
+  pub third_can : (r s t : State) → MovesNamed old.device old new r.known s.known → DiffersInClaims r s → MovesNamed second_name old new s.known t.known → DiffersInClaims s t → CanMove r.known old new → (q : List ℕ) → is_name third_name q
+      ≡ true → CanMoveAt t.known q
   third_can r s t first stays second stay can q h =
       let alone = third_alone q h in
       can_still second_name s t second stay q alone.1 (can_still old.device r s first stays q alone.0 (can_at r.known can q))

@@ -22,7 +22,9 @@ claimed_later st others name no_device no_layer some =
     omega (arith, some, all, none)
 
 -- the claims that are left behind one interface more
-pub left_claimed : (before mid now : Known) (st : InterfaceState) (others : List InterfaceState) → ((q : List ℕ) → 0 < claims_in before q → 0 < claims_of (st ∷ others) q) → ((q : List ℕ) → is_name st.device q ≡ true → claims_in mid q ≡ 0) → ((q : List ℕ) → is_name st.device q ≡ false → claims_in mid q ≡ claims_in before q) → ((q : List ℕ) → is_name st.layer q ≡ true → claims_in now q ≡ 0) → ((q : List ℕ) → is_name st.layer q ≡ false → claims_in now q ≡ claims_in mid q) → (q : List ℕ) → 0 < claims_in now q → 0 < claims_of others q
+pub left_claimed : (before mid now : Known) (st : InterfaceState) (others : List InterfaceState) → ((q : List ℕ) → 0 < claims_in before q → 0 < claims_of (st ∷ others) q) → ((q : List ℕ) → is_name st.device q ≡ true → claims_in mid q ≡ 0)
+    → ((q : List ℕ) → is_name st.device q ≡ false → claims_in mid q ≡ claims_in before q) → ((q : List ℕ) → is_name st.layer q ≡ true → claims_in now q ≡ 0) → ((q : List ℕ) → is_name st.layer q ≡ false → claims_in now q ≡ claims_in mid q)
+    → (q : List ℕ) → 0 < claims_in now q → 0 < claims_of others q
 left_claimed before mid now st others claimed device other_device layer other_layer q some = by (is_name st.device q) (is_name st.layer q) refl refl
   where
     by : (a b : Bool) → is_name st.device q ≡ a → is_name st.layer q ≡ b → 0 < claims_of others q

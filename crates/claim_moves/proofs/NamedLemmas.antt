@@ -21,12 +21,14 @@ count_of : Option Named → ℕ
 count_of o = option_map_or (λ (n : Named). n.claims) o 0
 
 -- the first is claimed otherwise
-here_told : (m : Named) (found : Option Named) (claims : ℕ) (b : Bool) → option_map_or (λ (n : Named). n.claims) (cond b (Some (record m { claims = claims })) found) 0 ≡ cond b claims (option_map_or (λ (n : Named). n.claims) (cond b (Some m) found) 0)
+here_told : (m : Named) (found : Option Named) (claims : ℕ) (b : Bool) → option_map_or (λ (n : Named). n.claims) (cond b (Some (record m { claims = claims })) found) 0
+    ≡ cond b claims (option_map_or (λ (n : Named). n.claims) (cond b (Some m) found) 0)
 here_told m found claims true = refl
 here_told m found claims false = refl
 
 -- one behind it is
-there_told : (m : Named) (now before : Option Named) (claims : ℕ) (b d : Bool) → (b ≡ true → d ≡ true → ⊥) → option_map_or (λ (n : Named). n.claims) now 0 ≡ cond d claims (option_map_or (λ (n : Named). n.claims) before 0) → option_map_or (λ (n : Named). n.claims) (cond b (Some m) now) 0 ≡ cond d claims (option_map_or (λ (n : Named). n.claims) (cond b (Some m) before) 0)
+there_told : (m : Named) (now before : Option Named) (claims : ℕ) (b d : Bool) → (b ≡ true → d ≡ true → ⊥) → option_map_or (λ (n : Named). n.claims) now 0 ≡ cond d claims (option_map_or (λ (n : Named). n.claims) before 0)
+    → option_map_or (λ (n : Named). n.claims) (cond b (Some m) now) 0 ≡ cond d claims (option_map_or (λ (n : Named). n.claims) (cond b (Some m) before) 0)
 there_told m now before claims true true apart rest = absurd (apart refl refl)
 there_told m now before claims true false apart rest = refl
 there_told m now before claims false d apart rest = rest
@@ -34,7 +36,8 @@ there_told m now before claims false d apart rest = rest
 pub claims_set : (ns : List Named) (id : ℕ) (name q : List ℕ) (claims : ℕ) → place_among ns name ≡ Some id → claims_among (with_claims ns id claims) q ≡ cond (bytes_eq name q) claims (claims_among ns q)
 claims_set [] id name q claims at = cc at
 claims_set (m ∷ ms) id name q claims at =
-    elim (split (bytes_eq name m.name) (place_among ms name) id (sym (position-cons (bytes_eq name) m.name (name_list ms)) ∙ at)) as (λ _. claims_among (with_claims (m ∷ ms) id claims) q ≡ cond (bytes_eq name q) claims (claims_among (m ∷ ms) q)) [
+    elim (split (bytes_eq name m.name) (place_among ms name) id (sym (position-cons (bytes_eq name) m.name (name_list ms)) ∙ at)) as
+    (λ _. claims_among (with_claims (m ∷ ms) id claims) q ≡ cond (bytes_eq name q) claims (claims_among (m ∷ ms) q)) [
       | inl first ↦
           subst (λ k. claims_among (with_claims (m ∷ ms) k claims) q ≡ cond (bytes_eq name q) claims (claims_among (m ∷ ms) q)) (sym first.1)
           (here_told m (named_in ms q) claims (bytes_eq m.name q)
@@ -48,7 +51,8 @@ claims_set (m ∷ ms) id name q claims at =
           (claims_set ms k name q claims later.1.1))
     ]
 
-device_kept : (m : Named) (now before : Option Named) (claims : ℕ) (b : Bool) → option_and_then (λ (n : Named). n.device) now ≡ option_and_then (λ (n : Named). n.device) before → option_and_then (λ (n : Named). n.device) (cond b (Some m) now) ≡ option_and_then (λ (n : Named). n.device) (cond b (Some m) before)
+device_kept : (m : Named) (now before : Option Named) (claims : ℕ) (b : Bool) → option_and_then (λ (n : Named). n.device) now ≡ option_and_then (λ (n : Named). n.device) before
+    → option_and_then (λ (n : Named). n.device) (cond b (Some m) now) ≡ option_and_then (λ (n : Named). n.device) (cond b (Some m) before)
 device_kept m now before claims true rest = refl
 device_kept m now before claims false rest = rest
 
@@ -95,7 +99,8 @@ claimed_known ns name some = by (place_among ns name) refl
     by (Some k) is = refl
 
 -- one claim less or more
-pub claim_moved : (before now : List ℕ → ℕ) (name : List ℕ) (claims : ℕ) (used uses : Bool) → ((q : List ℕ) → now q ≡ cond (bytes_eq name q) claims (before q)) → claims + one used ≡ before name + one uses → (q : List ℕ) → now q + one_at name q used ≡ before q + one_at name q uses
+pub claim_moved : (before now : List ℕ → ℕ) (name : List ℕ) (claims : ℕ) (used uses : Bool) → ((q : List ℕ) → now q ≡ cond (bytes_eq name q) claims (before q)) → claims + one used ≡ before name + one uses → (q : List ℕ) → now q
+    + one_at name q used ≡ before q + one_at name q uses
 claim_moved before now name claims used uses told moved q = by (bytes_eq name q) refl
   where
     by : (b : Bool) → bytes_eq name q ≡ b → now q + cond b (one used) 0 ≡ before q + cond b (one uses) 0
@@ -108,7 +113,8 @@ claim_moved before now name claims used uses told moved q = by (bytes_eq name q)
         omega (arith, at)
 
 -- of an unknown name nothing moves
-pub unknown_moves : (s : Known) (name : List ℕ) (used uses : Bool) → place_among s.names name ≡ None → (used ≡ true → 0 < claims_in s name) → (uses ≡ true → is_some (place_among s.names name) ≡ true) → (q : List ℕ) → claims_in s q + one_at name q used ≡ claims_in s q + one_at name q uses
+pub unknown_moves : (s : Known) (name : List ℕ) (used uses : Bool) → place_among s.names name ≡ None → (used ≡ true → 0 < claims_in s name) → (uses ≡ true → is_some (place_among s.names name) ≡ true) → (q : List ℕ) → claims_in s q
+    + one_at name q used ≡ claims_in s q + one_at name q uses
 unknown_moves s name true uses lacks claimed known q =
     let some : is_some (place_among s.names name) ≡ true = claimed_known s.names name (claimed refl) in
     let none : is_some (place_among s.names name) ≡ false = ap (λ (o : Option ℕ). is_some o) lacks in

@@ -1,5 +1,6 @@
 -- The claims of a graph, and how they move with an interface.
-use Rattle.std.specs.Prelude.{ℕ, ◌≡◌, ◌<◌, ◌≤◌, ◌+◌, List, Bool, ◌||◌, true, Option, Some, None, is_some, if◌then◌else◌, bytes_eq}
+use Rattle.std.specs.Prelude.{ℕ, ◌≡◌, ◌<◌, ◌≤◌, ◌+◌, List, Bool, ◌||◌, true, Option, Some, None, is_some, if◌then◌else◌}
+use Rattle.std.specs.Prelude.{bytes_eq}
 use Rattle.net_rules.specs.Rows.{is_name}
 use Rattle.graph_rules.specs.State.{Known, State, names_in, device_in, claims_in, place_among}
 use Rattle.net_rules.specs.declared.state.InterfaceState.{InterfaceState}
@@ -26,8 +27,8 @@ one_at name q b = if bytes_eq name q then one b else 0
 abbrev pub HasClaims : List InterfaceState → Known → Type 0
 HasClaims states s = (name : List ℕ) → claims_in s name ≡ claims_of states name
 
--- The claims can follow where an interface becomes another: what it used is claimed, what it uses is a name of the graph, and the
--- claims stay few.
+-- The claims can follow where an interface becomes another: what it used is claimed, what it uses is a name of the
+-- graph, and the claims stay few.
 pub record CanMove (s : Known) (old new : InterfaceState) : Type 0 where
   pub device : new.device ≡ old.device
   pub claimed : (name : List ℕ) → uses_by name old ≡ true → 0 < claims_in s name

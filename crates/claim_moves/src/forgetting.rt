@@ -11,9 +11,11 @@ use net_rules::InterfaceState;
 use std::sync::ledger::Ledger;
 use use_counts::Steps;
 
-/// Nothing claims the names of a graph any more that were claimed by interfaces alone. It takes no memory.
+/// Nothing claims the names of a graph any more that were claimed by interfaces alone. It takes no
+/// memory.
 pub fn forget_claims<L: Ledger>(graph: &mut Graph, states: &[InterfaceState], steps: &mut Steps<L>)
-    requires { (name : List ℕ) → 0 < claims_in graph.old.known name → 0 < claims_of states.now name }
+    requires { (name : List ℕ) → 0 < claims_in graph.old.known name
+        → 0 < claims_of states.now name }
     ensures none { (name : List ℕ) → claims_in graph.new.known name ≡ 0 }
     ensures stays { DiffersInClaims graph.old graph.new }
 {

@@ -94,7 +94,8 @@ pub(crate) fn put_text(alloc: Global, input: &[u8], out: &mut Vec<u8>) -> anyhow
     Ok(())
 }
 
-/// Puts how many bytes an attribute takes, whose name and, for a string, whose text the input tells.
+/// Puts how many bytes an attribute takes, whose name and, for a string, whose text the input
+/// tells.
 pub(crate) fn put_size(
     alloc: Global,
     kind: &str,

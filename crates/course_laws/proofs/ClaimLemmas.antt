@@ -22,7 +22,8 @@ use Rattle.graph_laws.proofs.BelowLemmas.{unknown_below, no_device}
 use Rattle.course_laws.proofs.TimesLemmas.{none_counted}
 
 -- a name that is none of others has no place
-no_place_by : (name n : List ℕ) (ns : List (List ℕ)) (b : Bool) → bytes_eq name n ≡ b → (Contains (n ∷ ns) name → ⊥) → position (bytes_eq name) ns ≡ None → cond {A = Option ℕ} b (Some 0) (option_map (λ k. suc k) (position (bytes_eq name) ns)) ≡ None
+no_place_by : (name n : List ℕ) (ns : List (List ℕ)) (b : Bool) → bytes_eq name n ≡ b → (Contains (n ∷ ns) name → ⊥) → position (bytes_eq name) ns ≡ None
+    → cond {A = Option ℕ} b (Some 0) (option_map (λ k. suc k) (position (bytes_eq name) ns)) ≡ None
 no_place_by name n ns true is apart rest = absurd (apart (subst (Contains (n ∷ ns)) (sym (bytes_same name n is)) (here n ns)))
 no_place_by name n ns false is apart rest = ap (option_map (λ k. suc k)) rest
 

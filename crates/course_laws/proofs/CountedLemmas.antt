@@ -14,7 +14,8 @@ use Rattle.net_gifts.proofs.GivenLemmas.{gives_are}
 use Rattle.graph_settle.specs.Course.{Course}
 use Rattle.course_laws.specs.Beside.{IsCourseOf}
 
-pub counted_beside : (inputs : Inputs) (states : List InterfaceState) (c : Course) → IsSound c.graph.known → AgreesBelow (facts_of inputs) c.graph.known → AreStates (facts_of inputs) inputs.conf.interfaces states → ((name : List ℕ) → claims_in c.graph.known name ≡ claims_of states name) → HasGivers (facts_of inputs) inputs.conf.interfaces states c.gifts → IsCourseOf inputs c
+pub counted_beside : (inputs : Inputs) (states : List InterfaceState) (c : Course) → IsSound c.graph.known → AgreesBelow (facts_of inputs) c.graph.known → AreStates (facts_of inputs) inputs.conf.interfaces states
+    → ((name : List ℕ) → claims_in c.graph.known name ≡ claims_of states name) → HasGivers (facts_of inputs) inputs.conf.interfaces states c.gifts → IsCourseOf inputs c
 counted_beside inputs states c sound below are claims givers = record {
   sound = sound;
   agrees = record {

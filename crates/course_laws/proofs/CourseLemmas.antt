@@ -117,7 +117,8 @@ module _ (inputs : Inputs) (c : Course) (history : IsHistory (record { inputs = 
       let row = of.source in
       let on = on_layer facts row o of.among in
       let named : is_name (layer_of facts row) on.layer ≡ true = ap (λ l. is_name l on.layer) on.layer_is ∙ same_bytes on.layer on.layer refl in
-      let uses_it : uses facts on.layer row ≡ true = of_right (is_claimed facts row && is_name (device_of facts row) on.layer) (is_up facts row && is_name (layer_of facts row) on.layer) (of_both (is_up facts row) (is_name (layer_of facts row) on.layer) on.up named) in
+      let uses_it : uses facts on.layer row ≡ true = of_right (is_claimed facts row && is_name (device_of facts row) on.layer) (is_up facts row && is_name (layer_of facts row) on.layer)
+      (of_both (is_up facts row) (is_name (layer_of facts row) on.layer) on.up named) in
       subst (λ n. used facts n ≡ true) (sym (name_on on.layer o on.on))
       (used_by_interface facts (orderly moment history).sound row on.layer of.member (layer_available facts row on.layer on.up on.layer_is) uses_it)
 
@@ -148,9 +149,11 @@ beside_then inputs before now beside alike = record {
   given = λ o upper. alike.givers o ∙ beside.given o upper;
 }
 
-pub history_then : (inputs : Inputs) (before now : Course) (made : List Call) → IsHistory (record { inputs = inputs; held = held_of before }) → IsCourseOf inputs before → AreGifts before.gifts → calls_of before ≡ made ++ calls_of now → held_of now ≡ after_calls (held_of before) made → IsHistory (record { inputs = inputs; held = held_of now })
+pub history_then : (inputs : Inputs) (before now : Course) (made : List Call) → IsHistory (record { inputs = inputs; held = held_of before }) → IsCourseOf inputs before → AreGifts before.gifts → calls_of before ≡ made ++ calls_of now
+    → held_of now ≡ after_calls (held_of before) made → IsHistory (record { inputs = inputs; held = held_of now })
 history_then inputs before now made history beside are parts held =
     let moment : Moment = record { inputs = inputs; held = held_of before } in
     let all = calls_all inputs before beside (orderly moment history).sound are in
-    let in_parts : AreCalls (devices_of inputs) (held_of before) (want_of inputs) (made ++ calls_of now) = subst (AreCalls (devices_of inputs) (held_of before) (want_of inputs)) (sym all ∙ parts) (are_the_calls (devices_of inputs) (held_of before) (want_of inputs)) in
+    let in_parts : AreCalls (devices_of inputs) (held_of before) (want_of inputs) (made ++ calls_of now) =
+    subst (AreCalls (devices_of inputs) (held_of before) (want_of inputs)) (sym all ∙ parts) (are_the_calls (devices_of inputs) (held_of before) (want_of inputs)) in
     subst (λ h. IsHistory (record { inputs = inputs; held = h })) (sym held) (IsHistory.settled moment made (calls_of now) history in_parts)

@@ -209,7 +209,8 @@ module _ (inputs : Inputs) (s : State) (agrees : AgreesBelow (facts_of inputs) s
         ∙ ap (cond (bytes_eq name q) None) (agrees.devices q)
         ∙ sym (gone_in name inputs.devices q))
 
-    carried : (on : Bool) (q : List ℕ) (b : Bool) → bytes_eq name q ≡ b → cond b (option_map (with_carrier on) (name_at s.known.names id).device) (device_among s.known.names q) ≡ cond b (option_map (with_carrier on) (device_in inputs.devices q)) (device_in inputs.devices q)
+    carried : (on : Bool) (q : List ℕ) (b : Bool) → bytes_eq name q ≡ b → cond b (option_map (with_carrier on) (name_at s.known.names id).device) (device_among s.known.names q)
+        ≡ cond b (option_map (with_carrier on) (device_in inputs.devices q)) (device_in inputs.devices q)
     carried on q true is =
         ap (option_map (with_carrier on)) (sym (at_place s.known.names name id place) ∙ agrees.devices name ∙ ap (device_in inputs.devices) (bytes_same name q is))
     carried on q false is = agrees.devices q

@@ -36,11 +36,13 @@ last_claims : (name q : List ℕ) (b : Bool) → option_map_or (λ (n : Named). 
 last_claims name q true = refl
 last_claims name q false = refl
 
-more_devices_by : (n : Named) (ns more : List Named) (q : List ℕ) (b : Bool) → option_and_then (λ (m : Named). m.device) (named_in more q) ≡ option_and_then (λ (m : Named). m.device) (named_in ns q) → option_and_then (λ (m : Named). m.device) (cond b (Some n) (named_in more q)) ≡ option_and_then (λ (m : Named). m.device) (cond b (Some n) (named_in ns q))
+more_devices_by : (n : Named) (ns more : List Named) (q : List ℕ) (b : Bool) → option_and_then (λ (m : Named). m.device) (named_in more q) ≡ option_and_then (λ (m : Named). m.device) (named_in ns q)
+    → option_and_then (λ (m : Named). m.device) (cond b (Some n) (named_in more q)) ≡ option_and_then (λ (m : Named). m.device) (cond b (Some n) (named_in ns q))
 more_devices_by n ns more q true rest = refl
 more_devices_by n ns more q false rest = rest
 
-more_claims_by : (n : Named) (ns more : List Named) (q : List ℕ) (b : Bool) → option_map_or (λ (m : Named). m.claims) (named_in more q) 0 ≡ option_map_or (λ (m : Named). m.claims) (named_in ns q) 0 → option_map_or (λ (m : Named). m.claims) (cond b (Some n) (named_in more q)) 0 ≡ option_map_or (λ (m : Named). m.claims) (cond b (Some n) (named_in ns q)) 0
+more_claims_by : (n : Named) (ns more : List Named) (q : List ℕ) (b : Bool) → option_map_or (λ (m : Named). m.claims) (named_in more q) 0 ≡ option_map_or (λ (m : Named). m.claims) (named_in ns q) 0
+    → option_map_or (λ (m : Named). m.claims) (cond b (Some n) (named_in more q)) 0 ≡ option_map_or (λ (m : Named). m.claims) (cond b (Some n) (named_in ns q)) 0
 more_claims_by n ns more q true rest = refl
 more_claims_by n ns more q false rest = rest
 

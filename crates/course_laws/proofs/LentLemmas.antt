@@ -22,7 +22,8 @@ use Rattle.graph_settle.proofs.CourseLemmas.{held_parts}
 use Rattle.course_laws.specs.Beside.{IsCourseOf, HoldsLower}
 
 -- a name with a device is among the names
-known_by : (n : Named) (ns : List Named) (name : List ℕ) (d : Device) (b : Bool) → bytes_eq n.name name ≡ b → (device_among ns name ≡ Some d → Contains (name_list ns) name) → option_and_then (λ (m : Named). m.device) (cond b (Some n) (named_in ns name)) ≡ Some d → Contains (n.name ∷ name_list ns) name
+known_by : (n : Named) (ns : List Named) (name : List ℕ) (d : Device) (b : Bool) → bytes_eq n.name name ≡ b → (device_among ns name ≡ Some d → Contains (name_list ns) name)
+    → option_and_then (λ (m : Named). m.device) (cond b (Some n) (named_in ns name)) ≡ Some d → Contains (n.name ∷ name_list ns) name
 known_by n ns name d true is rest h = subst (Contains (n.name ∷ name_list ns)) (bytes_same n.name name is) (here n.name (name_list ns))
 known_by n ns name d false is rest h = there n.name (name_list ns) name (rest h)
 

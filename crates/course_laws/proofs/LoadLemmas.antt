@@ -20,7 +20,8 @@ abbrev is_listed : List (List ℕ) → List ℕ → Bool
 is_listed names q = list_any (λ n. bytes_eq n q) names
 
 -- names that are kept have the devices that they had
-kept_by : (old : List Named) (n : List ℕ) (ns : List (List ℕ)) (q : List ℕ) (b : Bool) → bytes_eq n q ≡ b → device_among (kept_names old ns) q ≡ cond (is_listed ns q) (device_among old q) None → device_among (kept_names old (n ∷ ns)) q ≡ cond (b || is_listed ns q) (device_among old q) None
+kept_by : (old : List Named) (n : List ℕ) (ns : List (List ℕ)) (q : List ℕ) (b : Bool) → bytes_eq n q ≡ b → device_among (kept_names old ns) q ≡ cond (is_listed ns q) (device_among old q) None → device_among (kept_names old (n ∷ ns)) q
+    ≡ cond (b || is_listed ns q) (device_among old q) None
 kept_by old n ns q true is rest = cons_device (kept_name old n) (kept_names old ns) q true is ∙ ap (device_among old) (bytes_same n q is)
 kept_by old n ns q false is rest = cons_device (kept_name old n) (kept_names old ns) q false is ∙ rest
 

@@ -1,5 +1,6 @@
 // Laws of the definitions. Each body is empty, and the contract is the law.
-ghost use Rattle.std.specs.Prelude.{◌≡◌, ◌≤◌, ◌++◌, ℕ, List, Contains, map, filter, length, None, Some, Bool, true};
+ghost use Rattle.std.specs.Prelude.{◌≡◌, ◌≤◌, ◌++◌, ℕ, List, Contains, map, filter, length, None};
+ghost use Rattle.std.specs.Prelude.{Some, Bool, true};
 ghost use Rattle.kern_model.specs.declared.object.Device.{Device};
 ghost use Rattle.kern_model.specs.declared.object.Mac.{Mac};
 ghost use Rattle.kern_model.specs.declared.object.Object.{Object};
@@ -20,9 +21,11 @@ ghost use Rattle.net_rules.specs.Inputs.{facts_of, device_in};
 ghost use Rattle.net_rules.specs.After.{changed};
 ghost use Rattle.net_rules.specs.Moment.{devices_of, want_of, IsHistory};
 ghost use Rattle.graph_rules.specs.declared.ids.RadioPort.{RadioPort};
-ghost use Rattle.graph_rules.specs.State.{Named, Known, State, names_in, place_among, claims_among, claims_in};
+ghost use Rattle.graph_rules.specs.State.{Named, Known, State, names_in, place_among, claims_among};
+ghost use Rattle.graph_rules.specs.State.{claims_in};
 ghost use Rattle.graph_rules.specs.Answers.{port_of};
-ghost use Rattle.graph_rules.specs.After.{present_after, absent_after, carrier_after, claimed_after, added_after, known_of};
+ghost use Rattle.graph_rules.specs.After.{present_after, absent_after, carrier_after};
+ghost use Rattle.graph_rules.specs.After.{claimed_after, added_after, known_of};
 ghost use Rattle.graph_rules.specs.Wanted.{want_in};
 ghost use Rattle.graph_rules.specs.Agreeing.{Agrees};
 ghost use Rattle.graph_laws.specs.Below.{AgreesBelow};
@@ -40,8 +43,8 @@ ghost use Rattle.graph_settle.specs.Course as course;
 ghost use Rattle.graph_settle.specs.Leaving.{all_looked_at, left_gifts};
 ghost use Rattle.course_laws.specs.Beside.{IsCourseOf, HoldsLower, AreQuiet};
 
-/// A graph and gifts beside inputs with sound rows want what the inputs want, and have their devices. So the calls are those from what
-/// they hold to what the inputs want.
+/// A graph and gifts beside inputs with sound rows want what the inputs want, and have their
+/// devices. So the calls are those from what they hold to what the inputs want.
 pub fn courses_want_what_inputs_want()
     ensures wants { (inputs : Inputs) (c : Course) → IsSound inputs.conf → IsCourseOf inputs c
         → AreGifts c.gifts → wanted_of c ≡ want_of inputs }
@@ -52,8 +55,8 @@ pub fn courses_want_what_inputs_want()
         → calls_of c ≡ calls (devices_of inputs) (held_of c) (want_of inputs) }
 {}
 
-/// The graph knows the names of the rows and of the present devices. It wants and holds what all want and hold, without addresses and
-/// routes.
+/// The graph knows the names of the rows and of the present devices. It wants and holds what all
+/// want and hold, without addresses and routes.
 pub fn graphs_of_courses_are_of_inputs()
     ensures rows { (inputs : Inputs) (c : Course) → IsCourseOf inputs c → (name : List ℕ)
         → Contains (names_of inputs.conf) name → Contains (names_in c.graph.known) name }
@@ -66,8 +69,8 @@ pub fn graphs_of_courses_are_of_inputs()
         → c.graph.held ≡ lower_part (held_of c) }
 {}
 
-/// A sound graph that has the devices of inputs, and gifts, are beside these inputs where claims and givers are counted over what
-/// interfaces are.
+/// A sound graph that has the devices of inputs, and gifts, are beside these inputs where claims
+/// and givers are counted over what interfaces are.
 pub fn counted_courses_are_of_inputs()
     ensures { (inputs : Inputs) (states : List InterfaceState) (c : Course)
         → counts.IsSound c.graph.known → AgreesBelow (facts_of inputs) c.graph.known
@@ -76,8 +79,9 @@ pub fn counted_courses_are_of_inputs()
         → HasGivers (facts_of inputs) inputs.conf.interfaces states c.gifts → IsCourseOf inputs c }
 {}
 
-/// Where a history led to the inputs and to what is held, they are ready to be settled: once each gift was told whether its name falls,
-/// and where links of the rows alone are held and no gift that is held tells that its name falls.
+/// Where a history led to the inputs and to what is held, they are ready to be settled: once each
+/// gift was told whether its name falls, and where links of the rows alone are held and no gift
+/// that is held tells that its name falls.
 pub fn courses_of_histories_are_ready()
     ensures looked { (inputs : Inputs) (c : Course) (before : Gifts)
         → IsHistory (record { inputs = inputs; held = held_of c }) → IsCourseOf inputs c
@@ -89,7 +93,8 @@ pub fn courses_of_histories_are_ready()
         → IsReady c }
 {}
 
-/// A settling that made some of the calls leaves them beside the same inputs, and a history leads to what is held then.
+/// A settling that made some of the calls leaves them beside the same inputs, and a history leads
+/// to what is held then.
 pub fn settlings_lead_courses_on()
     ensures beside { (inputs : Inputs) (before now : Course) → IsCourseOf inputs before
         → IsAlike before now → IsCourseOf inputs now }
@@ -101,7 +106,8 @@ pub fn settlings_lead_courses_on()
         → IsHistory (record { inputs = inputs; held = held_of now }) }
 {}
 
-/// Gifts that are held and tell that no name falls stay so, however often they are given, and where some go with a device.
+/// Gifts that are held and tell that no name falls stay so, however often they are given, and where
+/// some go with a device.
 pub fn gifts_stay_quiet()
     ensures more { (gs : Gifts) (o : Object) → AreQuiet gs → AreQuiet (given_once_more gs o) }
     ensures less { (gs : Gifts) (o : Object) → AreQuiet gs → AreQuiet (given_once_less gs o) }
@@ -124,7 +130,8 @@ pub fn further_names_change_nothing()
         → Contains (names_in (added_after s name).known) q }
 {}
 
-/// A graph follows what happens to a device whose name it knows. Its names stay, and so does what it knows of rows and radios.
+/// A graph follows what happens to a device whose name it knows. Its names stay, and so does what
+/// it knows of rows and radios.
 pub fn devices_lead_graphs_on()
     ensures comes { (inputs : Inputs) (s : State) (name : List ℕ) (id : ℕ) (carrier : Bool)
         (mtu : ℕ) (mac : Mac) → AgreesBelow (facts_of inputs) s.known
@@ -143,10 +150,11 @@ pub fn devices_lead_graphs_on()
         → AgreesBelow facts (claimed_after s id claims).known }
 {}
 
-/// A load over a graph that knows the devices of a network knows them still, where their names are among those that are loaded. No name
-/// has more claims than it had.
+/// A load over a graph that knows the devices of a network knows them still, where their names are
+/// among those that are loaded. No name has more claims than it had.
 pub fn loads_lead_graphs_on()
-    ensures below { (before now : Facts) (old : Known) (plain : List (List ℕ)) (radio : List RadioPort)
+    ensures below { (before now : Facts) (old : Known) (plain : List (List ℕ))
+        (radio : List RadioPort)
         → AgreesBelow before old → ((name : List ℕ) → now.device name ≡ before.device name)
         → map port_of radio ≡ radio_ports now
         → ((name : List ℕ) (d : Device) → before.device name ≡ Some d
@@ -157,7 +165,8 @@ pub fn loads_lead_graphs_on()
         → claims_in (known_of old rows plain radio) name ≤ claims_among old name }
 {}
 
-/// A graph has the claims of its network where it has those of the names that it knows: no interface uses another.
+/// A graph has the claims of its network where it has those of the names that it knows: no
+/// interface uses another.
 pub fn claims_of_known_names_are_all()
     ensures unknown { (facts : Facts) (s : Known) (name : List ℕ) → AgreesBelow facts s
         → KnowsRows s → (Contains (names_in s) name → ⊥)

@@ -1,5 +1,5 @@
-//! Laws on a graph with gifts above it beside the inputs of a network: it wants what the inputs want, it is ready to be settled, and
-//! events, loads and settlings lead it on.
+//! Laws on a graph with gifts above it beside the inputs of a network: it wants what the inputs
+//! want, it is ready to be settled, and events, loads and settlings lead it on.
 #![tactic(auto)]
 
 mod laws;

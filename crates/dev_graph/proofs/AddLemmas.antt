@@ -45,7 +45,8 @@ module _ (names : Option Known) (held : Objects) (loads : ℕ) (old : State) (vi
   pub known_is : (s : Known) → known_in names ≡ s → s ≡ old.known
   known_is s is = sym is ∙ ap (λ (o : State). o.known) view
 
-  pub added_now : (s t : Known) (now : Objects) (name : List ℕ) → known_in names ≡ s → t ≡ record s { names = with_name s.names name } → now ≡ held → (let end : State = record { known = t; held = now; loads = loads } in end) ≡ added_after old name
+  pub added_now : (s t : Known) (now : Objects) (name : List ℕ) → known_in names ≡ s → t ≡ record s { names = with_name s.names name } → now ≡ held → (let end : State = record { known = t; held = now; loads = loads } in end)
+      ≡ added_after old name
   added_now s t now name is more same =
       let known_now : t ≡ record old.known { names = with_name old.known.names name } = more ∙ ap (λ (k : Known). let m : Known = record k { names = with_name k.names name } in m) (known_is s is) in
       let held_now : now ≡ old.held = same ∙ ap (λ (o : State). o.held) view in
@@ -69,7 +70,8 @@ pub whole_either : {A E : Type 0} (r : Result A E) (s t : Known) (name : List �
 whole_either (Ok a) s t name whole other more stays = subst IsWhole (sym more) (whole_added s name whole other)
 whole_either (Err e) s t name whole other more stays = subst IsWhole (sym stays) whole
 
-pub tied_after_adding : (h : Inside) (t : Known) → h.names ≡ Some t → IsWhole t → length h.used.items ≡ length t.names → AreUsed t h.used.items → HaveSame h.objects.wishes (map (wish_in t) (mays t)) → length t.names ≤ h.uses.room → h.uses.ids ≡ [] → IsTied h
+pub tied_after_adding : (h : Inside) (t : Known) → h.names ≡ Some t → IsWhole t → length h.used.items ≡ length t.names → AreUsed t h.used.items → HaveSame h.objects.wishes (map (wish_in t) (mays t)) → length t.names ≤ h.uses.room
+    → h.uses.ids ≡ [] → IsTied h
 tied_after_adding h t now whole size used wishes room none = record {
   whole = λ k e. whole_some t whole k (sym now ∙ e);
   used = size ∙ ap (λ n. length (known_in n).names) (sym now);

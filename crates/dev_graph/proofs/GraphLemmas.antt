@@ -36,7 +36,12 @@ use Rattle.graph_tables.proofs.ListLemmas.{same_mays, first_unjudged}
 pub whole_loaded : (old : List Named) (conf : Conf) (plain : List (List ℕ)) (radio : List RadioPort) → CanLoad conf plain radio → IsWhole (known_of old conf plain radio)
 whole_loaded old conf plain radio can = record {
   names = sound_loaded old conf plain radio can;
-  vlans = let v = can.sound.vlans in record { one_row = λ bridge a b on. v.one_row bridge a b (record { first = on.first; first_on = on.first_on; second = on.second; second_on = on.second_on }); one_entry = v.one_entry; one_pvid = λ bridge a b on. v.one_pvid bridge a b (record { first = on.first; first_on = on.first_on; second = on.second; second_on = on.second_on }) };
+  vlans = let v = can.sound.vlans in record {
+    one_row = λ bridge a b on. v.one_row bridge a b (record { first = on.first; first_on = on.first_on; second = on.second; second_on = on.second_on });
+    one_entry = v.one_entry;
+    one_pvid =
+        λ bridge a b on. v.one_pvid bridge a b (record { first = on.first; first_on = on.first_on; second = on.second; second_on = on.second_on });
+  };
 }
 
 -- names of the same spelling, and other ports of radios
@@ -70,7 +75,8 @@ pub record IsTold (s t : Known) (ids : List ℕ) (used : List Bool) (ws : List W
   pub within : (id : ℕ) → Contains ids id → id < length t.names
   pub differing : DiffersAt s t ids used ws
 
-told_named : (s : Known) (ns : List Named) (ws : List Wish) (used : List Bool) (old new : Marking) → IsWhole s → HaveSame ws (map (wish_in s) (mays s)) → length used ≡ length s.names → AreUsed s used → old.ids ≡ [] → name_list ns ≡ names_in s
+told_named : (s : Known) (ns : List Named) (ws : List Wish) (used : List Bool) (old new : Marking) → IsWhole s → HaveSame ws (map (wish_in s) (mays s)) → length used ≡ length s.names → AreUsed s used → old.ids ≡ [] → name_list ns
+    ≡ names_in s
     → TellsUses s (record s { names = ns }) old new → IsTold s (record s { names = ns }) new.ids used ws
 told_named s ns ws used old new whole same size are none spelled tells =
     let sizes : length ns ≡ length s.names = sym (length-map ns (λ (n : Named). n.name)) ∙ ap length spelled ∙ length-map s.names (λ (n : Named). n.name) in
@@ -91,7 +97,8 @@ told_named s ns ws used old new whole same size are none spelled tells =
       };
     }
 
-pub told_after : (g : Inside) (s t : Known) (ns : List Named) (new : Marking) → g.names ≡ Some s → IsTied g → name_list ns ≡ names_in s → t ≡ record s { names = ns } → TellsUses s t g.uses new → IsTold s t new.ids g.used.items g.objects.wishes
+pub told_after : (g : Inside) (s t : Known) (ns : List Named) (new : Marking) → g.names ≡ Some s → IsTied g → name_list ns ≡ names_in s → t ≡ record s { names = ns } → TellsUses s t g.uses new
+    → IsTold s t new.ids g.used.items g.objects.wishes
 told_after g s t ns new is tied spelled now tells =
     let there : known_in g.names ≡ s = ap known_in is in
     let same : HaveSame g.objects.wishes (map (wish_in s) (mays s)) = subst (λ k. HaveSame g.objects.wishes (map (wish_in k) (mays k))) there tied.wishes in
@@ -135,13 +142,15 @@ module _ (names : Option Known) (s : Known) (held : Objects) (loads : ℕ) (old 
       let all : (let end : State = record { known = t; held = now; loads = loads } in end) ≡ with_names old (change old.known.names) = λ i. record { known = known_now i; held = (held_now ∙ held_before) i; loads = loads_before i } in
       all
 
-  pub after_leaving : (t : Known) (now : Objects) (id : ℕ) (name : List ℕ) (device : Option Device) → t ≡ record s { names = with_device s.names id None } → name ≡ (name_at s.names id).name → device ≡ (name_at s.names id).device → now ≡ left_by device name held
+  pub after_leaving : (t : Known) (now : Objects) (id : ℕ) (name : List ℕ) (device : Option Device) → t ≡ record s { names = with_device s.names id None } → name ≡ (name_at s.names id).name → device ≡ (name_at s.names id).device → now
+      ≡ left_by device name held
       → (let end : State = record { known = t; held = now; loads = loads } in end) ≡ absent_after old id
   after_leaving t now id name device names_now named there held_now =
       let known_now : t ≡ record old.known { names = with_device old.known.names id None } = names_now ∙ ap (λ (k : Known). let m : Known = record k { names = with_device k.names id None } in m) known_before in
       let name_now : name ≡ (name_at old.known.names id).name = named ∙ ap (λ (k : Known). (name_at k.names id).name) known_before in
       let device_now : device ≡ (name_at old.known.names id).device = there ∙ ap (λ (k : Known). (name_at k.names id).device) known_before in
-      let gone_now : now ≡ left_by (name_at old.known.names id).device (name_at old.known.names id).name old.held = held_now ∙ ap (left_by device name) held_before ∙ ap (λ (d : Option Device). left_by d name old.held) device_now ∙ ap (λ (n : List ℕ). left_by (name_at old.known.names id).device n old.held) name_now in
+      let gone_now : now ≡ left_by (name_at old.known.names id).device (name_at old.known.names id).name old.held = held_now ∙ ap (left_by device name) held_before ∙ ap (λ (d : Option Device). left_by d name old.held) device_now
+      ∙ ap (λ (n : List ℕ). left_by (name_at old.known.names id).device n old.held) name_now in
       let all : (let end : State = record { known = t; held = now; loads = loads } in end) ≡ absent_after old id = λ i. record { known = known_now i; held = gone_now i; loads = loads_before i } in
       all
 
@@ -172,7 +181,8 @@ module _ (t : Known) (rows : List NameRow) (vlans : List VlanRow) (names : List 
   }
 
 -- a graph after a load
-pub loaded_now : (names : Option Known) (held : Objects) (loads : ℕ) (old : State) → (let start : State = record { known = known_in names; held = held; loads = loads } in start) ≡ old → (conf : Conf) (plain : List (List ℕ)) (radio : List RadioPort) (t : Known) (now : Objects)
+pub loaded_now : (names : Option Known) (held : Objects) (loads : ℕ) (old : State) → (let start : State = record { known = known_in names; held = held; loads = loads } in start) ≡ old
+    → (conf : Conf) (plain : List (List ℕ)) (radio : List RadioPort) (t : Known) (now : Objects)
     → t ≡ known_of (known_in names).names conf plain radio → now ≡ held → (let end : State = record { known = t; held = now; loads = loads + 1 } in end) ≡ loaded_after (Some old) conf plain radio
 loaded_now names held loads old view conf plain radio t now is same =
     let known_now : t ≡ known_of old.known.names conf plain radio = is ∙ ap (λ (s : State). known_of s.known.names conf plain radio) view in
@@ -182,7 +192,8 @@ loaded_now names held loads old view conf plain radio t now is same =
     all
 
 -- a graph with other ports of radios
-pub ports_now : (names : Option Known) (s : Known) (held : Objects) (loads : ℕ) (old : State) → names ≡ Some s → (let start : State = record { known = known_in names; held = held; loads = loads } in start) ≡ old → (radio : List RadioPort) (t : Known) (now : Objects)
+pub ports_now : (names : Option Known) (s : Known) (held : Objects) (loads : ℕ) (old : State) → names ≡ Some s → (let start : State = record { known = known_in names; held = held; loads = loads } in start) ≡ old
+    → (radio : List RadioPort) (t : Known) (now : Objects)
     → t ≡ record s { radio = radio } → now ≡ held → (let end : State = record { known = t; held = now; loads = loads } in end) ≡ ports_after old radio
 ports_now names s held loads old is view radio t now told same =
     let known_now : t ≡ record old.known { radio = radio } = told ∙ ap (λ (k : Known). let m : Known = record k { radio = radio } in m) (known_before names s held loads old is view) in
@@ -196,7 +207,8 @@ pub tied_stays : (g : Inside) (t : Known) → g.names ≡ Some t → IsTied g �
 tied_stays g t is tied = subst (λ n. IsTied (record g { names = n })) is tied
 
 -- before the first load there are no bridges, and so no ports of radios
-pub none_joined : (names : Option Known) (held : Objects) (loads : ℕ) (old : State) → names ≡ None → (let start : State = record { known = known_in names; held = held; loads = loads } in start) ≡ old → (radio : List RadioPort) → ArePorts old.known.rows (names_in old.known) radio
+pub none_joined : (names : Option Known) (held : Objects) (loads : ℕ) (old : State) → names ≡ None → (let start : State = record { known = known_in names; held = held; loads = loads } in start) ≡ old → (radio : List RadioPort)
+    → ArePorts old.known.rows (names_in old.known) radio
     → (let start : State = record { known = known_in names; held = held; loads = loads } in start) ≡ ports_after old radio
 none_joined names held loads old is view radio ports =
     let nothing : old.known ≡ nothing_known = sym (ap (λ (o : State). o.known) view) ∙ ap known_in is in

@@ -128,7 +128,8 @@ module _ (s : Known) (x : List ℕ) (whole : IsWhole s) (new : place_among s.nam
   unfolding used_in
   not_used =
       first_level 7 (λ above name. available_in s name && (nat_lt 0 (claims_in s name) || list_any (λ upper. stands_in s name upper && above upper) (row_names s))) x
-      ∙ ap (λ b. b && (nat_lt 0 (claims_in s x) || list_any (λ upper. stands_in s x upper && by_levels 7 (λ above name. available_in s name && (nat_lt 0 (claims_in s name) || list_any (λ up. stands_in s name up && above up) (row_names s))) upper) (row_names s))) not_available
+      ∙ ap (λ b. b && (nat_lt 0 (claims_in s x) || list_any (λ upper. stands_in s x upper
+      && by_levels 7 (λ above name. available_in s name && (nat_lt 0 (claims_in s name) || list_any (λ up. stands_in s name up && above up) (row_names s))) upper) (row_names s))) not_available
 
   whole_now : IsWhole t
   whole_now = whole_added s x whole new
@@ -283,7 +284,9 @@ module _ (s : Known) (x : List ℕ) (whole : IsWhole s) (new : place_among s.nam
     (λ m.
         let is = from_filter (λ (v : Wish). nat_lt v.first (length s.names)) vs w m in
         kept (is_some (vlan_parts x)) refl is ((same w).0 (filter_member (λ (v : Wish). nat_lt v.first (length s.names)) vs w m))),
-    (λ m. in_filter (λ (v : Wish). nat_lt v.first (length s.names)) vs w ((same w).1 (subst (λ ws. Contains ws w) (sym (wishes_now (is_some (vlan_parts x)) refl)) (Contains-append_left (map (wish_in s) (mays s)) (cond (is_some (vlan_parts x)) [] (plain_wish x (length s.names) ∷ [])) w m))) (old_below w m)),
+    (λ m. in_filter (λ (v : Wish). nat_lt v.first (length s.names)) vs w
+        ((same w).1 (subst (λ ws. Contains ws w) (sym (wishes_now (is_some (vlan_parts x)) refl)) (Contains-append_left (map (wish_in s) (mays s)) (cond (is_some (vlan_parts x)) [] (plain_wish x (length s.names) ∷ [])) w m)))
+        (old_below w m)),
   )
     where
       last_one : (b : Bool) → Contains (cond b [] (plain_wish x (length s.names) ∷ [])) w → plain_wish x (length s.names) ≡ w

@@ -44,7 +44,8 @@ none_first q (n ∷ ns) h = by n.device (none_first q ns (λ later. h (there n.n
     by : (d : Option Device) → first_of q (filter_map told ns) ≡ None → first_of q (filter_map told (as_told n d ∷ ns)) ≡ None
     by None rest = rest
     by (Some e) rest =
-        let other : eq_by_cmp (slice_cmp nat_cmp) q n.name ≡ false = name_test q n.name ∙ false_of_not (bytes_eq q n.name) (λ same. h (subst (Contains (n.name ∷ name_list ns)) (sym (bytes_same q n.name same)) (here n.name (name_list ns)))) in
+        let other : eq_by_cmp (slice_cmp nat_cmp) q n.name ≡ false = name_test q n.name ∙ false_of_not (bytes_eq q n.name) (λ same. h (subst (Contains (n.name ∷ name_list ns)) (sym (bytes_same q n.name same)) (here n.name (name_list ns))))
+        in
         ap (λ b. cond b (Some e) (first_of q (filter_map told ns))) other ∙ rest
 
 first_named : (q : List ℕ) (ns : List Named) → AreDistinct (name_list ns) → first_of q (filter_map told ns) ≡ device_among ns q

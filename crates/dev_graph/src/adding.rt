@@ -25,7 +25,8 @@ fn is_dotted(name: &DevName) -> bool
     vlan_parts(name).is_some()
 }
 
-/// What one more plain name may want is expected beside what the others may: that it is up, unless it is of the form X.N.
+/// What one more plain name may want is expected beside what the others may: that it is up, unless
+/// it is of the form X.N.
 pub(crate) fn expect_plain(
     names: &CountedNames,
     name: DevName,

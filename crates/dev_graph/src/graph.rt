@@ -1,4 +1,5 @@
-ghost use Rattle.std.specs.Prelude.{◌≡◌, ◌≤◌, ◌<◌, ◌+◌, ◌*◌, ◌^◌, map, length, Some, None, IfOk, IfErr, OnOk, OnErr};
+ghost use Rattle.std.specs.Prelude.{◌≡◌, ◌≤◌, ◌<◌, ◌+◌, ◌*◌, ◌^◌, map, length, Some, None, IfOk};
+ghost use Rattle.std.specs.Prelude.{IfErr, OnOk, OnErr};
 ghost use Rattle.std.specs.Option.{option_map};
 ghost use Rattle.kern_model.specs.declared.object.Device.{Device};
 ghost use Rattle.kern_calls.specs.Calls as between;
@@ -34,8 +35,8 @@ use std::marker::Model;
 use std::sync::ledger::Ledger;
 use use_counts::{MarkedIds, Steps};
 
-/// The graph of network devices: the names of rows with further plain ones, their devices and claims, the ports of radios, and what is
-/// held on devices.
+/// The graph of network devices: the names of rows with further plain ones, their devices and
+/// claims, the ports of radios, and what is held on devices.
 #[derive(Drop)]
 pub struct Graph {
     /// None before the first load.
@@ -90,7 +91,8 @@ fn names_after(
     }
 }
 
-/// One more plain name, with its mark of use and with what it may want. Where memory lacks, all stays.
+/// One more plain name, with its mark of use and with what it may want. Where memory lacks, all
+/// stays.
 fn add_to(
     alloc: Global,
     names: &mut CountedNames,
@@ -195,8 +197,8 @@ impl Graph {
         Graph::over(alloc, names, &before.objects, before.loads + 1)
     }
 
-    /// The graph of a configuration, of further plain names and of the ports of radios. It keeps the old graph's present devices,
-    /// the claims of names that stay, and what is held.
+    /// The graph of a configuration, of further plain names and of the ports of radios. It keeps
+    /// the old graph's present devices, the claims of names that stay, and what is held.
     ///
     /// # Errors
     ///
@@ -226,7 +228,8 @@ impl Graph {
         }
     }
 
-    /// What every graph keeps: its rows, its names, the ports of radios and the VLANs of bridges are sound together.
+    /// What every graph keeps: its rows, its names, the ports of radios and the VLANs of bridges
+    /// are sound together.
     pub fn is_kept(&self)
         ensures { IsWhole self.now.known }
     {
@@ -312,7 +315,8 @@ impl Graph {
           mtu = mtu;
           mac = mac;
         }) }
-        ensures cost { steps.new ≤ steps.old + (1 + 2 * changed_edges self.old.known self.new.known) }
+        ensures cost { steps.new ≤ steps.old
+            + (1 + 2 * changed_edges self.old.known self.new.known) }
     {
         let Some(names) = &mut self.names else {
             return;
@@ -322,11 +326,13 @@ impl Graph {
         judge_uses(names, &mut self.used, &mut self.uses, &mut self.objects);
     }
 
-    /// A device is gone, and what is held on it with it. One that is not there stays so, and what is held too.
+    /// A device is gone, and what is held on it with it. One that is not there stays so, and what
+    /// is held too.
     pub fn set_absent<L: Ledger>(&mut self, id: DevId, steps: &mut Steps<L>)
         requires { IsId self.old id.0 }
         ensures state { self.new ≡ after.absent_after self.old id.0 }
-        ensures cost { steps.new ≤ steps.old + (1 + 2 * changed_edges self.old.known self.new.known) }
+        ensures cost { steps.new ≤ steps.old
+            + (1 + 2 * changed_edges self.old.known self.new.known) }
     {
         let Some(names) = &mut self.names else {
             return;
@@ -342,7 +348,8 @@ impl Graph {
     pub fn set_carrier<L: Ledger>(&mut self, id: DevId, on: bool, steps: &mut Steps<L>)
         requires { IsId self.old id.0 }
         ensures state { self.new ≡ after.carrier_after self.old id.0 on }
-        ensures cost { steps.new ≤ steps.old + (1 + 2 * changed_edges self.old.known self.new.known) }
+        ensures cost { steps.new ≤ steps.old
+            + (1 + 2 * changed_edges self.old.known self.new.known) }
     {
         let Some(names) = &mut self.names else {
             return;
@@ -356,7 +363,8 @@ impl Graph {
         requires within { IsId self.old id.0 }
         requires few { claims ≤ 1024 }
         ensures state { self.new ≡ after.claimed_after self.old id.0 claims }
-        ensures cost { steps.new ≤ steps.old + (1 + 2 * changed_edges self.old.known self.new.known) }
+        ensures cost { steps.new ≤ steps.old
+            + (1 + 2 * changed_edges self.old.known self.new.known) }
     {
         let Some(names) = &mut self.names else {
             return;
@@ -441,7 +449,8 @@ impl Graph {
         }
     }
 
-    /// The calls that come next are put in order, so that each is found at once. Nothing else is seen of it.
+    /// The calls that come next are put in order, so that each is found at once. Nothing else is
+    /// seen of it.
     pub fn prepare(&mut self)
         ensures { self.new ≡ self.old }
     {
@@ -468,7 +477,8 @@ impl Graph {
         }
     }
 
-    /// The take of any object, with the own values of its name's device: also of an address or a route.
+    /// The take of any object, with the own values of its name's device: also of an address or a
+    /// route.
     pub fn take_of(&self, object: Object) -> Call
         ensures { result ≡ between.own_take (state.devices_in self.now.known) object }
     {

@@ -12,7 +12,8 @@ use graph_objects::DeviceObjects;
 use graph_tables::judge_marked;
 use use_counts::MarkedIds;
 
-/// What may be wanted is judged by the ids whose use an event changed, and none of them is noted any more.
+/// What may be wanted is judged by the ids whose use an event changed, and none of them is noted
+/// any more.
 pub(crate) fn judge_uses(
     names: &CountedNames,
     used: &mut Vec<bool>,

@@ -1,4 +1,5 @@
-//! The graph of network devices: names with their devices and claims, what is held and wanted on them, and the calls between.
+//! The graph of network devices: names with their devices and claims, what is held and wanted on
+//! them, and the calls between.
 #![tactic(auto)]
 
 mod adding;

@@ -16,7 +16,8 @@ pub(crate) struct MayBe {
     pub(crate) contents: Vec<Text>,
 }
 
-/// The files of the next disk; the disk, or the snapshot on it; and what is to be written, and tried.
+/// The files of the next disk; the disk, or the snapshot on it; and what is to be written, and
+/// tried.
 #[derive(Drop)]
 pub(crate) struct Disks {
     pub(crate) alloc: Global,

@@ -57,7 +57,7 @@ impl OpenStore {
         (files, staged)
     }
 
-    #[tactic(auto, using(uci_store::proofs::DiskLemmas::files_stay, uci_store::proofs::DiskLemmas::still_good))]
+    #[tactic(auto, using(uci_store::proofs::DiskLemmas::files_goodness))]
     pub(crate) fn stage(
         &mut self,
         alloc: Global,
@@ -67,7 +67,7 @@ impl OpenStore {
         self.store.stage(alloc, &mut self.staged, holder, delta)
     }
 
-    #[tactic(auto, using(uci_store::proofs::DiskLemmas::files_stay, uci_store::proofs::DiskLemmas::still_good))]
+    #[tactic(auto, using(uci_store::proofs::DiskLemmas::files_goodness))]
     pub(crate) fn revert(
         &mut self,
         alloc: Global,
@@ -108,17 +108,17 @@ impl OpenStore {
             .apply(alloc, &mut self.files, &mut self.staged, holder, deadline)
     }
 
-    #[tactic(auto, using(uci_store::proofs::DiskLemmas::staged_stay, uci_store::proofs::DiskLemmas::still_good))]
+    #[tactic(auto, using(uci_store::proofs::DiskLemmas::staged_goodness))]
     pub(crate) fn confirm(&mut self, holder: u128) -> Result<(), StoreError> {
         self.store.confirm(&mut self.files, holder)
     }
 
-    #[tactic(auto, using(uci_store::proofs::DiskLemmas::staged_stay, uci_store::proofs::DiskLemmas::still_good))]
+    #[tactic(auto, using(uci_store::proofs::DiskLemmas::staged_goodness))]
     pub(crate) fn rollback(&mut self, holder: u128) -> Result<(), StoreError> {
         self.store.rollback(&mut self.files, holder)
     }
 
-    #[tactic(auto, using(uci_store::proofs::DiskLemmas::staged_stay, uci_store::proofs::DiskLemmas::still_good))]
+    #[tactic(auto, using(uci_store::proofs::DiskLemmas::staged_goodness))]
     pub(crate) fn tick(&mut self, now: u64) -> Result<bool, StoreError> {
         self.store.tick(&mut self.files, now)
     }

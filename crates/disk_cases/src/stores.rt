@@ -7,7 +7,8 @@ use uci_delta::{print_change, read_deltas};
 use uci_store::StoreError;
 use uci_tree::{Package, print_package, read_path};
 
-/// The files of staged changes for the next store, how many calls their disk passes, the store, and its disks where it is closed.
+/// The files of staged changes for the next store, how many calls their disk passes, the store, and
+/// its disks where it is closed.
 #[derive(Drop)]
 pub(crate) struct Stores {
     alloc: Global,

@@ -63,7 +63,8 @@ live_place : (gs : Gifts) (o : Object) → has_place (all_held_alone gs) o ≡ t
 live_place [] o there = there
 live_place (x ∷ xs) o there = by x.held (is_given x) there (live_place xs o)
   where
-    held_first : (b : Bool) → is_some (cond b (Some (held_alone x)) (gift_of (all_held_alone xs) o)) ≡ true → (has_place (all_held_alone xs) o ≡ true → has_place (filter is_live xs) o ≡ true) → is_some (cond b (Some x) (gift_of (filter is_live xs) o)) ≡ true
+    held_first : (b : Bool) → is_some (cond b (Some (held_alone x)) (gift_of (all_held_alone xs) o)) ≡ true → (has_place (all_held_alone xs) o ≡ true → has_place (filter is_live xs) o ≡ true)
+        → is_some (cond b (Some x) (gift_of (filter is_live xs) o)) ≡ true
     held_first true there rest = refl
     held_first false there rest = rest there
 

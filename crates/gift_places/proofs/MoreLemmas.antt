@@ -1,5 +1,6 @@
 -- Places for some objects, and then for others.
-use Rattle.std.proofs.Common.{◌≡◌, ℕ, suc, ◌+◌, ◌<◌, ◌≤◌, inl, inr, List, [], ◌∷◌, ◌++◌, length, map, drop, drop-cons, drop_of_length-le, filter_map, get_or, true, Option, Some, None, option_to_list, Result, Ok, Err, OnOk, OnErr, refl, sym, ap, subst, ◌∙◌, arith}
+use Rattle.std.proofs.Common.{◌≡◌, ℕ, suc, ◌+◌, ◌<◌, ◌≤◌, inl, inr, List, [], ◌∷◌, ◌++◌, length, map, drop, drop-cons, drop_of_length-le, filter_map, get_or, true, Option, Some, None, option_to_list, Result, Ok, Err, OnOk, OnErr, refl, sym}
+use Rattle.std.proofs.Common.{ap, subst, ◌∙◌, arith}
 use Rattle.std.specs.List.{cons_option}
 use Rattle.std.proofs.lemmas.List.Elements.{Contains-append_cases}
 use Rattle.std.proofs.lemmas.List.Sums.{fold-append}
@@ -73,7 +74,8 @@ part_done start now new all rest part others is left made more = record {
   more = both_more start now new left.more more;
 }
 
-pub item_done : {X : Type 0} (f : X → Object) (start now new : Gifts) (all : List Object) (xs : List X) (i : ℕ) (d : X) (o : Object) → i < length xs → o ≡ f (get_or xs i d) → IsLeft start now all (map f (drop i xs)) → new ≡ with_place now o → HasMorePlaces now new → IsLeft start new all (map f (drop (i + 1) xs))
+pub item_done : {X : Type 0} (f : X → Object) (start now new : Gifts) (all : List Object) (xs : List X) (i : ℕ) (d : X) (o : Object) → i < length xs → o ≡ f (get_or xs i d) → IsLeft start now all (map f (drop i xs)) → new ≡ with_place now o
+    → HasMorePlaces now new → IsLeft start new all (map f (drop (i + 1) xs))
 item_done f start now new all xs i d o within is left made more =
     let next : suc i ≡ i + 1 = omega arith in
     let first : map f (drop i xs) ≡ (o ∷ []) ++ map f (drop (i + 1) xs) =
@@ -86,7 +88,8 @@ at_place : {X : Type 0} (f : X → Object) (o : Option X) (xs : List X) → map 
 at_place f None xs = refl
 at_place f (Some x) xs = refl
 
-pub place_done : {X : Type 0} (f : X → Object) (at : ℕ → Option X) (start now new : Gifts) (all : List Object) (places : List ℕ) (i : ℕ) → i < length places → IsLeft start now all (map f (filter_map at (drop i places))) → new ≡ with_places now (map f (option_to_list (at (get_or places i 0)))) → HasMorePlaces now new → IsLeft start new all (map f (filter_map at (drop (i + 1) places)))
+pub place_done : {X : Type 0} (f : X → Object) (at : ℕ → Option X) (start now new : Gifts) (all : List Object) (places : List ℕ) (i : ℕ) → i < length places → IsLeft start now all (map f (filter_map at (drop i places))) → new
+    ≡ with_places now (map f (option_to_list (at (get_or places i 0)))) → HasMorePlaces now new → IsLeft start new all (map f (filter_map at (drop (i + 1) places)))
 place_done f at start now new all places i within left made more =
     let next : suc i ≡ i + 1 = omega arith in
     let first : map f (filter_map at (drop i places)) ≡ map f (option_to_list (at (get_or places i 0))) ++ map f (filter_map at (drop (i + 1) places)) =

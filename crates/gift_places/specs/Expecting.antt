@@ -1,5 +1,6 @@
 -- Places for what interfaces may give.
-use Rattle.std.specs.Prelude.{ℕ, ◌≡◌, List, [], ◌∷◌, ◌++◌, map, filter, fold, Contains, Option, true, false, if◌then◌else◌}
+use Rattle.std.specs.Prelude.{ℕ, ◌≡◌, List, [], ◌∷◌, ◌++◌, map, filter, fold, Contains, Option, true, false}
+use Rattle.std.specs.Prelude.{if◌then◌else◌}
 use Rattle.std.specs.List.{filter_map, slice_get}
 use Rattle.kern_model.specs.declared.object.Object.{Object}
 use Rattle.kern_calls.specs.Upper.{is_upper}

@@ -19,8 +19,8 @@ use net_rules::{Answer, AnswerRoute};
 use net_view::is_static;
 use plane_io::Memory;
 
-/// A place for each address and each route that a row gives on a device: by its options where it is static, else by an answer, if there is
-/// one; then the routes at some places.
+/// A place for each address and each route that a row gives on a device: by its options where it is
+/// static, else by an answer, if there is one; then the routes at some places.
 ///
 /// # Errors
 ///

@@ -2,13 +2,15 @@
 ghost use Rattle.std.specs.Prelude.{◌≡◌, ◌⊎◌, List, Contains, true, false};
 ghost use Rattle.kern_model.specs.declared.object.Object.{Object};
 ghost use Rattle.given_objects.specs.declared.gift.Gift.{Gift};
-ghost use Rattle.given_objects.specs.Gifts.{Gifts, has_place, givers_of, held_of, given_of, is_given};
+ghost use Rattle.given_objects.specs.Gifts.{Gifts, has_place, givers_of, held_of, given_of};
+ghost use Rattle.given_objects.specs.Gifts.{is_given};
 ghost use Rattle.net_gifts.specs.Giving.{HavePlaces};
 ghost use Rattle.gift_places.specs.Expecting.{with_places, all_held_alone};
 
-/// Where there are more places, as much is held and given as before, each object is given as often, and what had a place has it still. A
-/// gift that is new is neither held nor given. Each of the objects has a place. Gifts of which only what is held is kept hold the same,
-/// and nothing is given.
+/// Where there are more places, as much is held and given as before, each object is given as often,
+/// and what had a place has it still. A gift that is new is neither held nor given. Each of the
+/// objects has a place. Gifts of which only what is held is kept hold the same, and nothing is
+/// given.
 pub fn places_change_nothing()
     ensures held { (gs : Gifts) (os : List Object) → held_of (with_places gs os) ≡ held_of gs }
     ensures given { (gs : Gifts) (os : List Object) → given_of (with_places gs os) ≡ given_of gs }

@@ -1,5 +1,5 @@
-//! Places for addresses and routes that interfaces may give, taken before they give them; what is held and nobody gives; and whether an
-//! interface gives few.
+//! Places for addresses and routes that interfaces may give, taken before they give them; what is
+//! held and nobody gives; and whether an interface gives few.
 #![tactic(auto)]
 
 mod expecting;

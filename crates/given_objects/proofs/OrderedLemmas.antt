@@ -284,7 +284,8 @@ module _ (turn : Turn) (gs : Gifts) where
       down = λ i j p q less at there. lists.down i j p q less (get_front qs (option_to_list r) i p at) (get_front qs (option_to_list r) j q there);
     }
 
-    pub popped : (old new : List Placed) (r : Option Placed) → old ≡ new ++ option_to_list r → ((p : Placed) → slice_get old (length old - 1) ≡ Some p → of_object (is_coming turn) gs p.object ≡ false) → ListsComing turn gs old → ListsComing turn gs new
+    pub popped : (old new : List Placed) (r : Option Placed) → old ≡ new ++ option_to_list r → ((p : Placed) → slice_get old (length old - 1) ≡ Some p → of_object (is_coming turn) gs p.object ≡ false) → ListsComing turn gs old
+        → ListsComing turn gs new
     popped old new r is done lists = without_last new r (subst (ListsComing turn gs) is lists) (last r is)
       where
         last : (r : Option Placed) → old ≡ new ++ option_to_list r → (p : Placed) → r ≡ Some p → of_object (is_coming turn) gs p.object ≡ false
@@ -315,7 +316,8 @@ came Puts false g due comes = by (is_given g) g.held g.falls due comes
     by true false f due comes = refl
     by false h f due comes = absurd (cc comes)
 
-pub lists_go_on : (turn : Turn) (gs now : Gifts) (o : Object) (held : Bool) → now ≡ noted gs o held → ((g : Gift) → Contains gs g → g.object ≡ o → is_due (turn_of held) g ≡ true) → (ps : List Placed) → ListsComing turn gs ps → ListsComing turn now ps
+pub lists_go_on : (turn : Turn) (gs now : Gifts) (o : Object) (held : Bool) → now ≡ noted gs o held → ((g : Gift) → Contains gs g → g.object ≡ o → is_due (turn_of held) g ≡ true) → (ps : List Placed) → ListsComing turn gs ps
+    → ListsComing turn now ps
 lists_go_on turn gs now o held is due ps lists = subst (λ (xs : Gifts). ListsComing turn xs ps) (sym is) (record {
   at = lists.at;
   all = λ g member comes.

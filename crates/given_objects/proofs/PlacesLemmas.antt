@@ -250,7 +250,8 @@ listed_written es list flags are i c w at after told places is =
     subst (λ (ys : Gifts). AreListedFor after told ys) (sym (set_at es i c w at)) (subst (λ (bs : List Bool). AreListedFor after bs gs) (sym is) set_told)
 
 -- and of an entry more
-pub listed_added : (gs now : Gifts) (list : List ℕ) (flags : List Bool) → AreListedFor list flags gs → (g : Gift) → now ≡ gs ++ g ∷ [] → (after : List ℕ) (told : List Bool) → AreListed after told → told ≡ flags ++ true ∷ [] → AreListedFor after told now
+pub listed_added : (gs now : Gifts) (list : List ℕ) (flags : List Bool) → AreListedFor list flags gs → (g : Gift) → now ≡ gs ++ g ∷ [] → (after : List ℕ) (told : List Bool) → AreListed after told → told ≡ flags ++ true ∷ []
+    → AreListedFor after told now
 listed_added gs now list flags are g more after told places is =
     subst (λ (ys : Gifts). AreListedFor after told ys) (sym more)
     (subst (λ (bs : List Bool). AreListedFor after bs (gs ++ g ∷ [])) (sym is) (listed_longer gs list flags are g after (subst (AreListed after) is places)))

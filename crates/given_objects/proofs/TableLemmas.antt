@@ -52,7 +52,8 @@ pub written : (change : Gift → Gift) (k : GiftKey) (c w : Counts) → gift_in 
 written change k c w made [] i once at = cc at
 written change k c w made (e ∷ es) zero once at =
     let same : e ≡ (k, c) = cc at in
-    let apart : (q : GiftKey) → Contains (keys_of es) q → key_eq k q ≡ false = λ q member. subst (λ (x : GiftKey × Counts). key_eq x.0 q ≡ false) same (member_of_all (λ y. key_eq e.0 y ≡ false) (keys_of es) q (IsDistinct-head key_eq e.0 (keys_of es) once) member) in
+    let apart : (q : GiftKey) → Contains (keys_of es) q → key_eq k q ≡ false =
+    λ q member. subst (λ (x : GiftKey × Counts). key_eq x.0 q ≡ false) same (member_of_all (λ y. key_eq e.0 y ≡ false) (keys_of es) q (IsDistinct-head key_eq e.0 (keys_of es) once) member) in
     let first : gift_in (e.0, w) ≡ (if key_eq k e.0 then change (gift_in e) else gift_in e) =
     ap (λ (x : GiftKey × Counts). gift_in (x.0, w)) same ∙ made ∙ ap (λ (x : GiftKey × Counts). change (gift_in x)) (sym same)
     ∙ sym (ap (λ b. if b then change (gift_in e) else gift_in e) (ap (λ (x : GiftKey × Counts). key_eq k x.0) same ∙ key_itself k)) in

@@ -1,5 +1,6 @@
 -- What a step makes of gifts.
-use Rattle.std.specs.Prelude.{ℕ, ◌+◌, ◌-◌, List, [], ◌∷◌, ◌++◌, map, filter, fold, Bool, false, ◌||◌, if◌then◌else◌, slice_get, slice_set}
+use Rattle.std.specs.Prelude.{ℕ, ◌+◌, ◌-◌, List, [], ◌∷◌, ◌++◌, map, filter, fold, Bool, false, ◌||◌, if◌then◌else◌}
+use Rattle.std.specs.Prelude.{slice_get, slice_set}
 use Rattle.std.specs.Option.{option_map_or}
 use Rattle.kern_model.specs.declared.object.Object.{Object}
 use Rattle.given_objects.specs.declared.gift.Gift.{Gift}
@@ -25,8 +26,8 @@ given_once_more = changed (λ g. record g { givers = g.givers + 1 })
 abbrev pub given_once_less : Gifts → Object → Gifts
 given_once_less = changed (λ g. record g { givers = g.givers - 1 })
 
--- A call of it was made: it is held now, or it is not. Its name does not fall any more: it is put where nothing falls, and
--- what is not held falls with nothing.
+-- A call of it was made: it is held now, or it is not. Its name does not fall any more: it is put where nothing falls,
+-- and what is not held falls with nothing.
 abbrev pub noted : Gifts → Object → Bool → Gifts
 noted gs o held = changed (λ g. record g { held = held; falls = false }) gs o
 

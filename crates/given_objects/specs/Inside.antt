@@ -21,8 +21,8 @@ listed es = map gift_in es
 abbrev pub gifts_in : Inside → Gifts
 gifts_in given = listed given.table.entries
 
--- What is kept are gifts. The order, where it is kept, has what comes of them; the places of what comes are listed, kept or
--- not; and there is room in it for all of them.
+-- What is kept are gifts. The order, where it is kept, has what comes of them; the places of what comes are listed,
+-- kept or not; and there is room in it for all of them.
 pub record IsKept (given : Inside) : Type 0 where
   pub gifts : AreGifts (gifts_in given)
   pub order : IsOrder given.order (gifts_in given)

@@ -1,5 +1,6 @@
 -- What comes of gifts, in the order of its calls, the first at the end.
-use Rattle.std.specs.Prelude.{ℕ, ◌≡◌, ◌<◌, ◌≤◌, ◌&&◌, ◌||◌, not, List, [], ◌∷◌, ◌++◌, Contains, slice_get, Some, Bool, true, false, if◌then◌else◌, vec_capacity}
+use Rattle.std.specs.Prelude.{ℕ, ◌≡◌, ◌<◌, ◌≤◌, ◌&&◌, ◌||◌, not, List, [], ◌∷◌, ◌++◌, Contains, slice_get, Some, Bool}
+use Rattle.std.specs.Prelude.{true, false, if◌then◌else◌, vec_capacity}
 use Rattle.std.specs.Option.{option_map_or}
 use Rattle.std.specs.Ordering.{nat_cmp, ordering_then}
 use Rattle.std.specs.declared.cmp.Ordering.{Ordering}
@@ -56,7 +57,8 @@ ComeDown ps =
     (i j : ℕ) (p q : Placed) → i < j → slice_get ps i ≡ Some p → slice_get ps j ≡ Some q
     → place_cmp p.place q.place ≡ Less → ⊥
 
--- A list has all that comes in a turn, each at its place, with the first of them at the end. What else it has came before.
+-- A list has all that comes in a turn, each at its place, with the first of them at the end. What else it has came
+-- before.
 pub record ListsComing (turn : Turn) (gs : Gifts) (ps : List Placed) : Type 0 where
   pub at : (p : Placed) → Contains ps p → p ≡ placed turn p.object
   pub all : (g : Gift) → Contains gs g → is_coming turn g ≡ true → Contains ps (placed turn g.object)

@@ -1,5 +1,6 @@
 -- Places of a table at which something may come.
-use Rattle.std.specs.Prelude.{ℕ, ◌≡◌, ◌≤◌, ◌<◌, ◌||◌, List, Bool, true, false, Some, length, filter, Contains, slice_get, slice_index_or}
+use Rattle.std.specs.Prelude.{ℕ, ◌≡◌, ◌≤◌, ◌<◌, ◌||◌, List, Bool, true, false, Some, length, filter, Contains}
+use Rattle.std.specs.Prelude.{slice_get, slice_index_or}
 use Rattle.given_objects.specs.declared.gift.Gift.{Gift}
 use Rattle.given_objects.specs.declared.first.Turn.TheVariants.{Takes, Puts}
 use Rattle.given_objects.specs.declared.places.Places.{Places}
@@ -10,7 +11,8 @@ use Rattle.given_objects.specs.Ordered.{is_coming}
 abbrev pub count_set : List Bool → ℕ
 count_set flags = length (filter (λ flag. flag) flags)
 
--- A place is listed where its flag is set. No more are listed than flags are set, so that each is there once and no other is.
+-- A place is listed where its flag is set. No more are listed than flags are set, so that each is there once and no
+-- other is.
 pub record AreListed (list : List ℕ) (flags : List Bool) : Type 0 where
   pub few : length list ≤ count_set flags
   pub all : (place : ℕ) → slice_index_or flags place false ≡ true → Contains list place

@@ -1,4 +1,5 @@
-//! What the types of the program keep of an address or a route: its name, addresses and numbers are of their form.
+//! What the types of the program keep of an address or a route: its name, addresses and numbers are
+//! of their form.
 ghost use Rattle.std.specs.Prelude.{◌≡◌, ◌^◌, ◌<◌, true};
 ghost use Rattle.net_addr.specs.Octets.{IsAddr};
 ghost use Rattle.net_addr.specs.Width.{IsCidr};

@@ -6,7 +6,8 @@ ghost use Rattle.given_objects.specs.First.{is_take_due, is_put_due};
 
 use kern_model::Object;
 
-/// An address or a route, with how often it is given, whether it is held, and whether the name that it is on was told to fall.
+/// An address or a route, with how often it is given, whether it is held, and whether the name that
+/// it is on was told to fall.
 #[derive(Clone, Copy)]
 pub struct Gift {
     pub object: Object,
@@ -15,7 +16,8 @@ pub struct Gift {
     pub falls: bool,
 }
 
-/// What is told of an object: how often it is given, whether it is held, and whether its name falls.
+/// What is told of an object: how often it is given, whether it is held, and whether its name
+/// falls.
 #[derive(Clone, Copy)]
 pub(crate) struct Counts {
     pub(crate) givers: u64,

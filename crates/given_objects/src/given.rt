@@ -1,11 +1,14 @@
-ghost use Rattle.std.specs.Prelude.{◌≡◌, ◌<◌, ◌^◌, Some, length, filter, slice_get, IfSome, IfNone, OnOk, OnErr, IfOk, Contains, true, false, []};
+ghost use Rattle.std.specs.Prelude.{◌≡◌, ◌<◌, ◌^◌, Some, length, filter, slice_get, IfSome, IfNone};
+ghost use Rattle.std.specs.Prelude.{OnOk, OnErr, IfOk, Contains, true, false, []};
 ghost use Rattle.kern_model.specs.declared.object.Object.{Object};
 ghost use Rattle.kern_model.specs.declared.object.Call.TheVariants.{Put};
 ghost use Rattle.kern_calls.specs.Due.{due_count};
 ghost use Rattle.kern_calls.specs.Upper.{is_upper};
 ghost use Rattle.given_objects.specs.Gifts.{has_place, givers_of, held_of, given_of, AreGifts};
-ghost use Rattle.given_objects.specs.Changes.{with_place, given_once_more, given_once_less, noted, with_falls, is_live, with_live, kept_for};
-ghost use Rattle.given_objects.specs.First.{is_take_due, is_put_due, plain_take, IsFirstGift, NoneDue};
+ghost use Rattle.given_objects.specs.Changes.{with_place, given_once_more, given_once_less, noted};
+ghost use Rattle.given_objects.specs.Changes.{with_falls, is_live, with_live, kept_for};
+ghost use Rattle.given_objects.specs.First.{is_take_due, is_put_due, plain_take, IsFirstGift};
+ghost use Rattle.given_objects.specs.First.{NoneDue};
 
 use crate::first::{Turn, first, is_due};
 use crate::form::has_form;
@@ -19,12 +22,13 @@ use plane_io::Memory;
 use std::alloc::Global;
 use std::marker::Model;
 
-/// The addresses and routes that interfaces give, each with how many give it, whether it is held, and whether the name that it is
-/// on falls.
+/// The addresses and routes that interfaces give, each with how many give it, whether it is held,
+/// and whether the name that it is on falls.
 #[derive(Drop)]
 pub struct GivenObjects {
     table: IndexMap<GiftKey, Counts>,
-    /// What is to be taken and put, in the order of its calls, while that is kept, and the places at which something may come.
+    /// What is to be taken and put, in the order of its calls, while that is kept, and the places
+    /// at which something may come.
     order: Order,
 }
 
@@ -107,7 +111,8 @@ impl GivenObjects {
         list_place(&mut self.order.places, place);
     }
 
-    /// It was put and is held, or was taken and is not. Then its name does not fall. Where that was due, what is left stays in order.
+    /// It was put and is held, or was taken and is not. Then its name does not fall. Where that was
+    /// due, what is left stays in order.
     pub fn note(&mut self, object: &Object, held: bool)
         requires { has_place self.old object.now ≡ true }
         ensures { self.new ≡ noted self.old object.now held }
@@ -158,8 +163,9 @@ impl GivenObjects {
         gift_at(&self.table, place)
     }
 
-    /// What is to be taken and put is put in order, so that the first is found at once. Nothing else is seen of it, and it takes no
-    /// memory. It looks at what was touched since the last time, and at what came then.
+    /// What is to be taken and put is put in order, so that the first is found at once. Nothing
+    /// else is seen of it, and it takes no memory. It looks at what was touched since the last
+    /// time, and at what came then.
     pub fn prepare(&mut self)
         ensures { self.new ≡ self.old }
     {

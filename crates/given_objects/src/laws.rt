@@ -1,5 +1,6 @@
 // Laws of gifts. Each body is empty, and the contract is the law.
-ghost use Rattle.std.specs.Prelude.{◌≡◌, ◌<◌, ◌+◌, ◌-◌, ℕ, [], Bool, Option, IfSome, IfNone, true, false};
+ghost use Rattle.std.specs.Prelude.{◌≡◌, ◌<◌, ◌+◌, ◌-◌, ℕ, [], Bool, Option, IfSome, IfNone, true};
+ghost use Rattle.std.specs.Prelude.{false};
 ghost use Rattle.std.specs.List.{find};
 ghost use Rattle.std.specs.Option.{option_map};
 ghost use Rattle.std.specs.FinSet as set;
@@ -11,11 +12,15 @@ ghost use Rattle.kern_model.specs.Line.{IsPrintable};
 ghost use Rattle.kern_model.specs.Kernel.{Devices, after_call};
 ghost use Rattle.kern_calls.specs.Calls.{own_take, calls};
 ghost use Rattle.kern_calls.specs.Upper.{is_upper, upper_part, is_upper_take, is_upper_put};
-ghost use Rattle.given_objects.specs.Gifts.{Gifts, AreGifts, has_place, givers_of, held_of, given_of};
-ghost use Rattle.given_objects.specs.Changes.{with_place, given_once_more, given_once_less, noted, with_falls};
-ghost use Rattle.given_objects.specs.First.{is_take_due, is_put_due, plain_take, IsFirstGift, NoneDue, KnowFalls};
+ghost use Rattle.given_objects.specs.Gifts.{Gifts, AreGifts, has_place, givers_of, held_of};
+ghost use Rattle.given_objects.specs.Gifts.{given_of};
+ghost use Rattle.given_objects.specs.Changes.{with_place, given_once_more, given_once_less, noted};
+ghost use Rattle.given_objects.specs.Changes.{with_falls};
+ghost use Rattle.given_objects.specs.First.{is_take_due, is_put_due, plain_take, IsFirstGift};
+ghost use Rattle.given_objects.specs.First.{NoneDue, KnowFalls};
 
-/// A call of an address or a route that is noted does to what is held what it does in a kernel, and nothing to what is given.
+/// A call of an address or a route that is noted does to what is held what it does in a kernel, and
+/// nothing to what is given.
 pub fn notes_follow_calls()
     ensures put { (gs : Gifts) (o : Object) → has_place gs o ≡ true → is_upper o ≡ true
         → held_of (noted gs o true) ≡ after_call (held_of gs) (Put o) }
@@ -25,8 +30,8 @@ pub fn notes_follow_calls()
         → given_of (noted gs o held) ≡ given_of gs }
 {}
 
-/// What is given once more is given. What is given once less is not given where one alone gave it, and is given still where more
-/// did. What is held stays.
+/// What is given once more is given. What is given once less is not given where one alone gave it,
+/// and is given still where more did. What is held stays.
 pub fn gifts_follow_givers()
     ensures give { (gs : Gifts) (o : Object) → has_place gs o ≡ true
         → given_of (given_once_more gs o) ≡ set.insert (given_of gs) o }
@@ -38,8 +43,9 @@ pub fn gifts_follow_givers()
     ensures held_less { (gs : Gifts) (o : Object) → held_of (given_once_less gs o) ≡ held_of gs }
 {}
 
-/// The first gift that is to be taken is that of the first take of an address or a route in the list of the calls, where gifts that
-/// are held and given know whether their names fall. Where none is to be taken, the same is so of puts.
+/// The first gift that is to be taken is that of the first take of an address or a route in the
+/// list of the calls, where gifts that are held and given know whether their names fall. Where none
+/// is to be taken, the same is so of puts.
 pub fn first_gifts_are_first_calls()
     ensures take { (devices : Devices) (held wanted : Objects) (gs : Gifts) (found : Option Object)
         → AreGifts gs → upper_part held ≡ held_of gs → upper_part wanted ≡ given_of gs

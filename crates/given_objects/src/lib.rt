@@ -1,5 +1,5 @@
-//! The addresses and routes that are given, each with how often, and whether it is held: what is due of them, and which comes
-//! first.
+//! The addresses and routes that are given, each with how often, and whether it is held: what is
+//! due of them, and which comes first.
 #![tactic(auto)]
 
 mod first;

@@ -1,6 +1,9 @@
-//! What comes of each turn is put in the order of its calls once, and is then taken off one after another. It is looked for at the
-//! places alone that were touched since, or where something came then.
-ghost use Rattle.std.specs.Prelude.{◌≡◌, ◌<◌, ◌≤◌, ◌+◌, ◌-◌, ◌++◌, ◌∷◌, [], ℕ, IfSome, IfNone, OnOk, Some, Contains, length, slice_get, if◌then◌else◌, vec_len, vec_capacity, true, false};
+//! What comes of each turn is put in the order of its calls once, and is then taken off one after
+//! another. It is looked for at the places alone that were touched since, or where something came
+//! then.
+ghost use Rattle.std.specs.Prelude.{◌≡◌, ◌<◌, ◌≤◌, ◌+◌, ◌-◌, ◌++◌, ◌∷◌, [], ℕ, IfSome, IfNone};
+ghost use Rattle.std.specs.Prelude.{OnOk, Some, Contains, length, slice_get, if◌then◌else◌};
+ghost use Rattle.std.specs.Prelude.{vec_len, vec_capacity, true, false};
 ghost use Rattle.std.specs.List.Sorted.{IsPermutation};
 ghost use Rattle.given_objects.specs.Gifts as gifts;
 ghost use Rattle.given_objects.specs.Gifts.{Gifts};
@@ -35,8 +38,8 @@ pub(crate) struct Placed {
     pub(crate) object: Object,
 }
 
-/// What comes of each turn, the first at the end, while that is kept, and the places at which something may come. There is room for
-/// all gifts.
+/// What comes of each turn, the first at the end, while that is kept, and the places at which
+/// something may come. There is room for all gifts.
 #[derive(Drop)]
 pub(crate) struct Order {
     pub(crate) takes: Vec<Placed>,
@@ -69,7 +72,8 @@ pub(crate) fn turn_of(held: bool) -> Turn
 pub(crate) fn make_room(order: &mut Order, count: usize) -> Result<(), Memory>
     ensures kept { order.new.is_kept ≡ order.old.is_kept }
     ensures ok { OnOk result (spec.HasRoom order.new count) }
-    ensures places { (gs : Gifts) → ArePlacesOf gs order.old.places → ArePlacesOf gs order.new.places }
+    ensures places { (gs : Gifts) → ArePlacesOf gs order.old.places
+        → ArePlacesOf gs order.new.places }
     ensures rest { (least : ℕ) → spec.HasRoom order.old least → spec.HasRoom order.new least }
 {
     order.takes.reserve(count)?;
@@ -104,7 +108,8 @@ fn gift_of(table: &IndexMap<GiftKey, Counts>, object: &Object) -> Option<Gift>
     Some(gift_at(table, place))
 }
 
-/// Whether a gift comes in a turn: it is to be taken; or it is to be put, be it after it was taken since its name falls.
+/// Whether a gift comes in a turn: it is to be taken; or it is to be put, be it after it was taken
+/// since its name falls.
 fn is_coming(turn: Turn, gift: &Gift) -> bool
     ensures { result ≡ spec.is_coming turn gift.now }
 {
@@ -250,7 +255,8 @@ fn unlist_all_done(table: &IndexMap<GiftKey, Counts>, places: &mut Places)
     }
 }
 
-/// Puts what comes in order, where it is not yet. It takes no memory, and looks at the listed places alone.
+/// Puts what comes in order, where it is not yet. It takes no memory, and looks at the listed
+/// places alone.
 pub(crate) fn put_in_order(table: &IndexMap<GiftKey, Counts>, order: &mut Order)
     requires order { spec.IsOrder order.old (listed table.now.entries) }
     requires places { ArePlacesOf (listed table.now.entries) order.old.places }

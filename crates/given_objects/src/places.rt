@@ -1,10 +1,13 @@
-//! Places of the table at which something may come, so that what comes is found without a look at all.
-ghost use Rattle.std.specs.Prelude.{◌≡◌, ◌<◌, ◌≤◌, ◌+◌, ◌++◌, ◌∷◌, [], length, slice_index_or, slice_set, swap_remove, vec_len, vec_capacity, true, false};
+//! Places of the table at which something may come, so that what comes is found without a look at
+//! all.
+ghost use Rattle.std.specs.Prelude.{◌≡◌, ◌<◌, ◌≤◌, ◌+◌, ◌++◌, ◌∷◌, [], length, slice_index_or};
+ghost use Rattle.std.specs.Prelude.{slice_set, swap_remove, vec_len, vec_capacity, true, false};
 ghost use Rattle.given_objects.specs.Places.{ArePlaces};
 
 use std::alloc::Global;
 
-/// Places of a table, each listed once, with a flag for each place of the table that tells whether it is listed.
+/// Places of a table, each listed once, with a flag for each place of the table that tells whether
+/// it is listed.
 #[derive(Drop)]
 pub(crate) struct Places {
     pub(crate) list: Vec<usize>,

@@ -32,7 +32,8 @@ stands_more names more (Alone sound) h = refl
 stands_more names more (Over lower id) h = ap counts.Over (id_in_front names more lower (h lower (here lower [])))
 stands_more names more (Ports empty ports) h = ap (counts.Ports empty) (ids_more names more ports h)
 
-rows_more : (names more : List (List ℕ)) (rows : List NameRow) → ((r : NameRow) → Contains rows r → (x : List ℕ) → Contains (lowers_of (standing_of_row r [])) x → Contains names x) → map (own_standing (names ++ more)) rows ≡ map (own_standing names) rows
+rows_more : (names more : List (List ℕ)) (rows : List NameRow) → ((r : NameRow) → Contains rows r → (x : List ℕ) → Contains (lowers_of (standing_of_row r [])) x → Contains names x) → map (own_standing (names ++ more)) rows
+    ≡ map (own_standing names) rows
 rows_more names more [] h = refl
 rows_more names more (r ∷ rs) h =
     ap (λ (st : counts.Standing). st ∷ map (own_standing (names ++ more)) rs) (stands_more names more (standing_of_row r []) (h r (here r rs)))
@@ -43,7 +44,8 @@ port_more names more p port bridge =
     ap (λ (k : ℕ). let e : Edge = record { lower = k; upper = id_of (names ++ more) p.bridge } in e) (id_in_front names more p.port port)
     ∙ ap (λ (k : ℕ). let e : Edge = record { lower = id_of names p.port; upper = k } in e) (id_in_front names more p.bridge bridge)
 
-ports_more : (names more : List (List ℕ)) (ps : List RadioPort) → ((p : RadioPort) → Contains ps p → Contains names p.port) → ((p : RadioPort) → Contains ps p → Contains names p.bridge) → map (port_edge (names ++ more)) ps ≡ map (port_edge names) ps
+ports_more : (names more : List (List ℕ)) (ps : List RadioPort) → ((p : RadioPort) → Contains ps p → Contains names p.port) → ((p : RadioPort) → Contains ps p → Contains names p.bridge) → map (port_edge (names ++ more)) ps
+    ≡ map (port_edge names) ps
 ports_more names more [] port bridge = refl
 ports_more names more (p ∷ ps) port bridge =
     ap (λ (e : Edge). e ∷ map (port_edge (names ++ more)) ps) (port_more names more p (port p (here p ps)) (bridge p (here p ps)))

@@ -115,15 +115,23 @@ pub members_size : (s : Known) (net : Network) → net ≡ network_of s → leng
 members_size s net is = ap (λ (n : Network). length n.members) is ∙ length-map s.names (member_in s.rows)
 
 -- a device is told to names and to their counts
-pub tied_after_device : (s : Known) (ns : List Named) (was net : Network) (id : ℕ) (d : Option Device) (present carrier : Bool) → IsSound s → was ≡ network_of s → id < length s.names → present ≡ is_some d → carrier ≡ option_map_or (λ device. device.carrier) d false
+pub tied_after_device : (s : Known) (ns : List Named) (was net : Network) (id : ℕ) (d : Option Device) (present carrier : Bool) → IsSound s → was ≡ network_of s → id < length s.names → present ≡ is_some d → carrier
+    ≡ option_map_or (λ device. device.carrier) d false
     → ns ≡ with_device s.names id d → net ≡ counts.with_device was id present carrier → IsSound (record s { names = ns }) × (net ≡ network_of (record s { names = ns }))
-tied_after_device s ns was net id d present carrier sound is within here up names told =
-    (subst (λ ms. IsSound (record s { names = ms })) (sym names) (sound_with_device s id d sound), told ∙ ap (λ n. counts.with_device n id present carrier) is ∙ network_with_device s id within d present carrier here up ∙ ap (λ ms. network_of (record s { names = ms })) (sym names))
+tied_after_device s ns was net id d present carrier sound is within here up names told = (
+  subst (λ ms. IsSound (record s { names = ms })) (sym names) (sound_with_device s id d sound),
+  told ∙ ap (λ n. counts.with_device n id present carrier) is ∙ network_with_device s id within d present carrier here up
+      ∙ ap (λ ms. network_of (record s { names = ms })) (sym names),
+)
 
 -- claims are told to names and to their counts
-pub tied_after_claims : (s : Known) (ns : List Named) (was net : Network) (id claims : ℕ) → IsSound s → was ≡ network_of s → id < length s.names → ns ≡ with_claims s.names id claims → net ≡ counts.with_claim was id claims → IsSound (record s { names = ns }) × (net ≡ network_of (record s { names = ns }))
-tied_after_claims s ns was net id claims sound is within names told =
-    (subst (λ ms. IsSound (record s { names = ms })) (sym names) (sound_with_claims s id claims sound), told ∙ ap (λ n. counts.with_claim n id claims) is ∙ network_with_claims s id within claims ∙ ap (λ ms. network_of (record s { names = ms })) (sym names))
+pub tied_after_claims : (s : Known) (ns : List Named) (was net : Network) (id claims : ℕ) → IsSound s → was ≡ network_of s → id < length s.names → ns ≡ with_claims s.names id claims → net ≡ counts.with_claim was id claims
+    → IsSound (record s { names = ns }) × (net ≡ network_of (record s { names = ns }))
+tied_after_claims s ns was net id claims sound is within names told = (
+  subst (λ ms. IsSound (record s { names = ms })) (sym names) (sound_with_claims s id claims sound),
+  told ∙ ap (λ n. counts.with_claim n id claims) is ∙ network_with_claims s id within claims
+      ∙ ap (λ ms. network_of (record s { names = ms })) (sym names),
+)
 
 -- the carrier of a device that is not there is told to nobody
 none_told : (ns : List Named) (id : ℕ) (d : Option Device) → (name_at ns id).device ≡ d → ns ≡ with_device ns id d
@@ -134,5 +142,6 @@ none_told (n ∷ ns) (suc id) d e = ap (λ ms. n ∷ ms) (none_told ns id d e)
 pub no_carrier : (s : Known) (id : ℕ) (f : Device → Device) → (name_at s.names id).device ≡ None → s ≡ record s { names = with_device s.names id (option_map f (name_at s.names id).device) }
 no_carrier s id f e = ap (λ ns. record s { names = ns }) (none_told s.names id (option_map f (name_at s.names id).device) (e ∙ sym (ap (option_map f) e)))
 
-pub carrier_told : (s : Known) (id : ℕ) (f : Device → Device) (d : Device) → (name_at s.names id).device ≡ Some d → record s { names = with_device s.names id (Some (f d)) } ≡ record s { names = with_device s.names id (option_map f (name_at s.names id).device) }
+pub carrier_told : (s : Known) (id : ℕ) (f : Device → Device) (d : Device) → (name_at s.names id).device ≡ Some d → record s { names = with_device s.names id (Some (f d)) }
+    ≡ record s { names = with_device s.names id (option_map f (name_at s.names id).device) }
 carrier_told s id f d e = ap (λ x. record s { names = with_device s.names id x }) (sym (ap (option_map f) e))

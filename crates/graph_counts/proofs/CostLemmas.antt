@@ -1,5 +1,6 @@
 -- the edges at names that changed are as many as those at their ids
-use Rattle.std.proofs.Common.{arith, ⊎_elim, ℕ, zero, suc, ◌+◌, ◌<◌, ◌≡◌, ◌≢◌, ◌==◌, ◌&&◌, ◌||◌, Bool, true, false, cond, List, [], ◌∷◌, ◌++◌, map, filter, length, count_by, All, Contains, Option, is_some, slice_index_or, refl, sym, ap, subst, ◌∙◌}
+use Rattle.std.proofs.Common.{arith, ⊎_elim, ℕ, zero, suc, ◌+◌, ◌<◌, ◌≡◌, ◌≢◌, ◌==◌, ◌&&◌, ◌||◌, Bool, true, false, cond, List, [], ◌∷◌, ◌++◌, map, filter, length, count_by, All, Contains, Option, is_some, slice_index_or, refl, sym, ap}
+use Rattle.std.proofs.Common.{subst, ◌∙◌}
 use Rattle.std.specs.List.{AllByRecursion, flat_map}
 use Rattle.std.specs.Option.{option_map_or}
 use Rattle.std.proofs.lemmas.Bool.{cases_eq, eq-eqb, ne_eqb}
@@ -82,14 +83,21 @@ lowers_counted : (names : List (List ℕ)) (P : ℕ → ℕ → Bool) (Q : named
 lowers_counted names P Q upper k [] h = refl
 lowers_counted names P Q upper k (l ∷ ls) h =
     let first = ap (λ b. let m : ℕ = cond b 1 0 in m) (h l (here l ls)) in
-    omega (arith, sum_by-cons (λ (e : Edge). cond (P e.upper e.lower) 1 0) (edge k (id_of names l)) (map (edge k) (map (id_of names) ls)), first, kept (Q (record { upper = upper; lower = l })) (record { upper = upper; lower = l }) (filter Q (map (λ (lower : List ℕ). let e : named.Edge = record { upper = upper; lower = lower } in e) ls)), lowers_counted names P Q upper k ls (λ x m. h x (there l ls x m)))
+    omega (
+      arith,
+      sum_by-cons (λ (e : Edge). cond (P e.upper e.lower) 1 0) (edge k (id_of names l)) (map (edge k) (map (id_of names) ls)),
+      first,
+      kept (Q (record { upper = upper; lower = l })) (record { upper = upper; lower = l }) (filter Q (map (λ (lower : List ℕ). let e : named.Edge = record { upper = upper; lower = lower } in e) ls)),
+      lowers_counted names P Q upper k ls (λ x m. h x (there l ls x m)),
+    )
   where
     kept : (b : Bool) (e : named.Edge) (es : List named.Edge) → length (cond b (e ∷ es) es) ≡ cond b 1 0 + length es
     kept true e es = omega arith
     kept false e es = omega arith
 
 -- the edges at one name after another
-all_counted : (s : Known) (P : ℕ → ℕ → Bool) (Q : named.Edge → Bool) (u : ℕ) (ns : List (List ℕ)) → ((i : ℕ) → i < length ns → (l : List ℕ) → Contains (lowers_of (standing_in s (slice_index_or ns i []))) l → P (u + i) (id_of (names_in s) l) ≡ Q (record { upper = slice_index_or ns i []; lower = l }))
+all_counted : (s : Known) (P : ℕ → ℕ → Bool) (Q : named.Edge → Bool) (u : ℕ) (ns : List (List ℕ))
+    → ((i : ℕ) → i < length ns → (l : List ℕ) → Contains (lowers_of (standing_in s (slice_index_or ns i []))) l → P (u + i) (id_of (names_in s) l) ≡ Q (record { upper = slice_index_or ns i []; lower = l }))
     → count_by (λ (e : Edge). P e.upper e.lower) (edges_from u (map (λ n. by_id (names_in s) (standing_in s n)) ns)) ≡ length (filter Q (flat_map (edges_of s) ns))
 all_counted s P Q u [] h = refl
 all_counted s P Q u (n ∷ ns) h =
@@ -153,10 +161,13 @@ module _ (s t : Known) (hs : IsSound s) (ht : IsSound t) (same : names_in t ≡ 
       let g = λ (x : List ℕ). by_id names (standing_in s x) in
       let c = is_counted s hs in
       let size : length net.members ≡ n = length-map s.names (member_in s.rows) ∙ sym (length-map s.names (λ (q : Named). q.name)) in
-      let by_network : AllByRecursion (λ (e : Edge). e.upper < n) (counts.edges_of net) = both_parts (λ (e : Edge). e.upper < n) net.fixed net.ports (uppers_within n net net.fixed (fixed_rise s hs) size) (uppers_within n net net.ports (ports_rise s hs) size) in
-      let by_rows : AllByRecursion (λ (e : Edge). e.upper < n) (edges_from 0 (map g names)) = all_members (λ (e : Edge). e.upper < n) (edges_from 0 (map g names)) (edges_all (λ (e : Edge). e.upper < n) g 0 names (λ i hi l m. omega (arith, hi))) in
+      let by_network : AllByRecursion (λ (e : Edge). e.upper < n) (counts.edges_of net) =
+      both_parts (λ (e : Edge). e.upper < n) net.fixed net.ports (uppers_within n net net.fixed (fixed_rise s hs) size) (uppers_within n net net.ports (ports_rise s hs) size) in
+      let by_rows : AllByRecursion (λ (e : Edge). e.upper < n) (edges_from 0 (map g names)) =
+      all_members (λ (e : Edge). e.upper < n) (edges_from 0 (map g names)) (edges_all (λ (e : Edge). e.upper < n) g 0 names (λ i hi l m. omega (arith, hi))) in
       let split = count_split P n (counts.edges_of net) by_network in
-      let joined_same = sum_same (λ k. counted upper_end lower_end (P k) (counts.edges_of net) k) (λ k. counted upper_end lower_end (P k) (edges_from 0 (map g names)) k) n (λ k less. (edges_joined c.rows net c.are).counts upper_end lower_end (P k) k ∙ ap (λ rows. counted upper_end lower_end (P k) (edges_from 0 rows) k) c.stand) in
+      let joined_same = sum_same (λ k. counted upper_end lower_end (P k) (counts.edges_of net) k) (λ k. counted upper_end lower_end (P k) (edges_from 0 (map g names)) k) n
+      (λ k less. (edges_joined c.rows net c.are).counts upper_end lower_end (P k) k ∙ ap (λ rows. counted upper_end lower_end (P k) (edges_from 0 rows) k) c.stand) in
       let rows = all_counted s P Q 0 names (λ i hi l m.
       let x = slice_index_or names i [] in
       let known = lower_known s hs x l m in
@@ -165,18 +176,21 @@ module _ (s t : Known) (hs : IsSound s) (ht : IsSound t) (same : names_in t ≡ 
       ∙ ap (λ k. has_changed s t l || counts.changed (network_of s) (network_of t) k) at
       ∙ ap (λ b. has_changed s t l || b) (changed_alike x (at_member names i hi))) in
       let front : flat_map (edges_of s) names ≡ edges_in s =
-      ap (flat_map (edges_of s)) hs.names.front ∙ flat_append s (row_names s) hs.names.plain ∙ ap (λ es. flat_map (edges_of s) (row_names s) ++ es) (none_flat s hs.names.plain (plain_alone s hs)) ∙ append-nil (flat_map (edges_of s) (row_names s)) in
+      ap (flat_map (edges_of s)) hs.names.front ∙ flat_append s (row_names s) hs.names.plain ∙ ap (λ es. flat_map (edges_of s) (row_names s) ++ es) (none_flat s hs.names.plain (plain_alone s hs))
+      ∙ append-nil (flat_map (edges_of s) (row_names s)) in
       split ∙ joined_same ∙ sym (count_split P n (edges_from 0 (map g names)) by_rows) ∙ rows ∙ ap (λ es. length (filter Q es)) front
 
 -- the steps that an event may take, by names
-pub cost_after_device : (s : Known) (ns : List Named) (was net : Network) (id : ℕ) (d : Option Device) (present carrier : Bool) → IsSound s → was ≡ network_of s → id < length s.names → present ≡ is_some d → carrier ≡ option_map_or (λ device. device.carrier) d false
+pub cost_after_device : (s : Known) (ns : List Named) (was net : Network) (id : ℕ) (d : Option Device) (present carrier : Bool) → IsSound s → was ≡ network_of s → id < length s.names → present ≡ is_some d → carrier
+    ≡ option_map_or (λ device. device.carrier) d false
     → ns ≡ with_device s.names id d → net ≡ counts.with_device was id present carrier → counts.changed_edges was net ≡ changed_edges s (record s { names = ns })
 cost_after_device s ns was net id d present carrier sound is within here up names told =
     let tied = tied_after_device s ns was net id d present carrier sound is within here up names told in
     let t : Known = record s { names = ns } in
     ap (λ m. counts.changed_edges m net) is ∙ ap (counts.changed_edges (network_of s)) tied.1 ∙ cost_same s t sound tied.0 (ap name_list names ∙ device_spelled s.names id d)
 
-pub cost_after_claims : (s : Known) (ns : List Named) (was net : Network) (id claims : ℕ) → IsSound s → was ≡ network_of s → id < length s.names → ns ≡ with_claims s.names id claims → net ≡ counts.with_claim was id claims → counts.changed_edges was net ≡ changed_edges s (record s { names = ns })
+pub cost_after_claims : (s : Known) (ns : List Named) (was net : Network) (id claims : ℕ) → IsSound s → was ≡ network_of s → id < length s.names → ns ≡ with_claims s.names id claims → net ≡ counts.with_claim was id claims
+    → counts.changed_edges was net ≡ changed_edges s (record s { names = ns })
 cost_after_claims s ns was net id claims sound is within names told =
     let tied = tied_after_claims s ns was net id claims sound is within names told in
     let t : Known = record s { names = ns } in

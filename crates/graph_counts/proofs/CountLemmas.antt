@@ -43,7 +43,8 @@ opens_tie present f g names (Alone sound) h = refl
 opens_tie present f g names (Over lower id) h = ap (λ b. not present && b) h.0
 opens_tie present f g names (Ports empty ports) h = ap (λ b. not present && (empty || b)) (any_map f g names ports h)
 
-links_tie : (carries ready : Bool) (f : ℕ → Bool) (g : List ℕ → Bool) (names : List (List ℕ)) (st : Standing) → AllByRecursion (λ p. f (id_of names p) ≡ g p) (lowers_of st) → counts.row_links carries ready f (by_id names st) ≡ links carries ready g st
+links_tie : (carries ready : Bool) (f : ℕ → Bool) (g : List ℕ → Bool) (names : List (List ℕ)) (st : Standing) → AllByRecursion (λ p. f (id_of names p) ≡ g p) (lowers_of st) → counts.row_links carries ready f (by_id names st)
+    ≡ links carries ready g st
 links_tie carries ready f g names Broken h = refl
 links_tie carries ready f g names (Alone sound) h = refl
 links_tie carries ready f g names (Over lower id) h = ap (λ b. ready && b) h.0
@@ -88,7 +89,8 @@ module _ (s : Known) (net : Network) (h : HasIds s) (c : IsCounted s net) where
   at_lowers : (f : ℕ → Bool) (g : List ℕ → Bool) → ((id : ℕ) → id < length (names_in s) → f id ≡ g (name_of s id)) → (name : List ℕ) → AllByRecursion (λ p. f (id_of (names_in s) p) ≡ g p) (lowers_of (standing_in s name))
   at_lowers f g same name = each_name (λ n within. same (id_of (names_in s) n) within ∙ ap g (back (names_in s) n within)) (lowers_of (standing_in s name)) (h.lowers name)
 
-  available_levels : (levels id : ℕ) → id < length (names_in s) → counts.by_levels levels (λ below k. counts.row_opens (counts.present_at net k) below (counts.standing_at (counts.joined net.ports c.rows) k)) id ≡ by_levels levels (opens_in s) (name_of s id)
+  available_levels : (levels id : ℕ) → id < length (names_in s) → counts.by_levels levels (λ below k. counts.row_opens (counts.present_at net k) below (counts.standing_at (counts.joined net.ports c.rows) k)) id
+      ≡ by_levels levels (opens_in s) (name_of s id)
   unfolding counts.by_levels by_levels
   available_levels zero id within = refl
   available_levels (suc levels) id within =
@@ -101,7 +103,8 @@ module _ (s : Known) (net : Network) (h : HasIds s) (c : IsCounted s net) where
   unfolding available_in
   available_alike id within = available_levels 8 id within
 
-  link_levels : (levels id : ℕ) → id < length (names_in s) → counts.by_levels levels (λ below k. counts.row_links (counts.carries_at net k) (counts.row_available (counts.joined net.ports c.rows) net k) below (counts.standing_at (counts.joined net.ports c.rows) k)) id ≡ by_levels levels (links_in s) (name_of s id)
+  link_levels : (levels id : ℕ) → id < length (names_in s) → counts.by_levels levels
+      (λ below k. counts.row_links (counts.carries_at net k) (counts.row_available (counts.joined net.ports c.rows) net k) below (counts.standing_at (counts.joined net.ports c.rows) k)) id ≡ by_levels levels (links_in s) (name_of s id)
   unfolding counts.by_levels by_levels
   link_levels zero id within = refl
   link_levels (suc levels) id within =
@@ -147,7 +150,8 @@ module _ (s : Known) (net : Network) (h : HasIds s) (c : IsCounted s net) where
       omega (arith, all, parts, length-append (filter p (row_names s)) (filter p h.plain), none_on s (name_of s k) g h.plain h.alone)
 
   used_levels : (levels id : ℕ) → id < length (names_in s)
-      → counts.by_levels levels (λ above k. is_used (counts.row_available (counts.joined net.ports c.rows) net k) ((member_at net.members k).claims + counts.standing_on above k 0 (counts.joined net.ports c.rows))) id ≡ by_levels levels (serves_in s) (name_of s id)
+      → counts.by_levels levels (λ above k. is_used (counts.row_available (counts.joined net.ports c.rows) net k) ((member_at net.members k).claims + counts.standing_on above k 0 (counts.joined net.ports c.rows))) id
+      ≡ by_levels levels (serves_in s) (name_of s id)
   unfolding counts.by_levels by_levels
   used_levels zero id within = refl
   used_levels (suc levels) id within =

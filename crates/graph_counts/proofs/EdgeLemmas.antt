@@ -109,6 +109,7 @@ pub broken_lowers : (names : List (List ℕ)) (u : ℕ) (front : List Edge) (row
 broken_lowers names u front row is =
     sym (ap (λ b. front ++ map (counts.edge u) (counts.lowers_of (by_id names (standing_of row.kind b [])))) is ∙ ap (λ ls. front ++ map (counts.edge u) ls) (broken_by names row.kind) ∙ append-nil front)
 
-pub sound_lowers : (names : List (List ℕ)) (u : ℕ) (front : List Edge) (row : NameRow) (kind : NameKind) → row.broken ≡ false → row.kind ≡ kind → front ++ map (counts.edge u) (counts.lowers_of (by_id names (standing_of kind false []))) ≡ front ++ map (counts.edge u) (counts.lowers_of (own_standing names row))
+pub sound_lowers : (names : List (List ℕ)) (u : ℕ) (front : List Edge) (row : NameRow) (kind : NameKind) → row.broken ≡ false → row.kind ≡ kind → front ++ map (counts.edge u) (counts.lowers_of (by_id names (standing_of kind false [])))
+    ≡ front ++ map (counts.edge u) (counts.lowers_of (own_standing names row))
 sound_lowers names u front row kind sound is =
     sym (ap (λ b. front ++ map (counts.edge u) (counts.lowers_of (by_id names (standing_of row.kind b [])))) sound ∙ ap (λ k. front ++ map (counts.edge u) (counts.lowers_of (by_id names (standing_of k false [])))) is)

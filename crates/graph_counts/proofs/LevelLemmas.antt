@@ -72,7 +72,8 @@ sound_flag true h = cc h
 sound_flag false h = refl
 
 -- every edge of rows, one row after another
-pub edges_all : (P : Edge → Type 0) (f : List ℕ → counts.Standing) (u : ℕ) (ns : List (List ℕ)) → ((i : ℕ) → i < length ns → (l : ℕ) → Contains (counts.lowers_of (f (slice_index_or ns i []))) l → P (counts.edge (u + i) l)) → (e : Edge) → Contains (counts.edges_from u (map f ns)) e → P e
+pub edges_all : (P : Edge → Type 0) (f : List ℕ → counts.Standing) (u : ℕ) (ns : List (List ℕ)) → ((i : ℕ) → i < length ns → (l : ℕ) → Contains (counts.lowers_of (f (slice_index_or ns i []))) l → P (counts.edge (u + i) l)) → (e : Edge)
+    → Contains (counts.edges_from u (map f ns)) e → P e
 edges_all P f u [] h e m = absurd (none_in_nil e m)
 edges_all P f u (n ∷ ns) h e m =
     ⊎_elim
@@ -115,7 +116,8 @@ module _ (s : Known) (h : IsSound s) where
   size_of name m = omega (arith, id_within (names_in s) name m, length-map s.names (λ (n : Named). n.name), length-map s.names (member_in s.rows))
 
   -- an edge between two known names, the upper one made and of a greater level
-  rises : (upper lower : List ℕ) → Contains (names_in s) upper → Contains (names_in s) lower → is_made (node_row (row_at s.rows upper)).kind ≡ true → (row_at s.rows lower).level < (row_at s.rows upper).level → (row_at s.rows upper).level ≤ 8
+  rises : (upper lower : List ℕ) → Contains (names_in s) upper → Contains (names_in s) lower → is_made (node_row (row_at s.rows upper)).kind ≡ true → (row_at s.rows lower).level < (row_at s.rows upper).level
+      → (row_at s.rows upper).level ≤ 8
       → Rises (network_of s).members (record { lower = id_of (names_in s) lower; upper = id_of (names_in s) upper })
   rises upper lower mu ml made less most =
       let over : (member_at (network_of s).members (id_of (names_in s) upper)).level ≡ capped (row_at s.rows upper).level = node_of upper mu in
@@ -132,7 +134,8 @@ module _ (s : Known) (h : IsSound s) where
   -- the edges of the rows
   pub fixed_rise : All (Rises (network_of s).members) (network_of s).fixed
   fixed_rise =
-      All-from_recursion (Rises (network_of s).members) (network_of s).fixed (all_members (Rises (network_of s).members) (network_of s).fixed (λ e m. edges_all (Rises (network_of s).members) (own_at (names_in s) s.rows) 0 (names_in s) edge_rises e (subst (λ es. Contains es e) (fixed_edges s h) m)))
+      All-from_recursion (Rises (network_of s).members) (network_of s).fixed
+      (all_members (Rises (network_of s).members) (network_of s).fixed (λ e m. edges_all (Rises (network_of s).members) (own_at (names_in s) s.rows) 0 (names_in s) edge_rises e (subst (λ es. Contains es e) (fixed_edges s h) m)))
     where
       edge_rises : (i : ℕ) → i < length (names_in s) → (l : ℕ) → Contains (counts.lowers_of (own_at (names_in s) s.rows (slice_index_or (names_in s) i []))) l → Rises (network_of s).members (counts.edge (0 + i) l)
       edge_rises i hi l m =
@@ -161,7 +164,8 @@ module _ (s : Known) (h : IsSound s) where
           let low = h.levels.plain p.port (plain_is (row_at s.rows p.port).kind (h.ports.plain p given)) in
           let high = h.levels.bridge p.bridge bridge in
           subst (λ (x : Edge). Rises (network_of s).members x) from.same
-          (rises p.bridge p.port (in_front s h p.bridge (bridge_named s.rows p.bridge bridge)) (h.ports.known p given) (made_bridge (row_at s.rows p.bridge).kind (row_at s.rows p.bridge).broken bridge sound) (omega (arith, low, high)) (h.levels.most p.bridge sound))
+          (rises p.bridge p.port (in_front s h p.bridge (bridge_named s.rows p.bridge bridge)) (h.ports.known p given) (made_bridge (row_at s.rows p.bridge).kind (row_at s.rows p.bridge).broken bridge sound) (omega (arith, low, high))
+          (h.levels.most p.bridge sound))
 
   -- the levels of the nodes
   pub levels_fit : All HasLevel (map (λ (n : Named). node_row (row_at s.rows n.name)) s.names)

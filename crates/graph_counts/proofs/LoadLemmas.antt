@@ -104,7 +104,8 @@ same_size : (rows : List NameRow) (ns : List Named) → length (map loaded (map 
 same_size rows ns = length-map (map (λ (n : Named). node_row (row_at rows n.name)) ns) loaded ∙ length-map ns (λ (n : Named). node_row (row_at rows n.name)) ∙ sym (length-map ns (member_in rows))
 
 -- the counts of sound names can be loaded, where there is room for the edges
-pub can_load : (s : Known) → IsSound s → (nodes : List Row) (fixed ports : List Edge) → nodes ≡ map (λ (n : Named). node_row (row_at s.rows n.name)) s.names → fixed ≡ (network_of s).fixed → ports ≡ (network_of s).ports → length fixed + length ports < 2 ^ 20 → order.CanLoad nodes fixed ports
+pub can_load : (s : Known) → IsSound s → (nodes : List Row) (fixed ports : List Edge) → nodes ≡ map (λ (n : Named). node_row (row_at s.rows n.name)) s.names → fixed ≡ (network_of s).fixed → ports ≡ (network_of s).ports → length fixed
+    + length ports < 2 ^ 20 → order.CanLoad nodes fixed ports
 can_load s h nodes fixed ports are is_fixed are_ports few =
     let made = map loaded (map (λ (n : Named). node_row (row_at s.rows n.name)) s.names) in
     let rise = rises_as (network_of s).members made (same_size s.rows s.names) (same_rows s.rows s.names) in
@@ -122,7 +123,8 @@ pub other_vlans : (s : Known) (vlans : List VlanRow) → IsSound s → IsSound (
 other_vlans s vlans h = record { levels = h.levels; standing = h.standing; names = h.names; ports_once = h.ports_once; ports = h.ports }
 
 -- names that were kept, beside rows that are those of a configuration
-pub sound_parts : (old ns : List Named) (conf : Conf) (plain : List (List ℕ)) (radio : List RadioPort) (rows : List NameRow) (vlans : List VlanRow) → CanLoad conf plain radio → rows ≡ conf.names → ns ≡ kept_names old (map (λ r. r.name) rows ++ plain)
+pub sound_parts : (old ns : List Named) (conf : Conf) (plain : List (List ℕ)) (radio : List RadioPort) (rows : List NameRow) (vlans : List VlanRow) → CanLoad conf plain radio → rows ≡ conf.names → ns
+    ≡ kept_names old (map (λ r. r.name) rows ++ plain)
     → IsSound (record { rows = rows; vlans = vlans; names = ns; radio = radio })
 sound_parts old ns conf plain radio rows vlans h is_rows kept =
     let now : ns ≡ kept_names old (names_of conf ++ plain) = kept ∙ ap (λ (rs : List NameRow). kept_names old (map (λ (r : NameRow). r.name) rs ++ plain)) is_rows in
@@ -130,7 +132,8 @@ sound_parts old ns conf plain radio rows vlans h is_rows kept =
     (subst (λ (ms : List Named). IsSound (record { rows = conf.names; vlans = vlans; names = ms; radio = radio })) (sym now) (other_vlans (known_of old conf plain radio) vlans (sound_loaded old conf plain radio h)))
 
 -- the loaded counts, told of the names, have the network of what is known
-pub told_network : (s : Known) (nodes : List Row) (fixed ports : List Edge) (start now : Network) → nodes ≡ map (λ (n : Named). node_row (row_at s.rows n.name)) s.names → fixed ≡ (network_of s).fixed → ports ≡ (network_of s).ports → start ≡ network_from nodes fixed ports → now ≡ record start { members = told_members start.members s.names } → now ≡ network_of s
+pub told_network : (s : Known) (nodes : List Row) (fixed ports : List Edge) (start now : Network) → nodes ≡ map (λ (n : Named). node_row (row_at s.rows n.name)) s.names → fixed ≡ (network_of s).fixed → ports ≡ (network_of s).ports → start
+    ≡ network_from nodes fixed ports → now ≡ record start { members = told_members start.members s.names } → now ≡ network_of s
 told_network s nodes fixed ports start now are is_fixed are_ports begun told =
     told
     ∙ ap (λ (n : Network). let m : Network = record n { members = told_members n.members s.names } in m) begun
@@ -139,6 +142,7 @@ told_network s nodes fixed ports start now are is_fixed are_ports begun told =
     ∙ ap (λ (es : List Edge). let m : Network = record { members = map (member_in s.rows) s.names; fixed = es; ports = ports } in m) is_fixed
     ∙ ap (λ (es : List Edge). let m : Network = record { members = map (member_in s.rows) s.names; fixed = (network_of s).fixed; ports = es } in m) are_ports
 
-pub loaded_size : (s : Known) (nodes : List Row) (fixed ports : List Edge) (start : Network) → nodes ≡ map (λ (n : Named). node_row (row_at s.rows n.name)) s.names → start ≡ network_from nodes fixed ports → length start.members ≡ length s.names
+pub loaded_size : (s : Known) (nodes : List Row) (fixed ports : List Edge) (start : Network) → nodes ≡ map (λ (n : Named). node_row (row_at s.rows n.name)) s.names → start ≡ network_from nodes fixed ports → length start.members
+    ≡ length s.names
 loaded_size s nodes fixed ports start are begun =
     ap (λ (n : Network). length n.members) begun ∙ length-map nodes loaded ∙ ap length are ∙ length-map s.names (λ (n : Named). node_row (row_at s.rows n.name))

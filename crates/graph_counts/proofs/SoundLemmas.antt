@@ -43,7 +43,8 @@ pub bridge_row : (rows : List NameRow) (name : List ℕ) → is_bridge_kind (row
 bridge_row [] name is = absurd (let not_one = rowless_bridge name in cc (is, not_one))
 bridge_row (r ∷ rs) name is = bridge_step (bytes_eq r.name name) r rs (row_at rs name) (bridge_row rs name) is
 
-named_step : (b : Bool) (r : NameRow) (rs : List NameRow) (name : List ℕ) (found : NameRow) → bytes_eq r.name name ≡ b → (is_bridge_kind found.kind ≡ true → Contains (map (λ q. q.name) rs) name) → is_bridge_kind (cond b r found).kind ≡ true → Contains (map (λ q. q.name) (r ∷ rs)) name
+named_step : (b : Bool) (r : NameRow) (rs : List NameRow) (name : List ℕ) (found : NameRow) → bytes_eq r.name name ≡ b → (is_bridge_kind found.kind ≡ true → Contains (map (λ q. q.name) rs) name) → is_bridge_kind (cond b r found).kind ≡ true
+    → Contains (map (λ q. q.name) (r ∷ rs)) name
 named_step true r rs name found e h is = subst (Contains (r.name ∷ map (λ (q : NameRow). q.name) rs)) (bytes_same r.name name e) (here r.name (map (λ (q : NameRow). q.name) rs))
 named_step false r rs name found e h is = there r.name (map (λ (q : NameRow). q.name) rs) name (h is)
 
@@ -61,7 +62,8 @@ pub record IsGiven (radio : List GivenPort) (bridge port : List ℕ) : Type 0 wh
 later_given : (p : GivenPort) (ps : List GivenPort) (bridge port : List ℕ) → IsGiven ps bridge port → IsGiven (p ∷ ps) bridge port
 later_given p ps bridge port g = record { by = g.by; member = there p ps g.by g.member; to = g.to; is = g.is }
 
-given_step : (b : Bool) (p : GivenPort) (ps : List GivenPort) (rest : List RadioPort) (bridge port : List ℕ) → bytes_eq p.bridge bridge ≡ b → (Contains (map (λ joins. joins.port) rest) port → IsGiven ps bridge port) → Contains (map (λ joins. joins.port) (cond b (port_of p ∷ rest) rest)) port → IsGiven (p ∷ ps) bridge port
+given_step : (b : Bool) (p : GivenPort) (ps : List GivenPort) (rest : List RadioPort) (bridge port : List ℕ) → bytes_eq p.bridge bridge ≡ b → (Contains (map (λ joins. joins.port) rest) port → IsGiven ps bridge port)
+    → Contains (map (λ joins. joins.port) (cond b (port_of p ∷ rest) rest)) port → IsGiven (p ∷ ps) bridge port
 given_step true p ps rest bridge port e h m =
     ⊎_elim
     (λ (same : p.port ≡ port). let g : IsGiven (p ∷ ps) bridge port = record { by = p; member = here p ps; to = bytes_same p.bridge bridge e; is = same } in g)
@@ -108,7 +110,8 @@ module _ (s : Known) (h : IsSound s) where
   -- further names stand on nothing
   pub plain_alone : AllByRecursion (λ name. lowers_of (standing_in s name) ≡ []) h.names.plain
   plain_alone =
-      all_members (λ name. lowers_of (standing_in s name) ≡ []) h.names.plain (λ name m. ap (λ (r : NameRow). lowers_of (standing_of_row r (given_ports (map port_of s.radio) name))) (plain_rowless name m) ∙ rowless_lowers name (given_ports (map port_of s.radio) name))
+      all_members (λ name. lowers_of (standing_in s name) ≡ []) h.names.plain
+      (λ name m. ap (λ (r : NameRow). lowers_of (standing_of_row r (given_ports (map port_of s.radio) name))) (plain_rowless name m) ∙ rowless_lowers name (given_ports (map port_of s.radio) name))
 
   -- sound names have ids
   pub has_ids : HasIds s

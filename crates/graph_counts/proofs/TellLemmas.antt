@@ -29,7 +29,8 @@ told_first p ps n present carrier claims here up many =
     ∙ ap (λ (m : ℕ). let q : Member = record p { present = is_some n.device; carrier = option_map_or (λ device. device.carrier) n.device false; claims = m } in q ∷ ps) many
     ∙ ap (λ (qs : List Member). told_member p n ∷ qs) (sym (none_told ps))
 
-told_next : (ps : List Member) (ns : List Named) (k : ℕ) (present carrier : Bool) (claims : ℕ) → length ps ≡ length ns → k < length ns → present ≡ is_some (name_at ns k).device → carrier ≡ option_map_or (λ device. device.carrier) (name_at ns k).device false → claims ≡ (name_at ns k).claims
+told_next : (ps : List Member) (ns : List Named) (k : ℕ) (present carrier : Bool) (claims : ℕ) → length ps ≡ length ns → k < length ns → present ≡ is_some (name_at ns k).device → carrier
+    ≡ option_map_or (λ device. device.carrier) (name_at ns k).device false → claims ≡ (name_at ns k).claims
     → told_to (told_members ps (take k ns)) k present carrier claims ≡ told_members ps (take (suc k) ns)
 told_next [] [] k present carrier claims size h here up many = absurd (omega (arith, h))
 told_next [] (n ∷ ns) k present carrier claims size h here up many = absurd (omega (arith, size))
@@ -39,12 +40,14 @@ told_next (p ∷ ps) (n ∷ ns) (suc k) present carrier claims size h here up ma
     ap (λ (qs : List Member). told_member p n ∷ qs) (told_next ps ns k present carrier claims (omega (arith, size)) (omega (arith, h)) here up many)
 
 -- one more node is told
-pub told_more : (start was now : Network) (ns : List Named) (k : ℕ) (present carrier : Bool) (claims : ℕ) → length start.members ≡ length ns → k < length ns → present ≡ is_some (name_at ns k).device → carrier ≡ option_map_or (λ device. device.carrier) (name_at ns k).device false → claims ≡ (name_at ns k).claims
+pub told_more : (start was now : Network) (ns : List Named) (k : ℕ) (present carrier : Bool) (claims : ℕ) → length start.members ≡ length ns → k < length ns → present ≡ is_some (name_at ns k).device → carrier
+    ≡ option_map_or (λ device. device.carrier) (name_at ns k).device false → claims ≡ (name_at ns k).claims
     → was ≡ record start { members = told_members start.members (take k ns) } → now ≡ record was { members = told_to was.members k present carrier claims } → now ≡ record start { members = told_members start.members (take (k + 1) ns) }
 told_more start was now ns k present carrier claims size h here up many is next =
     next
     ∙ ap (λ (w : Network). let m : Network = record w { members = told_to w.members k present carrier claims } in m) is
-    ∙ ap (λ (ms : List Member). let m : Network = record start { members = ms } in m) (told_next start.members ns k present carrier claims size h here up many ∙ ap (λ j. told_members start.members (take j ns)) (let same : suc k ≡ k + 1 = omega arith in same))
+    ∙ ap (λ (ms : List Member). let m : Network = record start { members = ms } in m)
+    (told_next start.members ns k present carrier claims size h here up many ∙ ap (λ j. told_members start.members (take j ns)) (let same : suc k ≡ k + 1 = omega arith in same))
 
 pub loaded_told : (rows : List NameRow) (ns : List Named) → told_members (map loaded (map (λ (n : Named). node_row (row_at rows n.name)) ns)) ns ≡ map (member_in rows) ns
 loaded_told rows [] = refl

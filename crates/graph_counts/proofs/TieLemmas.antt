@@ -1,5 +1,6 @@
 -- the network of what is known stands as the names do
-use Rattle.std.proofs.Common.{arith, ⊎_elim, ℕ, zero, suc, ◌+◌, ◌<◌, ◌≤◌, ◌≡◌, ◌≢◌, ◌==◌, ◌&&◌, Bool, true, false, cond, not, is_some, List, [], ◌∷◌, ◌++◌, map, filter, length, Contains, Option, Some, None, bytes_eq, slice_index_or, refl, sym, ap, subst, ◌∙◌}
+use Rattle.std.proofs.Common.{arith, ⊎_elim, ℕ, zero, suc, ◌+◌, ◌<◌, ◌≤◌, ◌≡◌, ◌≢◌, ◌==◌, ◌&&◌, Bool, true, false, cond, not, is_some, List, [], ◌∷◌, ◌++◌, map, filter, length, Contains, Option, Some, None, bytes_eq, slice_index_or, refl}
+use Rattle.std.proofs.Common.{sym, ap, subst, ◌∙◌}
 use Rattle.std.specs.List.{AllByRecursion}
 use Rattle.std.specs.Option.{option_map_or, option_and_then}
 use Rattle.std.proofs.lemmas.Bool.{cases_eq, eq-eqb, ne_eqb}
@@ -70,7 +71,8 @@ rows_own names rows (r ∷ rs) h =
     ap (λ (q : NameRow). own_standing names q ∷ map (own_at names rows) (map (λ (q : NameRow). q.name) rs)) (h r (here r rs))
     ∙ ap (λ (ss : List counts.Standing). own_standing names r ∷ ss) (rows_own names rows rs (λ q m. h q (there r rs q m)))
 
-stand_case : (names : List (List ℕ)) (kind : NameKind) (broken : Bool) (more : List (List ℕ)) (ids : List ℕ) → (broken ≡ false → ids ≡ map (id_of names) more) → counts.with_more (by_id names (standing_of kind broken [])) ids ≡ by_id names (standing_of kind broken more)
+stand_case : (names : List (List ℕ)) (kind : NameKind) (broken : Bool) (more : List (List ℕ)) (ids : List ℕ) → (broken ≡ false → ids ≡ map (id_of names) more) → counts.with_more (by_id names (standing_of kind broken [])) ids
+    ≡ by_id names (standing_of kind broken more)
 stand_case names Plain broken more ids h = refl
 stand_case names (Bridge empty ports) true more ids h = refl
 stand_case names (Bridge empty ports) false more ids h =
@@ -111,13 +113,15 @@ far_given names rows name inside sound (p ∷ ps) known =
     (λ yes. ap (λ n. not (row_at rows n).broken) (bytes_same p.bridge name yes) ∙ ap not sound)
     (far_given names rows name inside sound ps (λ q m. known q (there p ps q m)))
 
-joined_map : (ports : List Edge) (f g : List ℕ → counts.Standing) (u : ℕ) (ns : List (List ℕ)) → ((i : ℕ) → i < length ns → counts.with_more (f (slice_index_or ns i [])) (far_ends lower_end upper_end ports (u + i)) ≡ g (slice_index_or ns i [])) → counts.joined_from u ports (map f ns) ≡ map g ns
+joined_map : (ports : List Edge) (f g : List ℕ → counts.Standing) (u : ℕ) (ns : List (List ℕ))
+    → ((i : ℕ) → i < length ns → counts.with_more (f (slice_index_or ns i [])) (far_ends lower_end upper_end ports (u + i)) ≡ g (slice_index_or ns i [])) → counts.joined_from u ports (map f ns) ≡ map g ns
 joined_map ports f g u [] h = refl
 joined_map ports f g u (n ∷ ns) h =
     let first : counts.with_more (f n) (far_ends lower_end upper_end ports u) ≡ g n =
     ap (λ k. counts.with_more (f n) (far_ends lower_end upper_end ports k)) (let e : u ≡ u + 0 = omega arith in e) ∙ h 0 (omega arith) in
     ap (λ (st : counts.Standing). st ∷ counts.joined_from (u + 1) ports (map f ns)) first
-    ∙ ap (λ (ss : List counts.Standing). g n ∷ ss) (joined_map ports f g (u + 1) ns (λ i hi. ap (λ k. counts.with_more (f (slice_index_or ns i [])) (far_ends lower_end upper_end ports k)) (let e : (u + 1) + i ≡ u + suc i = omega arith in e) ∙ h (suc i) (omega (arith, hi))))
+    ∙ ap (λ (ss : List counts.Standing). g n ∷ ss) (joined_map ports f g (u + 1) ns
+    (λ i hi. ap (λ k. counts.with_more (f (slice_index_or ns i [])) (far_ends lower_end upper_end ports k)) (let e : (u + 1) + i ≡ u + suc i = omega arith in e) ∙ h (suc i) (omega (arith, hi))))
 
 sound_bridge : (names : List (List ℕ)) (kind : NameKind) (broken : Bool) → is_bridge_kind kind ≡ true → broken ≡ false → counts.is_bridge (by_id names (standing_of kind broken [])) ≡ true
 sound_bridge names Plain broken is e = cc is
@@ -160,10 +164,13 @@ occur_once names k (x ∷ xs) d h =
 
 distinct_append : (xs ys : List (List ℕ)) → AreDistinct xs → AreDistinct ys → ((x : List ℕ) → Contains xs x → Contains ys x → ⊥) → AreDistinct (xs ++ ys)
 distinct_append [] ys dx dy h = dy
-distinct_append (x ∷ xs) ys dx dy h =
-    (all_members (λ y. y ≢ x) (xs ++ ys) (λ y m. ⊎_elim (λ (a : Contains xs y). member_of_all (λ z. z ≢ x) xs y dx.0 a) (λ (b : Contains ys y) (e : y ≡ x). h x (here x xs) (subst (Contains ys) e b)) (Contains-append_cases xs ys y m)), distinct_append xs ys dx.1 dy (λ y a b. h y (there x xs y a) b))
+distinct_append (x ∷ xs) ys dx dy h = (
+  all_members (λ y. y ≢ x) (xs ++ ys) (λ y m. ⊎_elim (λ (a : Contains xs y). member_of_all (λ z. z ≢ x) xs y dx.0 a) (λ (b : Contains ys y) (e : y ≡ x). h x (here x xs) (subst (Contains ys) e b)) (Contains-append_cases xs ys y m)),
+  distinct_append xs ys dx.1 dy (λ y a b. h y (there x xs y a) b),
+)
 
-given_distinct_step : (b : Bool) (p : GivenPort) (ps : List GivenPort) (rest : List RadioPort) → ((y : List ℕ) → Contains (map (λ joins. joins.port) rest) y → Contains (map (λ q. q.port) ps) y) → AllByRecursion (λ other. other ≢ p.port) (map (λ q. q.port) ps) → AreDistinct (map (λ joins. joins.port) rest) → AreDistinct (map (λ joins. joins.port) (cond b (port_of p ∷ rest) rest))
+given_distinct_step : (b : Bool) (p : GivenPort) (ps : List GivenPort) (rest : List RadioPort) → ((y : List ℕ) → Contains (map (λ joins. joins.port) rest) y → Contains (map (λ q. q.port) ps) y)
+    → AllByRecursion (λ other. other ≢ p.port) (map (λ q. q.port) ps) → AreDistinct (map (λ joins. joins.port) rest) → AreDistinct (map (λ joins. joins.port) (cond b (port_of p ∷ rest) rest))
 given_distinct_step true p ps rest within first d = (all_members (λ y. y ≢ p.port) (map (λ (joins : RadioPort). joins.port) rest) (λ y m. member_of_all (λ z. z ≢ p.port) (map (λ (q : GivenPort). q.port) ps) y first (within y m)), d)
 given_distinct_step false p ps rest within first d = d
 
@@ -174,7 +181,8 @@ given_distinct (p ∷ ps) bridge d =
     (λ y m. let g = given_by ps bridge y m in subst (Contains (map (λ (q : GivenPort). q.port) ps)) g.is (map_member (λ (q : GivenPort). q.port) ps g.by g.member))
     d.0 (given_distinct ps bridge d.1)
 
-lowers_distinct_case : (kind : NameKind) (broken : Bool) (more : List (List ℕ)) → (is_bridge_kind kind ≡ true → AreDistinct (ports_of_kind kind)) → AreDistinct more → ((x : List ℕ) → is_bridge_kind kind ≡ true → Contains (ports_of_kind kind) x → Contains more x → ⊥) → AreDistinct (lowers_of (standing_of kind broken more))
+lowers_distinct_case : (kind : NameKind) (broken : Bool) (more : List (List ℕ)) → (is_bridge_kind kind ≡ true → AreDistinct (ports_of_kind kind)) → AreDistinct more
+    → ((x : List ℕ) → is_bridge_kind kind ≡ true → Contains (ports_of_kind kind) x → Contains more x → ⊥) → AreDistinct (lowers_of (standing_of kind broken more))
 lowers_distinct_case Plain broken more own d apart = tt
 lowers_distinct_case (Bridge empty ports) true more own d apart = tt
 lowers_distinct_case (Bridge empty ports) false more own d apart = distinct_append ports more (own refl) d (λ x a b. apart x refl a b)
@@ -204,7 +212,8 @@ module _ (s : Known) (h : IsSound s) where
       standing_map (own_at (names_in s) s.rows) (names_in s) (id_of (names_in s) name) inside ∙ ap (own_at (names_in s) s.rows) (back (names_in s) name inside)
 
   -- the standings with the ports of radios
-  joined_at : (name : List ℕ) → Contains (names_in s) name → counts.with_more (own_at (names_in s) s.rows name) (far_ends lower_end upper_end (port_edges (names_in s) s.rows s.radio) (id_of (names_in s) name)) ≡ by_id (names_in s) (standing_in s name)
+  joined_at : (name : List ℕ) → Contains (names_in s) name → counts.with_more (own_at (names_in s) s.rows name) (far_ends lower_end upper_end (port_edges (names_in s) s.rows s.radio) (id_of (names_in s) name))
+      ≡ by_id (names_in s) (standing_in s name)
   joined_at name m =
       stand_case (names_in s) (row_at s.rows name).kind (row_at s.rows name).broken (given_ports (map port_of s.radio) name) _ (λ sound. far_given (names_in s) s.rows name m sound s.radio bridge_known)
 
@@ -255,7 +264,8 @@ module _ (s : Known) (h : IsSound s) where
               kinds = kinds_at s.rows (names_in s) s.names;
               fixed = fixed_edges;
               bridges = all_members (λ (e : Edge). counts.is_bridge (counts.standing_at (map (own_at (names_in s) s.rows) (names_in s)) e.upper) ≡ true) (network_of s).ports port_bridge;
-              once = subst (AllByRecursion (λ (st : counts.Standing). (k : ℕ) → occurs k (counts.lowers_of st) ≤ 1)) (sym joined_is) (all_mapped (λ (st : counts.Standing). (k : ℕ) → occurs k (counts.lowers_of st) ≤ 1) (λ name. by_id (names_in s) (standing_in s name)) (names_in s) once_at);
+              once = subst (AllByRecursion (λ (st : counts.Standing). (k : ℕ) → occurs k (counts.lowers_of st) ≤ 1)) (sym joined_is)
+                  (all_mapped (λ (st : counts.Standing). (k : ℕ) → occurs k (counts.lowers_of st) ≤ 1) (λ name. by_id (names_in s) (standing_in s name)) (names_in s) once_at);
             };
         stand = joined_is;
         told = told_alike;

@@ -1,5 +1,6 @@
 -- The counted graph below what is known of names, in which each name is its id.
-use Rattle.std.specs.Prelude.{ℕ, ◌≡◌, ◌<◌, ◌&&◌, ◌++◌, Bool, List, [], map, filter, length, nat_lt, if◌then◌else◌, not, is_some, false, slice_index_or, bytes_eq}
+use Rattle.std.specs.Prelude.{ℕ, ◌≡◌, ◌<◌, ◌&&◌, ◌++◌, Bool, List, [], map, filter, length, nat_lt, if◌then◌else◌, not}
+use Rattle.std.specs.Prelude.{is_some, false, slice_index_or, bytes_eq}
 use Rattle.std.specs.List.{AllByRecursion, position_or_len}
 use Rattle.std.specs.Option.{option_map_or}
 use Rattle.use_counts.specs.declared.node.Edge.{Edge}

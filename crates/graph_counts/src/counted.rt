@@ -24,7 +24,8 @@ use std::marker::Model;
 use std::sync::ledger::Ledger;
 use use_counts::{Graph, MarkedIds, Steps};
 
-/// Names with their rows, their devices, their claims and the ports of radios, and the counts over them.
+/// Names with their rows, their devices, their claims and the ports of radios, and the counts over
+/// them.
 #[derive(Drop)]
 pub struct CountedNames {
     rows: Items<NameRow>,
@@ -47,8 +48,8 @@ impl Model for CountedNames {
 }
 
 impl CountedNames {
-    /// The rows of a configuration with further names and ports of radios. Names keep the devices and the claims that they
-    /// have among the old ones.
+    /// The rows of a configuration with further names and ports of radios. Names keep the devices
+    /// and the claims that they have among the old ones.
     pub fn load(
         alloc: Global,
         conf: &Conf,
@@ -222,7 +223,8 @@ impl CountedNames {
     pub fn set_absent<L: Ledger>(&mut self, id: DevId, uses: &mut MarkedIds, steps: &mut Steps<L>)
         requires within { id.0 < length self.old.names }
         requires room { length self.old.names ≤ uses.old.room }
-        ensures known { self.new ≡ record self.old { names = with_device self.old.names id.0 None } }
+        ensures known { self.new
+            ≡ record self.old { names = with_device self.old.names id.0 None } }
         ensures cost { steps.new ≤ steps.old + (1 + 2 * changed_edges self.old self.new) }
         ensures uses { TellsUses self.old self.new uses.old uses.new }
     {

@@ -1,4 +1,5 @@
-//! The names of a graph of devices over their counts: which of them are available, have link and are used.
+//! The names of a graph of devices over their counts: which of them are available, have link and
+//! are used.
 #![tactic(auto)]
 
 mod counted;

@@ -82,7 +82,8 @@ no_device (n ∷ ns) name apart = by_name (bytes_eq n.name name) refl (no_device
 
 module _ (facts : Facts) (s : Known) (agrees : AgreesBelow facts s) (knows : KnowsRows s) where
   -- a name without a row and without a device
-  rowless_off : (name : List ℕ) (b : Bool) → standing_at facts name ≡ standing_of (cond {A = NameKind} b (Vlan None 0) Plain) b (radio_ports_of facts name) → facts.device name ≡ None → (available facts name ≡ false) × (link facts name ≡ false)
+  rowless_off : (name : List ℕ) (b : Bool) → standing_at facts name ≡ standing_of (cond {A = NameKind} b (Vlan None 0) Plain) b (radio_ports_of facts name) → facts.device name ≡ None → (available facts name ≡ false)
+      × (link facts name ≡ false)
   unfolding available link by_levels
   rowless_off name true is none = (
     ap (opens (is_present facts name) (by_levels 7 (opens_at facts))) is,

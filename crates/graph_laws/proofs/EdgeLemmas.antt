@@ -63,7 +63,8 @@ own_once kind true once = tt
 own_once kind false once = once
 
 -- the edges at the names of rows: a lower for each, the own ports, and the ports of radios
-edge_count : (s : Known) (rows : List NameRow) → ((row : NameRow) → Contains rows row → row_at s.rows row.name ≡ row) → length (flat_map (edges_of s) (map (λ (row : NameRow). row.name) rows)) ≤ (length rows + length (flat_map ports_of_row rows)) + length (flat_map (given_ports (map port_of s.radio)) (map (λ (row : NameRow). row.name) rows))
+edge_count : (s : Known) (rows : List NameRow) → ((row : NameRow) → Contains rows row → row_at s.rows row.name ≡ row)
+    → length (flat_map (edges_of s) (map (λ (row : NameRow). row.name) rows)) ≤ (length rows + length (flat_map ports_of_row rows)) + length (flat_map (given_ports (map port_of s.radio)) (map (λ (row : NameRow). row.name) rows))
 edge_count s [] own = omega arith
 edge_count s (row ∷ rows) own =
     let names : List (List ℕ) = map (λ (r : NameRow). r.name) rows in

@@ -217,7 +217,8 @@ by_same s names name mac (Ports empty ports) = refl
 of_same : (s : Known) (names : List Named) (name : List ℕ) → mays_of (record s { names = names }) name ≡ mays_of s name
 of_same s names name = let row = row_at s.rows name in ap (λ (ms : List May). map (may_alone name) (mtu_of name row.mtu) ++ ms) (by_same s names name row.mac (standing_in s name))
 
-pub links_stay : (s : State) (names : List Named) (held : Objects) → HoldsLinksOfRows s → ((name : List ℕ) → Contains (names_in s.known) name → Contains (name_list names) name) → AreWithin held s.held → HoldsLinksOfRows (record (with_names s names) { held = held })
+pub links_stay : (s : State) (names : List Named) (held : Objects) → HoldsLinksOfRows s → ((name : List ℕ) → Contains (names_in s.known) name → Contains (name_list names) name) → AreWithin held s.held
+    → HoldsLinksOfRows (record (with_names s names) { held = held })
 links_stay s names held holds more within name made has =
     let now : Known = record s.known { names = names } in
     let from = member_of_map (λ (m : May). m.object) (mays s.known) (object.Link name made) (holds name made (within (object.Link name made) has)) in

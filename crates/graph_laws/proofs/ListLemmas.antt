@@ -22,7 +22,8 @@ distinct_both {X} (x ∷ xs) ys front back apart = (
 )
 
 -- lists that are joined, where items with a common member have one key
-pub distinct_join : {X : Type 0} (key : X → List ℕ) (f : X → List (List ℕ)) (xs : List X) → AreDistinct (map key xs) → ((x : X) → Contains xs x → AreDistinct (f x)) → ((x y : X) (z : List ℕ) → Contains xs x → Contains xs y → Contains (f x) z → Contains (f y) z → key x ≡ key y) → AreDistinct (flat_map f xs)
+pub distinct_join : {X : Type 0} (key : X → List ℕ) (f : X → List (List ℕ)) (xs : List X) → AreDistinct (map key xs) → ((x : X) → Contains xs x → AreDistinct (f x))
+    → ((x y : X) (z : List ℕ) → Contains xs x → Contains xs y → Contains (f x) z → Contains (f y) z → key x ≡ key y) → AreDistinct (flat_map f xs)
 distinct_join key f [] once each one = tt
 distinct_join {X} key f (x ∷ xs) once each one = distinct_both (f x) (flat_map f xs) (each x (here x xs))
     (distinct_join key f xs once.1 (λ y h. each y (there x xs y h)) (λ y z w h k. one y z w (there x xs y h) (there x xs z k)))

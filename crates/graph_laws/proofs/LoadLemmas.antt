@@ -44,7 +44,8 @@ no_ports rows names = record {
 }
 
 module _ (network wireless : Package) (within : passed_limit (conf network wireless) ≡ None) where
-  pub can_load : (plain : List (List ℕ)) (radio : List RadioPort) → AreFurther (conf network wireless) plain → ArePorts (conf network wireless).names (names_of (conf network wireless) ++ plain) radio → CanLoad (conf network wireless) plain radio
+  pub can_load : (plain : List (List ℕ)) (radio : List RadioPort) → AreFurther (conf network wireless) plain → ArePorts (conf network wireless).names (names_of (conf network wireless) ++ plain) radio
+      → CanLoad (conf network wireless) plain radio
   can_load plain radio further ports = record {
     sound = read_sound network wireless;
     few = (are_few (conf network wireless) within).names;
@@ -57,7 +58,8 @@ module _ (network wireless : Package) (within : passed_limit (conf network wirel
   can_load_alone = can_load [] [] (record { once = tt; rowless = λ name h. absurd (none_in_nil name h) }) (no_ports (conf network wireless).names (names_of (conf network wireless) ++ []))
 
 -- with the ports of the network's radios
-pub can_load_radios : (network wireless : Package) (facts : Facts) (plain : List (List ℕ)) (radio : List RadioPort) → facts.conf ≡ conf network wireless → passed_limit facts.conf ≡ None → AreFurther facts.conf plain → map port_of radio ≡ radio_ports facts → ((p : RadioPort) → Contains radio p → Contains (names_of facts.conf ++ plain) p.port) → CanLoad facts.conf plain radio
+pub can_load_radios : (network wireless : Package) (facts : Facts) (plain : List (List ℕ)) (radio : List RadioPort) → facts.conf ≡ conf network wireless → passed_limit facts.conf ≡ None → AreFurther facts.conf plain → map port_of radio
+    ≡ radio_ports facts → ((p : RadioPort) → Contains radio p → Contains (names_of facts.conf ++ plain) p.port) → CanLoad facts.conf plain radio
 can_load_radios network wireless facts plain radio is within further same known =
     let ports : ArePorts facts.conf.names (names_of facts.conf ++ plain) radio = are_ports facts (names_of facts.conf ++ plain) radio same known in
     subst (λ (rows : Conf). CanLoad rows plain radio) (sym is)

@@ -24,7 +24,8 @@ record Joins (facts : Facts) (answered : AnsweredPort) (joins : RadioPort) : Typ
   bridge : is_bridge facts.conf joins.bridge ≡ true
   free : is_named_port facts.conf answered.port ≡ true → ⊥
 
-joins_bridge : (facts : Facts) (answered : AnsweredPort) (joins : RadioPort) (bridge : List ℕ) (b : Bool) → (is_bridge facts.conf bridge && not (is_named_port facts.conf answered.port)) ≡ b → cond b (Some (record { bridge = bridge; port = answered.port })) None ≡ Some joins → Joins facts answered joins
+joins_bridge : (facts : Facts) (answered : AnsweredPort) (joins : RadioPort) (bridge : List ℕ) (b : Bool) → (is_bridge facts.conf bridge && not (is_named_port facts.conf answered.port)) ≡ b
+    → cond b (Some (record { bridge = bridge; port = answered.port })) None ≡ Some joins → Joins facts answered joins
 joins_bridge facts answered joins bridge true is h =
     let parts = both (is_bridge facts.conf bridge) (not (is_named_port facts.conf answered.port)) is in
     let same : bridge ≡ joins.bridge = cc h in

@@ -35,7 +35,8 @@ with_device : (names : List Named) (name : List ℕ) → is_some (device_among n
 with_device [] name h = cc h
 with_device (n ∷ ns) name h = go (bytes_eq n.name name) refl h (with_device ns name)
   where
-    go : (b : Bool) → bytes_eq n.name name ≡ b → is_some (option_and_then (λ (x : Named). x.device) (cond {A = Option Named} b (Some n) (named_in ns name))) ≡ true → (is_some (device_among ns name) ≡ true → Contains (name_list ns) name) → Contains (n.name ∷ name_list ns) name
+    go : (b : Bool) → bytes_eq n.name name ≡ b → is_some (option_and_then (λ (x : Named). x.device) (cond {A = Option Named} b (Some n) (named_in ns name))) ≡ true → (is_some (device_among ns name) ≡ true → Contains (name_list ns) name)
+        → Contains (n.name ∷ name_list ns) name
     go true is some rest = subst (Contains (n.name ∷ name_list ns)) (bytes_same n.name name is) (here n.name (name_list ns))
     go false is some rest = there n.name (name_list ns) name (rest some)
 

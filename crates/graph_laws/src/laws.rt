@@ -1,5 +1,6 @@
 // Laws of the definitions. Each body is empty, and the contract is the law.
-ghost use Rattle.std.specs.Prelude.{◌≡◌, ◌↔◌, ◌≤◌, ◌<◌, ◌+◌, ◌*◌, ◌^◌, ◌++◌, ℕ, List, [], Contains, map, length, None, true, false};
+ghost use Rattle.std.specs.Prelude.{◌≡◌, ◌↔◌, ◌≤◌, ◌<◌, ◌+◌, ◌*◌, ◌^◌, ◌++◌, ℕ, List, [], Contains};
+ghost use Rattle.std.specs.Prelude.{map, length, None, true, false};
 ghost use Rattle.uci_tree.specs.declared.package.Package.{Package};
 ghost use Rattle.plane_words.specs.Distinct.{AreDistinct};
 ghost use Rattle.kern_model.specs.declared.object.Object.{Object};
@@ -21,7 +22,8 @@ ghost use Rattle.net_rules.specs.Refusal.{is_held_link};
 ghost use Rattle.net_conf.specs.Conf.{conf};
 ghost use Rattle.net_conf.specs.Limits.{passed_limit};
 ghost use Rattle.graph_rules.specs.declared.ids.RadioPort.{RadioPort};
-ghost use Rattle.graph_rules.specs.State.{Named, Known, State, name_list, names_in, place_among, devices_in};
+ghost use Rattle.graph_rules.specs.State.{Named, Known, State, name_list, names_in, place_among};
+ghost use Rattle.graph_rules.specs.State.{devices_in};
 ghost use Rattle.graph_rules.specs.Answers.{port_of, available_in, link_in, used_in};
 ghost use Rattle.graph_rules.specs.Calls.{falls_in};
 ghost use Rattle.graph_rules.specs.After.{known_of, with_names, did_after};
@@ -35,7 +37,8 @@ ghost use Rattle.graph_laws.specs.Knowing.{AreFurther, KnowsRows};
 ghost use Rattle.graph_laws.specs.Below.{AgreesBelow};
 ghost use Rattle.graph_laws.specs.Links.{HoldsLinksOfRows};
 
-/// Rows that are read and pass no limit can be loaded into a graph, with further names, and with ports that radios may have.
+/// Rows that are read and pass no limit can be loaded into a graph, with further names, and with
+/// ports that radios may have.
 pub fn rows_that_are_read_can_be_loaded()
     ensures alone { (network wireless : Package) → passed_limit (conf network wireless) ≡ None
         → CanLoad (conf network wireless) [] [] }
@@ -57,7 +60,8 @@ pub fn ports_of_radios_may_be_ports()
         → ArePorts facts.conf.names names radio }
 {}
 
-/// A sound graph has no more edges than twice its rows and its names together, by names and as they are counted.
+/// A sound graph has no more edges than twice its rows and its names together, by names and as they
+/// are counted.
 pub fn sound_graphs_have_few_edges()
     ensures named { (s : Known) → IsSound s
         → length (edges_in s) ≤ 2 * length s.rows + length s.names }
@@ -76,8 +80,9 @@ pub fn loads_bring_few_edges()
         length net.fixed + length net.ports < 2 ^ 20 }
 {}
 
-/// A graph shares the used names of a network with sound rows, where it knows the names of the rows. So beside rows that were read it
-/// wants on its names what the network wants on all names. A graph knows the rows that were loaded, and a sound one knows its rows.
+/// A graph shares the used names of a network with sound rows, where it knows the names of the
+/// rows. So beside rows that were read it wants on its names what the network wants on all names. A
+/// graph knows the rows that were loaded, and a sound one knows its rows.
 pub fn used_names_are_shared()
     ensures shares { (facts : Facts) (s : Known) → AreSound facts.conf → Agrees facts s
         → KnowsRows s → SharesUsed facts s }
@@ -89,8 +94,9 @@ pub fn used_names_are_shared()
     ensures sound { (s : Known) → IsSound s → KnowsRows s }
 {}
 
-/// Whatever its claims are, a graph with the rows, ports of radios and devices of a network tells as that network which names are
-/// available and which have link. A name that it does not know is neither.
+/// Whatever its claims are, a graph with the rows, ports of radios and devices of a network tells
+/// as that network which names are available and which have link. A name that it does not know is
+/// neither.
 pub fn answers_need_no_claims()
     ensures available { (facts : Facts) (s : Known) → AgreesBelow facts s
         → (name : List ℕ) → available_in s name ≡ available facts name }
@@ -101,8 +107,9 @@ pub fn answers_need_no_claims()
         → (available facts name ≡ false) × (link facts name ≡ false) }
 {}
 
-/// With the claims of its interfaces it wants what a network with sound rows wants, without addresses and routes, and these are what
-/// interfaces give. Its devices are those of the network where it has each name once. The links of a set are those of its lower part.
+/// With the claims of its interfaces it wants what a network with sound rows wants, without
+/// addresses and routes, and these are what interfaces give. Its devices are those of the network
+/// where it has each name once. The links of a set are those of its lower part.
 pub fn graphs_want_the_lower_part()
     ensures wants { (facts : Facts) (s : Known) → AreSound facts.conf → Agrees facts s
         → KnowsRows s → want_in s ≡ lower_part (want facts) }
@@ -115,8 +122,9 @@ pub fn graphs_want_the_lower_part()
         → is_held_link (lower_part held) name ≡ is_held_link held name }
 {}
 
-/// Where each link that a sound graph holds is one of its rows, no used name falls. Calls of the graph keep that, and so do names with
-/// other devices and claims, further names, and objects that go. So it is once all that is wanted is held.
+/// Where each link that a sound graph holds is one of its rows, no used name falls. Calls of the
+/// graph keep that, and so do names with other devices and claims, further names, and objects that
+/// go. So it is once all that is wanted is held.
 pub fn links_of_rows_do_not_fall()
     ensures used { (s : State) → IsSound s.known → HoldsLinksOfRows s → (name : List ℕ)
         → used_in s.known name ≡ true → falls_in s name ≡ false }

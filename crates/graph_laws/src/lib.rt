@@ -1,5 +1,6 @@
-//! Laws on graphs beside a network: rows that were read can be loaded, bring few edges, and share the used names; answers need no
-//! claims, wants are the network's without addresses and routes, and links of the rows do not fall under a used name.
+//! Laws on graphs beside a network: rows that were read can be loaded, bring few edges, and share
+//! the used names; answers need no claims, wants are the network's without addresses and routes,
+//! and links of the rows do not fall under a used name.
 #![tactic(auto)]
 
 mod laws;

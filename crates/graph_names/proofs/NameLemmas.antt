@@ -66,7 +66,8 @@ symmetric : (a b : List ℕ) → bytes_eq a b ≡ bytes_eq b a
 symmetric a b = true_of_both_ways (bytes_eq a b) (bytes_eq b a) (λ h. same_bytes b a (sym (bytes_same a b h))) (λ h. same_bytes a b (sym (bytes_same b a h)))
 
 -- what is told of a name is told at its place
-find_step : (b : Bool) (n : Named) (ns : List Named) (place : Option ℕ) (found : Option Named) → option_and_then (slice_get ns) place ≡ found → option_and_then (slice_get (n ∷ ns)) (cond {A = Option ℕ} b (Some 0) (option_map (λ k. suc k) place)) ≡ cond b (Some n) found
+find_step : (b : Bool) (n : Named) (ns : List Named) (place : Option ℕ) (found : Option Named) → option_and_then (slice_get ns) place ≡ found
+    → option_and_then (slice_get (n ∷ ns)) (cond {A = Option ℕ} b (Some 0) (option_map (λ k. suc k) place)) ≡ cond b (Some n) found
 find_step true n ns place found h = refl
 find_step false n ns None found h = h
 find_step false n ns (Some k) found h = h

@@ -1,4 +1,5 @@
-//! The names of a graph of devices, each once, with its device and its claims. The id of a name is its place.
+//! The names of a graph of devices, each once, with its device and its claims. The id of a name is
+//! its place.
 #![tactic(auto)]
 
 mod kept;

@@ -1,5 +1,6 @@
 -- One number more or less in a set of bits, and the least number in it from one on.
-use Rattle.std.proofs.Common.{arith, ℕ, ◌+◌, ◌-◌, ◌*◌, ◌/◌, ◌%◌, ◌^◌, ◌<◌, ◌≤◌, ◌≡◌, ◌≢◌, List, [], ◌∷◌, ◌++◌, zero, suc, length, slice_index, slice_set, bit_and, bit_or, w64, inl, inr, Option, Some, None, IfSome, IfNone, true, false, refl, get_or-set_same, get_or-set_other, ap, sym, ◌∙◌}
+use Rattle.std.proofs.Common.{arith, ℕ, ◌+◌, ◌-◌, ◌*◌, ◌/◌, ◌%◌, ◌^◌, ◌<◌, ◌≤◌, ◌≡◌, ◌≢◌, List, [], ◌∷◌, ◌++◌, zero, suc, length, slice_index, slice_set, bit_and, bit_or, w64, inl, inr, Option, Some, None, IfSome, IfNone, true, false, refl}
+use Rattle.std.proofs.Common.{get_or-set_same, get_or-set_other, ap, sym, ◌∙◌}
 use Rattle.std.specs.Int.{bit_at, bit_not, trailing_zeros}
 use Rattle.std.proofs.lemmas.Bool.{cases_eq, cases_lt}
 use Rattle.std.proofs.lemmas.List.{get_or_past}

@@ -142,7 +142,8 @@ set_deciders_size [] i w = refl
 set_deciders_size (x ∷ xs) zero w = refl
 set_deciders_size (x ∷ xs) (suc i) w = ap suc (set_deciders_size xs i w)
 
-pub wish_listed_at : (lists : List (Vec ℕ Global)) (es : Entries) (i : ℕ) (s : Slot) (wish : Wish) → AreListed lists (deciders es) → Contains (slots_of lists wish.first) i → Contains (slots_of lists wish.second) i → AreListed lists (deciders (set_value_at es i (record s { wish = Some wish })))
+pub wish_listed_at : (lists : List (Vec ℕ Global)) (es : Entries) (i : ℕ) (s : Slot) (wish : Wish) → AreListed lists (deciders es) → Contains (slots_of lists wish.first) i → Contains (slots_of lists wish.second) i
+    → AreListed lists (deciders (set_value_at es i (record s { wish = Some wish })))
 wish_listed_at lists es i s wish are first second = record {
   first = λ j v h. elim (decider_set es i j (record s { wish = Some wish }) v h) as (λ _. Contains (slots_of lists v.first) j) [
     | inl this ↦ let is : unjudged wish ≡ v = cc this.1 in subst (λ (u : Wish). Contains (slots_of lists u.first) j) is (subst (Contains (slots_of lists wish.first)) (sym this.0) first)

@@ -91,7 +91,8 @@ is_only (Some a) (Some b) x h off = by (eq_by_cmp object_cmp a b) refl
 
 -- objects each of the key of its slot are as many as a set as they are as a list
 module _ (eq : ObjectKey → ObjectKey → Bool) (same : (x y : ObjectKey) → eq x y ≡ true → x ≡ y) (itself : (x : ObjectKey) → eq x x ≡ true) where
-  set_length : (f : ObjectKey × Slot → Option Object) (es : Entries) → ((e : ObjectKey × Slot) (o : Object) → Contains es e → f e ≡ Some o → key_of o ≡ e.0) → IsDistinct eq (keys_of es) → set.len (set_of (filter_map f es)) ≡ length (filter_map f es)
+  set_length : (f : ObjectKey × Slot → Option Object) (es : Entries) → ((e : ObjectKey × Slot) (o : Object) → Contains es e → f e ≡ Some o → key_of o ≡ e.0) → IsDistinct eq (keys_of es) → set.len (set_of (filter_map f es))
+      ≡ length (filter_map f es)
   set_length f [] keyed once = set.len-empty object_cmp
   set_length f (e ∷ es) keyed once = by (set_length f es (λ x o member. keyed x o (there e es x member)) (IsDistinct-tail eq e.0 (keys_of es) once)) (f e) refl
     where

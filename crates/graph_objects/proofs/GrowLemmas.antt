@@ -168,7 +168,8 @@ module _ (es : Entries) (slots : AreSlots es) (i : ℕ) (key : ObjectKey) (s : S
     wish_within x h =
         let from = member_of_map (λ (w : Wish). w.object) (wishes now) x (member_of_set (map (λ (w : Wish). w.object) (wishes now)) x h) in
         let all : List Wish = wish ∷ wishes es in
-        let member : Contains all from.source = elim (wish_new from.source from.member) as (λ _. Contains all from.source) [ inl was ↦ there wish (wishes es) from.source was | inr is ↦ subst (Contains all) (sym is) (here wish (wishes es)) ] in
+        let member : Contains all from.source = elim (wish_new from.source from.member) as (λ _. Contains all from.source) [ inl was ↦ there wish (wishes es) from.source was | inr is ↦ subst (Contains all) (sym is) (here wish (wishes es)) ]
+        in
         set_of_member (map (λ (w : Wish). w.object) all) x (subst (Contains (map (λ (w : Wish). w.object) all)) from.same (map_member (λ (w : Wish). w.object) all from.source member))
 
     pub wish_slots : AreSlots now

@@ -25,6 +25,7 @@ module _ (objects : Objects) (name : List ℕ) where
       let link = named_link name found.passing found.passes in
       none link.0 (subst (Has objects) link.1 (set_of_item objects found.passing found.member)))
 
-  pub link_is_held : (found : Option LinkKind) → IfSome found (λ kind. Has objects (object.Link name kind)) → IfNone found ((kind : LinkKind) → Has objects (object.Link name kind) → ⊥) → is_some found ≡ list_any (is_link_of name) (set.items objects)
+  pub link_is_held : (found : Option LinkKind) → IfSome found (λ kind. Has objects (object.Link name kind)) → IfNone found ((kind : LinkKind) → Has objects (object.Link name kind) → ⊥) → is_some found
+      ≡ list_any (is_link_of name) (set.items objects)
   link_is_held (Some kind) has none = sym (held_link kind has)
   link_is_held None has none = sym (no_held_link none)

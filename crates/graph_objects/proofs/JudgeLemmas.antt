@@ -165,7 +165,8 @@ module _ (f : Slot → Slot) (es : Entries) where
       ]
 
 -- all slots are written where an id decides their wishes
-pub all_of_id : (lists : List (Vec ℕ Global)) (es now : Entries) (used : List Bool) (id : ℕ) (done : List ℕ) → AreListed lists (deciders es) → done ≡ slots_of lists id → WrittenSoFar (judged_slot_by used (id ∷ [])) es now done → now ≡ each_slot (judged_slot_by used (id ∷ [])) es
+pub all_of_id : (lists : List (Vec ℕ Global)) (es now : Entries) (used : List Bool) (id : ℕ) (done : List ℕ) → AreListed lists (deciders es) → done ≡ slots_of lists id → WrittenSoFar (judged_slot_by used (id ∷ [])) es now done → now
+    ≡ each_slot (judged_slot_by used (id ∷ [])) es
 all_of_id lists es now used id done are all so_far =
     all_so_far (judged_slot_by used (id ∷ [])) es now done so_far (λ i e at none. off_slot lists es are used (id ∷ []) i e at (λ one. none (subst (λ (is : List ℕ). Contains is i) (sym all) (of_one i one))))
   where

@@ -69,7 +69,8 @@ texts_alike (a ∷ xs) [] p q apart u v w x = decided (nat_cmp a 32) _ _ (λ tie
 texts_alike (a ∷ xs) (b ∷ ys) p q apart u v w x = behind (nat_cmp a b) _ _ (λ tie. texts_alike xs ys p.1 q.1 (λ same. apart (λ i. tied_of_equal a b tie i ∷ same i)) u v w x)
 
 -- the same behind an equal front, as a line is put together
-words_alike : (front n m : List ℕ) → Plain n → Plain m → (n ≡ m → ⊥) → (between u v w x : List ℕ) → slice_cmp nat_cmp (front ++ n ++ (32 ∷ between) ++ u) (front ++ m ++ (32 ∷ between) ++ v) ≡ slice_cmp nat_cmp (front ++ n ++ (32 ∷ between) ++ w) (front ++ m ++ (32 ∷ between) ++ x)
+words_alike : (front n m : List ℕ) → Plain n → Plain m → (n ≡ m → ⊥) → (between u v w x : List ℕ) → slice_cmp nat_cmp (front ++ n ++ (32 ∷ between) ++ u) (front ++ m ++ (32 ∷ between) ++ v)
+    ≡ slice_cmp nat_cmp (front ++ n ++ (32 ∷ between) ++ w) (front ++ m ++ (32 ∷ between) ++ x)
 words_alike front n m p q apart between u v w x =
     ap2 u v ∙ texts_alike n m p.bytes q.bytes apart (between ++ u) (between ++ v) (between ++ w) (between ++ x) ∙ sym (ap2 w x)
   where
@@ -80,7 +81,8 @@ words_alike front n m p q apart between u v w x =
     ap2 r s = (λ i. slice_cmp nat_cmp (joined n r i) (joined m s i)) ∙ prefix_alike front (n ++ 32 ∷ (between ++ r)) (m ++ 32 ∷ (between ++ s))
 
 -- takes of one kind that are not of one name compare alike with any own values
-pub takes_alike : (a b : Object) (i j k l : ℕ) (x y z w : Mac) → IsPrintable a → IsPrintable b → rank (Take a i x) ≡ rank (Take b j y) → (key_of a ≡ key_of b → ⊥) → slice_cmp nat_cmp (take_line a i x) (take_line b j y) ≡ slice_cmp nat_cmp (take_line a k z) (take_line b l w)
+pub takes_alike : (a b : Object) (i j k l : ℕ) (x y z w : Mac) → IsPrintable a → IsPrintable b → rank (Take a i x) ≡ rank (Take b j y) → (key_of a ≡ key_of b → ⊥) → slice_cmp nat_cmp (take_line a i x) (take_line b j y)
+    ≡ slice_cmp nat_cmp (take_line a k z) (take_line b l w)
 takes_alike (object.Mtu n t) (object.Mtu m s) i j k l x y z w p q level apart =
     words_alike (codes "link set dev ") n m (name n p.0) (name m q.0) (λ same. apart (λ h. record { rank = rank (Put (object.Mtu n t)); name = same h; id = 0 })) (codes "mtu ") (decimal i) (decimal j) (decimal k) (decimal l)
 takes_alike (object.Mac n t) (object.Mac m s) i j k l x y z w p q level apart =

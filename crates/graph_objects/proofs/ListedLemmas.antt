@@ -222,7 +222,8 @@ module _ (turn : Turn) (es : Entries) where
         | inr never ↦ none_in_nil p never
       ]
 
-  pub popped : (old new : List Placed) (r : Option Placed) → old ≡ new ++ option_to_list r → ((p : Placed) → slice_get old (length old - 1) ≡ Some p → is_due turn (set_on Held es) (set_on Wanted es) p.object ≡ false) → ListsDue turn es old → ListsDue turn es new
+  pub popped : (old new : List Placed) (r : Option Placed) → old ≡ new ++ option_to_list r → ((p : Placed) → slice_get old (length old - 1) ≡ Some p → is_due turn (set_on Held es) (set_on Wanted es) p.object ≡ false) → ListsDue turn es old
+      → ListsDue turn es new
   popped old new r is done lists = without_last new r (subst (ListsDue turn es) is lists) (last r is)
     where
       last : (r : Option Placed) → old ≡ new ++ option_to_list r → (p : Placed) → r ≡ Some p → Due p.object → ⊥
@@ -262,7 +263,8 @@ module _ (es now : Entries) (wanted : set_on Wanted now ≡ set_on Wanted es) (s
     still_put : (x : Object) → is_put (set_on Held now) (set_on Wanted now) x ≡ true → is_put (set.remove (set_on Held es) o) (set_on Wanted es) x ≡ true
     still_put x due = (λ i. is_put (sym held i) (sym wanted i) x) ∙ due
 
-    same_take : (x : Object) → height_of (set_on Held es) x ≡ height_of (set_on Held now) x → place_of (length es) (set_on Held es) (set_on Wanted es) (plain_call Takes x) ≡ place_of (length now) (set_on Held now) (set_on Wanted now) (plain_call Takes x)
+    same_take : (x : Object) → height_of (set_on Held es) x ≡ height_of (set_on Held now) x → place_of (length es) (set_on Held es) (set_on Wanted es) (plain_call Takes x)
+        ≡ place_of (length now) (set_on Held now) (set_on Wanted now) (plain_call Takes x)
     same_take x high = λ i. record { rank = rank (plain_call Takes x); height = sym size i - high i; line = line_of (plain_call Takes x) }
 
     pub takes_go_on : (ps : List Placed) → ListsDue Takes es ps → ListsDue Takes now ps
@@ -283,7 +285,8 @@ module _ (es now : Entries) (wanted : set_on Wanted now ≡ set_on Wanted es) (s
     }
 
   -- a wanted object was put, where none is to be taken
-  module _ (o : Object) (held : set_on Held now ≡ after_call (set_on Held es) (Put o)) (steady : IsSteady (set_on Wanted es)) (is : Has (set_on Wanted es) o) (done : (x : Object) → is_taken (set_on Held es) (set_on Wanted es) x ≡ true → ⊥) where
+  module _ (o : Object) (held : set_on Held now ≡ after_call (set_on Held es) (Put o)) (steady : IsSteady (set_on Wanted es)) (is : Has (set_on Wanted es) o)
+      (done : (x : Object) → is_taken (set_on Held es) (set_on Wanted es) x ≡ true → ⊥) where
     none_now : (x : Object) → is_taken (set_on Held now) (set_on Wanted now) x ≡ true → ⊥
     none_now x taken = still_none_taken (set_on Held es) (set_on Wanted es) steady o is done x ((λ i. is_taken (sym held i) (sym wanted i) x) ∙ taken)
 

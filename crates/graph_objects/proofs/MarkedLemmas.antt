@@ -182,7 +182,8 @@ module _ (es : Entries) (i : ℕ) (key : ObjectKey) (s w : Slot) (at : slice_get
       marks_after old new marked put.size put.others fewer (λ h. put.here ∙ ap (λ b. if b then 1 else 0) h) (λ o held on. absurd (never o held on))
 
   -- so where all links that are held then are wanted
-  pub marks_after_links : (old new : List ℕ) → AreMarked old es → IsPut old new i (differs w) → w.wish ≡ s.wish → ((n : List ℕ) (k : LinkKind) → Has (set_on Held now) (object.Link n k) → Has (set_on Wanted es) (object.Link n k)) → AreMarked new now
+  pub marks_after_links : (old new : List ℕ) → AreMarked old es → IsPut old new i (differs w) → w.wish ≡ s.wish → ((n : List ℕ) (k : LinkKind) → Has (set_on Held now) (object.Link n k) → Has (set_on Wanted es) (object.Link n k))
+      → AreMarked new now
   marks_after_links old new marked put same links =
       let all : (n : List ℕ) (k : LinkKind) → Has (set_on Held now) (object.Link n k) → Has (set_on Wanted now) (object.Link n k) =
       λ n k h. subst (λ (t : Objects). Has t (object.Link n k)) (sym (wanted_same es now (wishes_stay es i key s w at same))) (links n k h) in

@@ -72,7 +72,8 @@ module _ (held wanted : Objects) (steady : IsSteady held) (o : Object) (first : 
         | inl unwanted ↦ touched_held held wanted x had unwanted
         | inr stands ↦ touched_on held wanted x (was_on_taken x stands)
       ] in
-      taken_of held wanted x had touched (λ replaced. let by = replaced_by held wanted x replaced in taken_not_replaced rest wanted x taken (is_replaced_of_all rest wanted x by.unwanted (λ stands. by.stays (was_on_taken x stands)) by.by by.is by.place))
+      taken_of held wanted x had touched (λ replaced. let by = replaced_by held wanted x replaced in
+      taken_not_replaced rest wanted x taken (is_replaced_of_all rest wanted x by.unwanted (λ stands. by.stays (was_on_taken x stands)) by.by by.is by.place))
 
   pub was_put : (x : Object) → is_put rest wanted x ≡ true → is_put held wanted x ≡ true
   was_put x due =
@@ -110,7 +111,8 @@ module _ (held wanted : Objects) (steady : IsSteady held) (o : Object) (first : 
 
   up_over : (name base : List ℕ) (kind : LinkKind) → is_taken rest wanted (object.Up name) ≡ true → object.Link base kind ≡ o → ⊥
   up_over name base kind taken is =
-      none_before (object.Up name) taken (subst (λ y. call_cmp held wanted (own_take (map_of []) (object.Up name)) (own_take (map_of []) y) ≡ Less) is (by_rank held wanted (own_take (map_of []) (object.Up name)) (own_take (map_of []) (object.Link base kind)) (omega arith)))
+      none_before (object.Up name) taken (subst (λ y. call_cmp held wanted (own_take (map_of []) (object.Up name)) (own_take (map_of []) y) ≡ Less) is
+      (by_rank held wanted (own_take (map_of []) (object.Up name)) (own_take (map_of []) (object.Link base kind)) (omega arith)))
 
   pub high_still : (x : Object) → is_taken rest wanted x ≡ true → height_of held x ≡ height_of rest x
   high_still (object.Link name kind) taken = as_high held rest name was_held (λ v other g q. elim (same_or_other (object.Link v other) o) as (λ _. Has rest (object.Link v other)) [

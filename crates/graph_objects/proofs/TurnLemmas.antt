@@ -101,7 +101,8 @@ best_at_first turn es = record { some = λ p h. cc h; least = λ k q h is. absur
 module _ (turn : Turn) (es : Entries) where
   due_here : (o : Object) (b : Bool) → is_due turn (set_on Held es) (set_on Wanted es) o ≡ b → Has (set_on (side_of turn) es) o → (p : Placed) → due_slot turn es (Some o) ≡ Some p → IsDueAt turn es p
   due_here o true is had p h =
-      let found : Some (record { place = place_of (length es) (set_on Held es) (set_on Wanted es) (plain_call turn o); object = o }) ≡ Some p = sym (ap (λ b. if b then Some (record { place = place_of (length es) (set_on Held es) (set_on Wanted es) (plain_call turn o); object = o }) else None) is) ∙ h in
+      let found : Some (record { place = place_of (length es) (set_on Held es) (set_on Wanted es) (plain_call turn o); object = o }) ≡ Some p =
+      sym (ap (λ b. if b then Some (record { place = place_of (length es) (set_on Held es) (set_on Wanted es) (plain_call turn o); object = o }) else None) is) ∙ h in
       let same : record { place = place_of (length es) (set_on Held es) (set_on Wanted es) (plain_call turn o); object = o } ≡ p = cc found in
       subst (IsDueAt turn es) same (record { had = had; due = is; place = refl })
   due_here o false is had p h =
@@ -193,7 +194,8 @@ then_less Greater h s k h' s' same alike apart less = cc less
 
 module _ (most : ℕ) (held wanted : Objects) (few : set.len held ≤ most) (devices : Devices) where
   -- a call that comes before another has a place before
-  pub place_before : (turn : Turn) (a o : Object) → IsPrintable a → IsPrintable o → (key_of a ≡ key_of o → a ≡ o) → call_cmp held wanted (call_in devices turn a) (call_in devices turn o) ≡ Less → place_cmp (place_of most held wanted (plain_call turn a)) (place_of most held wanted (plain_call turn o)) ≡ Less
+  pub place_before : (turn : Turn) (a o : Object) → IsPrintable a → IsPrintable o → (key_of a ≡ key_of o → a ≡ o) → call_cmp held wanted (call_in devices turn a) (call_in devices turn o) ≡ Less
+      → place_cmp (place_of most held wanted (plain_call turn a)) (place_of most held wanted (plain_call turn o)) ≡ Less
   place_before Takes a o p q one less =
       then_less (nat_cmp (rank (plain_call Takes a)) (rank (plain_call Takes o)))
       (nat_cmp (height_place held wanted (call_in devices Takes a)) (height_place held wanted (call_in devices Takes o)))
@@ -202,7 +204,8 @@ module _ (most : ℕ) (held wanted : Objects) (few : set.len held ≤ most) (dev
       (slice_cmp nat_cmp (line_of (plain_call Takes a)) (line_of (plain_call Takes o)))
       heights lines apart less
     where
-      heights : nat_cmp (height_place held wanted (call_in devices Takes a)) (height_place held wanted (call_in devices Takes o)) ≡ nat_cmp (height_number most held wanted (plain_call Takes a)) (height_number most held wanted (plain_call Takes o))
+      heights : nat_cmp (height_place held wanted (call_in devices Takes a)) (height_place held wanted (call_in devices Takes o))
+          ≡ nat_cmp (height_number most held wanted (plain_call Takes a)) (height_number most held wanted (plain_call Takes o))
       heights =
           let low_a = low_enough held a in
           let low_o = low_enough held o in
@@ -215,7 +218,8 @@ module _ (most : ℕ) (held wanted : Objects) (few : set.len held ≤ most) (dev
           let equal = tied_itself (calls_total held wanted) (call_in devices Takes o) in
           cc (itself, equal)
 
-      lines : nat_cmp (rank (plain_call Takes a)) (rank (plain_call Takes o)) ≡ Equal → slice_cmp nat_cmp (line_of (call_in devices Takes a)) (line_of (call_in devices Takes o)) ≡ slice_cmp nat_cmp (line_of (plain_call Takes a)) (line_of (plain_call Takes o))
+      lines : nat_cmp (rank (plain_call Takes a)) (rank (plain_call Takes o)) ≡ Equal → slice_cmp nat_cmp (line_of (call_in devices Takes a)) (line_of (call_in devices Takes o))
+          ≡ slice_cmp nat_cmp (line_of (plain_call Takes a)) (line_of (plain_call Takes o))
       lines tie = takes_alike a o _ _ 0 0 _ _ _ _ p q (tied_of_equal (rank (plain_call Takes a)) (rank (plain_call Takes o)) tie)
           (λ key. apart (ap (λ x. slice_cmp nat_cmp (line_of (plain_call Takes x)) (line_of (plain_call Takes o))) (one key) ∙ tied_itself nat_list_cmp_total (line_of (plain_call Takes o))))
   place_before Puts a o p q one less =

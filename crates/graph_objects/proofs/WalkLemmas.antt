@@ -54,7 +54,8 @@ module _ (objects : Objects) (steady : IsSteady objects) where
   pub over_none_here : (b : Bool) (base name : List ℕ) → (b ≡ true) ↔ (base ≡ name) → b ≡ false → HasNoVlan objects name → false ≡ is_over objects base name
   over_none_here b base name told is plain = sym (over_none_but objects steady base name plain (apart_by b base name told is))
 
-  pub over_by_more : (b : Bool) (base name lower : List ℕ) (steps : ℕ) (r : Bool) → (b ≡ true) ↔ (base ≡ name) → b ≡ false → IsVlanAt objects name lower → (height objects lower ≤ steps - 1 → r ≡ is_over objects base lower) → height objects name ≤ steps → r ≡ is_over objects base name
+  pub over_by_more : (b : Bool) (base name lower : List ℕ) (steps : ℕ) (r : Bool) → (b ≡ true) ↔ (base ≡ name) → b ≡ false → IsVlanAt objects name lower → (height objects lower ≤ steps - 1 → r ≡ is_over objects base lower)
+      → height objects name ≤ steps → r ≡ is_over objects base name
   over_by_more b base name lower steps r told is v below few =
       below (lower_is_low name lower steps v few) ∙ over_by_lower objects steady name lower v.id v.mac v.held base (apart_by b base name told is)
 

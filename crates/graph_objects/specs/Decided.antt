@@ -18,9 +18,9 @@ is_decided ids w = list_any (λ id. decides id w) ids
 abbrev pub judged_by : List Bool → List ℕ → Wish → Wish
 judged_by used ids w = if is_decided ids w then judged used w else w
 
--- What is wanted at a name stands on a link that is wanted, if a link may be wanted there. Where this fails, as when of two
--- VLANs over each other the lower one alone is no longer wanted, the upper one has to be taken though its own wish is as it
--- was.
+-- What is wanted at a name stands on a link that is wanted, if a link may be wanted there. Where this fails, as when of
+-- two VLANs over each other the lower one alone is no longer wanted, the upper one has to be taken though its own wish
+-- is as it was.
 abbrev pub StandOnWanted : List Wish → Type 0
 StandOnWanted ws =
     (w link : Wish) (name : List ℕ) (kind : LinkKind) → Contains ws w → w.wanted ≡ true

@@ -1,5 +1,6 @@
 -- Which slots an id decides: those of the wishes of which it is one of the two ids.
-use Rattle.std.specs.Prelude.{ℕ, ◌≡◌, ◌<◌, ◌≤◌, ◌⊎◌, List, [], map, length, slice_get, Contains, Option, Some, None, Vec, false}
+use Rattle.std.specs.Prelude.{ℕ, ◌≡◌, ◌<◌, ◌≤◌, ◌⊎◌, List, [], map, length, slice_get, Contains, Option, Some, None}
+use Rattle.std.specs.Prelude.{Vec, false}
 use Rattle.std.specs.Option.{option_map}
 use Rattle.std.specs.declared.alloc.Global.{Global}
 use Rattle.graph_objects.specs.declared.slot.Wish.{Wish}

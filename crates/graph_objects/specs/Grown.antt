@@ -1,5 +1,6 @@
 -- Slots and wishes with one more, and what they ask of it.
-use Rattle.std.specs.Prelude.{ℕ, ◌≡◌, ◌⊎◌, ◌↔◌, List, [], ◌∷◌, ◌++◌, Contains, Option, Some, None, slice_get, false, true}
+use Rattle.std.specs.Prelude.{ℕ, ◌≡◌, ◌⊎◌, ◌↔◌, List, [], ◌∷◌, ◌++◌, Contains, Option, Some, None, slice_get, false}
+use Rattle.std.specs.Prelude.{true}
 use Rattle.std.specs.FinSet as set
 use Rattle.kern_model.specs.declared.object.Object.{Object}
 use Rattle.kern_model.specs.ObjectOrder.{Objects, Has}

@@ -12,9 +12,8 @@ abbrev pub marks_of : Inside → Marks
 marks_of objects =
     record { held = listed Held objects.slots.entries; wishes = wishes objects.slots.entries }
 
--- there are slots by key, those of which an object may be taken or put are marked, and each slot with a wish is listed at the
--- ids that decide it; the order, where it is kept, has what is due, and has room for
--- what is in all slots
+-- there are slots by key, those of which an object may be taken or put are marked, and each slot with a wish is listed
+-- at the ids that decide it; the order, where it is kept, has what is due, and has room for what is in all slots
 pub record IsKept (objects : Inside) : Type 0 where
   pub slots : AreSlots objects.slots.entries
   pub marked : AreMarked objects.marks objects.slots.entries

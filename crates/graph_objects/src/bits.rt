@@ -1,5 +1,6 @@
 //! A set of numbers, a bit each, which is looked through by words.
-ghost use Rattle.std.specs.Prelude.{◌≡◌, ◌<◌, ◌≤◌, ◌*◌, ◌^◌, ℕ, [], length, IfSome, IfNone, OnOk, true, false};
+ghost use Rattle.std.specs.Prelude.{◌≡◌, ◌<◌, ◌≤◌, ◌*◌, ◌^◌, ℕ, [], length, IfSome, IfNone, OnOk};
+ghost use Rattle.std.specs.Prelude.{true, false};
 ghost use Rattle.graph_objects.specs.Bits.{IsPut, IsFirstBetween, NoneBetween, NoneFrom, bit};
 
 use plane_io::Memory;

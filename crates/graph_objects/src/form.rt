@@ -1,4 +1,5 @@
-//! What the types of the program keep of an object on a device: its names, addresses and numbers are of their form.
+//! What the types of the program keep of an object on a device: its names, addresses and numbers
+//! are of their form.
 ghost use Rattle.std.specs.Prelude.{◌≡◌, true};
 ghost use Rattle.kern_model.specs.Name.{is_name};
 ghost use Rattle.kern_model.specs.Line.{IsMac, IsOwnAddress, IsPrintable};

@@ -1,5 +1,6 @@
 //! Slots are made for objects that may be wanted, and for those that are held from before.
-ghost use Rattle.std.specs.Prelude.{◌≡◌, ◌≤◌, ◌+◌, ◌*◌, ℕ, length, Contains, Some, IfOk, OnOk, OnErr};
+ghost use Rattle.std.specs.Prelude.{◌≡◌, ◌≤◌, ◌+◌, ◌*◌, ℕ, length, Contains, Some, IfOk, OnOk};
+ghost use Rattle.std.specs.Prelude.{OnErr};
 ghost use Rattle.std.specs.FinSet as set;
 ghost use Rattle.graph_objects.specs.Keys as key;
 ghost use Rattle.graph_objects.specs.Slots.{AreSlots, listed, set_on, wishes};

@@ -120,8 +120,8 @@ fn judge_each(
     }
 }
 
-/// The same, and the slots of these ids are marked anew. Of the others none comes to be due by that, since what is wanted stands
-/// on links that are wanted.
+/// The same, and the slots of these ids are marked anew. Of the others none comes to be due by
+/// that, since what is wanted stands on links that are wanted.
 pub(crate) fn judge_ids(
     slots: &mut IndexMap<ObjectKey, Slot>,
     marks: &mut Bits,

@@ -3,7 +3,8 @@ ghost use Rattle.graph_objects.specs.Keys as spec;
 
 use kern_model::{Call, DevName, Object};
 
-/// What tells an object from those that a kernel can hold beside it: its kind, its name, and of a VLAN of a bridge its id.
+/// What tells an object from those that a kernel can hold beside it: its kind, its name, and of a
+/// VLAN of a bridge its id.
 #[derive(Clone, Copy, PartialEq, Eq, Hash)]
 pub(crate) struct ObjectKey {
     rank: u8,

@@ -12,8 +12,8 @@ ghost use Rattle.kern_calls.specs.Calls.{calls, own_take};
 ghost use Rattle.graph_objects.specs.declared.turn.Turn.TheVariants.{Takes, Puts};
 ghost use Rattle.graph_objects.specs.Turns.{IsFirst, TellsTakes};
 
-/// What `first_take` and `first_put` find is the object of the first take and of the first put in the list of the calls, and
-/// nothing where the list has none.
+/// What `first_take` and `first_put` find is the object of the first take and of the first put in
+/// the list of the calls, and nothing where the list has none.
 pub fn first_calls_are_found()
     ensures take { (test : Call → Bool) → TellsTakes test
         → (devices : Devices) (held wanted : Objects) (found : Option Object)

@@ -1,4 +1,5 @@
-//! The objects of a kernel that are held and wanted on devices, each at its key: what is due between them, and in which order.
+//! The objects of a kernel that are held and wanted on devices, each at its key: what is due
+//! between them, and in which order.
 #![tactic(auto)]
 
 mod bits;

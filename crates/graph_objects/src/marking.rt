@@ -117,7 +117,8 @@ fn may_be_due(slots: &IndexMap<ObjectKey, Slot>, slot: &Slot) -> bool
     differs(slot) || holds_falling(slots, slot)
 }
 
-/// Marks the slots that are listed at an id where an object may be taken or put, and no others of them.
+/// Marks the slots that are listed at an id where an object may be taken or put, and no others of
+/// them.
 fn mark_id(slots: &IndexMap<ObjectKey, Slot>, marks: &mut Bits, by_id: &[Vec<usize>], id: usize)
     requires slots { AreSlots slots.now.entries }
     requires room { length slots.now.entries ≤ 64 * length marks.old }
@@ -133,7 +134,8 @@ fn mark_id(slots: &IndexMap<ObjectKey, Slot>, marks: &mut Bits, by_id: &[Vec<usi
     }
 }
 
-/// Marks the slots that are listed at ids where an object may be taken or put, and no others of them.
+/// Marks the slots that are listed at ids where an object may be taken or put, and no others of
+/// them.
 pub(crate) fn mark_ids(
     slots: &IndexMap<ObjectKey, Slot>,
     marks: &mut Bits,

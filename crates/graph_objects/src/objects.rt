@@ -1,4 +1,5 @@
-ghost use Rattle.std.specs.Prelude.{◌≡◌, ◌≤◌, ◌^◌, map, filter, nat_lt, IfSome, IfNone, OnOk, OnErr, true, []};
+ghost use Rattle.std.specs.Prelude.{◌≡◌, ◌≤◌, ◌^◌, map, filter, nat_lt, IfSome, IfNone, OnOk};
+ghost use Rattle.std.specs.Prelude.{OnErr, true, []};
 ghost use Rattle.std.specs.FinSet as set;
 ghost use Rattle.std.specs.List.{list_any};
 ghost use Rattle.kern_model.specs.AdmissionTest.{is_link_of};
@@ -130,7 +131,8 @@ impl DeviceObjects {
         due::falls(&self.slots, name)
     }
 
-    /// The calls that come next are put in order, so that each is found at once. Nothing else is seen of it.
+    /// The calls that come next are put in order, so that each is found at once. Nothing else is
+    /// seen of it.
     pub fn prepare(&mut self)
         ensures { self.new ≡ self.old }
     {
@@ -219,8 +221,9 @@ impl DeviceObjects {
         judging::judge(&mut self.slots, &mut self.marks, used);
     }
 
-    /// An object that one of these ids decides is wanted where the names of its two ids are used; others stay as they are. The ids
-    /// come together, since what is then wanted has to stand on links that are wanted. Where there is none, the order of calls is kept.
+    /// An object that one of these ids decides is wanted where the names of its two ids are used;
+    /// others stay as they are. The ids come together, since what is then wanted has to stand on
+    /// links that are wanted. Where there is none, the order of calls is kept.
     pub fn judge_ids(&mut self, used: &[bool], ids: &[usize])
         requires { StandOnWanted (map (judged_by used.now ids.now) self.old.wishes) }
         ensures held { self.new.held ≡ self.old.held }

@@ -1,5 +1,6 @@
 //! What is due is put in the order of its calls once, and is then taken off one after another.
-ghost use Rattle.std.specs.Prelude.{◌≡◌, ◌<◌, ◌≤◌, ◌+◌, ◌-◌, ◌++◌, IfSome, IfNone, OnOk, Some, length, slice_get, vec_len, vec_capacity, true, false};
+ghost use Rattle.std.specs.Prelude.{◌≡◌, ◌<◌, ◌≤◌, ◌+◌, ◌-◌, ◌++◌, IfSome, IfNone, OnOk, Some};
+ghost use Rattle.std.specs.Prelude.{length, slice_get, vec_len, vec_capacity, true, false};
 ghost use Rattle.std.specs.Option.{option_to_list};
 ghost use Rattle.std.specs.List.Sorted.{IsPermutation};
 ghost use Rattle.graph_objects.specs.Slots.{AreSlots, set_on};
@@ -18,7 +19,8 @@ use kern_model::Object;
 use plane_io::Memory;
 use std::alloc::Global;
 
-/// What is due of each turn, the first at the end, while that is kept. There is room for what is in all slots.
+/// What is due of each turn, the first at the end, while that is kept. There is room for what is in
+/// all slots.
 #[derive(Drop)]
 pub(crate) struct Order {
     pub(crate) takes: Vec<Placed>,
@@ -91,7 +93,8 @@ fn last_due(slots: &IndexMap<ObjectKey, Slot>, turn: Turn, list: &[Placed]) -> O
     None
 }
 
-/// The first object of a turn: by its list where that is kept, else it is looked for in marked slots.
+/// The first object of a turn: by its list where that is kept, else it is looked for in marked
+/// slots.
 pub(crate) fn first_of(
     slots: &IndexMap<ObjectKey, Slot>,
     marks: &Bits,

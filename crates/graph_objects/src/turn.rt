@@ -87,7 +87,8 @@ fn height_of(slots: &IndexMap<ObjectKey, Slot>, side: Side, object: &Object) -> 
     }
 }
 
-/// The number by which objects of one kind are ordered: the greatest height is taken first, the least put.
+/// The number by which objects of one kind are ordered: the greatest height is taken first, the
+/// least put.
 fn height_number(turn: Turn, most: usize, height: usize) -> usize
     requires { height ≤ most }
     ensures { result ≡ places.height_number_of turn most height }

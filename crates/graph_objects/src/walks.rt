@@ -31,7 +31,8 @@ pub(crate) fn height(
     height(slots, side, &lower, steps - 1) + 1
 }
 
-/// Whether a name of no more than that height is that of a held link that is not wanted, or over one.
+/// Whether a name of no more than that height is that of a held link that is not wanted, or over
+/// one.
 pub(crate) fn falls(slots: &IndexMap<ObjectKey, Slot>, name: &DevName, steps: usize) -> bool
     requires { AreSlots slots.now.entries }
     ensures { standing.height (set_on Side.Held slots.now.entries) name.now ≤ steps
@@ -53,7 +54,8 @@ pub(crate) fn falls(slots: &IndexMap<ObjectKey, Slot>, name: &DevName, steps: us
     falls(slots, &lower, steps - 1)
 }
 
-/// Whether a name of no more than that height is the base, or that of a held VLAN over it, however far up.
+/// Whether a name of no more than that height is the base, or that of a held VLAN over it, however
+/// far up.
 pub(crate) fn is_over(
     slots: &IndexMap<ObjectKey, Slot>,
     base: &DevName,

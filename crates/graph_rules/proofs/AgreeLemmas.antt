@@ -91,7 +91,9 @@ serves_step facts s a h k same n =
     ap (λ b. b && (nat_lt 0 (claims_in s n) || uppers)) (available_same facts s a n)
     ∙ ap (λ b. available facts n && (b || uppers)) (claimed_same facts s a n)
     ∙ ap (λ names. available facts n && (list_any (uses facts n) (interfaces_of facts.conf) || list_any (λ upper. stands_in s n upper && h upper) names)) (rows_same facts s a)
-    ∙ ap (λ b. available facts n && (list_any (uses facts n) (interfaces_of facts.conf) || b)) (any_same (λ upper. stands_in s n upper && h upper) (λ upper. stands facts n upper && k upper) (λ upper. ap (λ b. b && h upper) (stands_same facts s a n upper) ∙ ap (λ b. stands facts n upper && b) (same upper)) (names_of facts.conf))
+    ∙ ap (λ b. available facts n && (list_any (uses facts n) (interfaces_of facts.conf) || b))
+    (any_same (λ upper. stands_in s n upper && h upper) (λ upper. stands facts n upper && k upper) (λ upper. ap (λ b. b && h upper) (stands_same facts s a n upper) ∙ ap (λ b. stands facts n upper && b) (same upper))
+    (names_of facts.conf))
 
 pub used_same : (facts : Facts) (s : Known) → Agrees facts s → (name : List ℕ) → used_in s name ≡ used facts name
 unfolding used_in used
@@ -101,7 +103,8 @@ pub users_same : (facts : Facts) (s : Known) → Agrees facts s → (name : List
 users_same facts s a name =
     let above = λ (names : List (List ℕ)). length (filter (λ upper. stands_in s name upper && used_in s upper) names) in
     let uppers : above (row_names s) ≡ length (filter (λ upper. stands facts name upper && used facts upper) (names_of facts.conf)) =
-    ap above (rows_same facts s a) ∙ ap length (filter_same (λ upper. stands_in s name upper && used_in s upper) (λ upper. stands facts name upper && used facts upper) (λ upper. ap (λ b. b && used_in s upper) (stands_same facts s a name upper) ∙ ap (λ b. stands facts name upper && b) (used_same facts s a upper)) (names_of facts.conf)) in
+    ap above (rows_same facts s a) ∙ ap length (filter_same (λ upper. stands_in s name upper && used_in s upper) (λ upper. stands facts name upper && used facts upper)
+    (λ upper. ap (λ b. b && used_in s upper) (stands_same facts s a name upper) ∙ ap (λ b. stands facts name upper && b) (used_same facts s a upper)) (names_of facts.conf)) in
     ap (λ b. cond b (claims_in s name + above (row_names s)) 0) (available_same facts s a name)
     ∙ ap (λ n. cond (available facts name) (n + above (row_names s)) 0) (a.claims name)
     ∙ ap (λ n. cond (available facts name) (length (filter (uses facts name) (interfaces_of facts.conf)) + n) 0) uppers

@@ -1,6 +1,7 @@
 -- Which names of a graph are available, have link and are used, by plain recursion over names. The tests
 -- of one name are those of a network; claims stand for its interfaces.
-use Rattle.std.specs.Prelude.{ℕ, ◌+◌, List, map, filter, length, Bool, false, ◌&&◌, ◌||◌, if◌then◌else◌, is_some, nat_lt, bytes_eq}
+use Rattle.std.specs.Prelude.{ℕ, ◌+◌, List, map, filter, length, Bool, false, ◌&&◌, ◌||◌, if◌then◌else◌, is_some}
+use Rattle.std.specs.Prelude.{nat_lt, bytes_eq}
 use Rattle.std.specs.List.{list_any}
 use Rattle.std.specs.Option.{option_map_or}
 use Rattle.net_rules.specs.Levels.{by_levels}

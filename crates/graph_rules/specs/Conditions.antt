@@ -1,5 +1,6 @@
 -- What calls of a graph ask of their arguments.
-use Rattle.std.specs.Prelude.{ℕ, ◌≡◌, ◌≤◌, ◌<◌, ◌^◌, List, ◌++◌, Contains, map, length, Option, Some, None, true, unwrap_or}
+use Rattle.std.specs.Prelude.{ℕ, ◌≡◌, ◌≤◌, ◌<◌, ◌^◌, List, ◌++◌, Contains, map, length, Option, Some, None, true}
+use Rattle.std.specs.Prelude.{unwrap_or}
 use Rattle.plane_words.specs.Distinct.{AreDistinct}
 use Rattle.kern_model.specs.declared.object.Call.{Call}
 use Rattle.net_rows.specs.declared.rows.Conf.{Conf}

@@ -11,7 +11,8 @@ ghost use Rattle.graph_rules.specs.Wanted.{objects_in, want_in};
 ghost use Rattle.graph_rules.specs.After.{loaded_after, all_told_again};
 ghost use Rattle.graph_rules.specs.Agreeing.{Agrees, SharesUsed, wanted_on_names};
 
-/// A graph with what a network's facts say, and with the claims of its interfaces, answers as that network does.
+/// A graph with what a network's facts say, and with the claims of its interfaces, answers as that
+/// network does.
 pub fn answers_are_those_of_the_rules()
     ensures available { (facts : Facts) (s : Known) → Agrees facts s
         → (name : List ℕ) → available_in s name ≡ available facts name }
@@ -23,7 +24,8 @@ pub fn answers_are_those_of_the_rules()
         → (name : List ℕ) → users_in s name ≡ users facts name }
 {}
 
-/// And it wants on each name what that network wants, so on all of them, where it knows the names that the network uses.
+/// And it wants on each name what that network wants, so on all of them, where it knows the names
+/// that the network uses.
 pub fn wishes_are_those_of_the_rules()
     ensures name { (facts : Facts) (s : Known) → Agrees facts s
         → (name : List ℕ) → objects_in s name ≡ objects_at facts name }
@@ -31,8 +33,8 @@ pub fn wishes_are_those_of_the_rules()
         → want_in s ≡ wanted_on_names facts }
 {}
 
-/// A load over an old graph gives what a load of nothing gives once the devices and the claims that its names had are told again, but
-/// for what is held, which stays, and the number of loads.
+/// A load over an old graph gives what a load of nothing gives once the devices and the claims that
+/// its names had are told again, but for what is held, which stays, and the number of loads.
 pub fn loads_keep_devices_and_claims()
     ensures { (old : State) (conf : Conf) (plain : List (List ℕ)) (radio : List RadioPort)
         → let fresh : State = loaded_after None conf plain radio in

@@ -1,5 +1,5 @@
-//! A graph of network devices by their names: what it knows, answers and wants, and what its calls make of it, as
-//! definitions with their laws.
+//! A graph of network devices by their names: what it knows, answers and wants, and what its calls
+//! make of it, as definitions with their laws.
 #![tactic(auto)]
 
 mod ids;

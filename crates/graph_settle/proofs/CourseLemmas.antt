@@ -65,7 +65,8 @@ module _ (c : Course) (are : AreGifts c.gifts) (lower : (o : Object) → Has c.g
 
   pub due_is : due_in c.graph + due_count (gift.held_of c.gifts) (gift.given_of c.gifts) ≡ due_count (held_of c) (wanted_of c)
   due_is =
-      let same : due_count (lower_part (held_of c)) (lower_part (wanted_of c)) + due_count (upper_part (held_of c)) (upper_part (wanted_of c)) ≡ due_in c.graph + due_count (gift.held_of c.gifts) (gift.given_of c.gifts) = λ i. due_count (held_parts.0 i) (wanted_parts.0 i) + due_count (held_parts.1 i) (wanted_parts.1 i) in
+      let same : due_count (lower_part (held_of c)) (lower_part (wanted_of c)) + due_count (upper_part (held_of c)) (upper_part (wanted_of c)) ≡ due_in c.graph + due_count (gift.held_of c.gifts) (gift.given_of c.gifts) =
+      λ i. due_count (held_parts.0 i) (wanted_parts.0 i) + due_count (held_parts.1 i) (wanted_parts.1 i) in
       sym (due_in_parts (held_of c) (wanted_of c) ∙ same)
 
 module _ (c : Course) (are : AreGifts c.gifts) (ready : IsReady c) where

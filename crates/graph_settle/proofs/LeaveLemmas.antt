@@ -176,8 +176,10 @@ module _ (c : Course) (are : AreGifts c.gifts) (ready : IsReady c) (device : Opt
       let was = goes_by device o part.1 part.0 in
       let from = has_gift (λ (g : Gift). g.held) c.gifts o (subst (λ s. Has s o) (held_parts c are ready.lower).1 (has_retained (held_of c) is_upper o was.0 part.1)) in
       let g = from.gift in
-      let up : Has now.held (object.Up (name_of g.object)) = subst (λ x. Has now.held (object.Up (name_of x))) (sym from.is) (subst (λ s. Has s (object.Up (name_of o))) below_is (has_retained (left_by device name (held_of c)) is_lower (object.Up (name_of o)) was.1 refl)) in
-      let stays : left_gift now g ≡ g = ap (λ b. if b then record g { held = false; falls = false } else g) (false_of_not (g.held && not (is_held now (object.Up (name_of g.object)))) (λ t. not_true (is_held now (object.Up (name_of g.object))) (both g.held _ t).1 up)) in
+      let up : Has now.held (object.Up (name_of g.object)) = subst (λ x. Has now.held (object.Up (name_of x))) (sym from.is)
+      (subst (λ s. Has s (object.Up (name_of o))) below_is (has_retained (left_by device name (held_of c)) is_lower (object.Up (name_of o)) was.1 refl)) in
+      let stays : left_gift now g ≡ g = ap (λ b. if b then record g { held = false; falls = false } else g)
+      (false_of_not (g.held && not (is_held now (object.Up (name_of g.object)))) (λ t. not_true (is_held now (object.Up (name_of g.object))) (both g.held _ t).1 up)) in
       let member : Contains (left_gifts now c.gifts) g = subst (Contains (left_gifts now c.gifts)) stays (map_member (left_gift now) c.gifts g from.member) in
       subst (Has (gift.held_of (left_gifts now c.gifts))) from.is (of_gift (λ (x : Gift). x.held) (left_gifts now c.gifts) g member from.passes))
       (λ o h.
@@ -188,7 +190,8 @@ module _ (c : Course) (are : AreGifts c.gifts) (ready : IsReady c) (device : Opt
       let told = left_held g test refl (ap (λ (x : Gift). x.held) past.same ∙ from.passes) in
       let same : g.object ≡ o = sym (left_object g test) ∙ ap (λ (x : Gift). x.object) past.same ∙ from.is in
       let upper = are.upper g past.member in
-      let up : Has (left_by device name (held_of c)) (object.Up (name_of g.object)) = (of_retained (left_by device name (held_of c)) is_lower (object.Up (name_of g.object)) (subst (λ s. Has s (object.Up (name_of g.object))) (sym below_is) told.1)).0 in
+      let up : Has (left_by device name (held_of c)) (object.Up (name_of g.object)) =
+      (of_retained (left_by device name (held_of c)) is_lower (object.Up (name_of g.object)) (subst (λ s. Has s (object.Up (name_of g.object))) (sym below_is) told.1)).0 in
       let stays = stays_by device g.object upper (held_gift g past.member told.0) up in
       subst (Has (upper_part (left_by device name (held_of c)))) same (has_retained (left_by device name (held_of c)) is_upper g.object stays upper))
 

@@ -112,7 +112,8 @@ pub told_lower : (call : Call) (o : Object) (b : Bool) → o ≡ object_of call 
 told_lower call o b is told off = below_of (is_lower (object_of call)) (ap is_upper (sym is) ∙ sym told ∙ off)
 
 -- a first call of devices is the first of theirs
-below_by : (call : Call) (t s p : Option Call) → ((x : Call) → t ≡ Some x → is_upper_take x ≡ true) → ((x : Call) → p ≡ Some x → is_upper_put x ≡ true) → is_lower_call call ≡ true → option_or t (option_or s p) ≡ Some call → (t ≡ None) × (s ≡ Some call)
+below_by : (call : Call) (t s p : Option Call) → ((x : Call) → t ≡ Some x → is_upper_take x ≡ true) → ((x : Call) → p ≡ Some x → is_upper_put x ≡ true) → is_lower_call call ≡ true → option_or t (option_or s p) ≡ Some call → (t ≡ None)
+    × (s ≡ Some call)
 below_by call (Some x) s p takes puts lower is = let same : x ≡ call = cc is in absurd (take_off call (subst (λ y. is_upper_take y ≡ true) same (takes x refl)) lower)
 below_by call None (Some y) p takes puts lower is = (refl, is)
 below_by call None None (Some z) takes puts lower is = let same : z ≡ call = cc is in absurd (put_off call (subst (λ y. is_upper_put y ≡ true) same (puts z refl)) lower)
@@ -350,10 +351,12 @@ module _ (c : Course) (are : AreGifts c.gifts) (ready : IsReady c) (call : Call)
 module _ (c : Course) (are : AreGifts c.gifts) (ready : IsReady c) (call : Call) (next : slice_get (calls_of c) 0 ≡ Some call) where
   pub made_did : is_lower_call call ≡ true → (s : State) → s ≡ did_after c.graph call → IsMade c (record { graph = s; gifts = c.gifts; may_fall = c.may_fall }) call
   made_did lower s is =
-      let same : (let then : Course = record { graph = did_after c.graph call; gifts = c.gifts; may_fall = c.may_fall } in then) ≡ record { graph = s; gifts = c.gifts; may_fall = c.may_fall } = λ i. record { graph = sym is i; gifts = c.gifts; may_fall = c.may_fall } in
+      let same : (let then : Course = record { graph = did_after c.graph call; gifts = c.gifts; may_fall = c.may_fall } in then) ≡ record { graph = s; gifts = c.gifts; may_fall = c.may_fall } =
+      λ i. record { graph = sym is i; gifts = c.gifts; may_fall = c.may_fall } in
       subst (λ (after : Course). IsMade c after call) same (made_below c are ready call next lower)
 
   pub made_noted : is_upper (object_of call) ≡ true → (gs : Gifts) → gs ≡ noted_call c.gifts call → IsMade c (record { graph = c.graph; gifts = gs; may_fall = c.may_fall }) call
   made_noted upper gs is =
-      let same : (let then : Course = record { graph = c.graph; gifts = noted_call c.gifts call; may_fall = c.may_fall } in then) ≡ record { graph = c.graph; gifts = gs; may_fall = c.may_fall } = λ i. record { graph = c.graph; gifts = sym is i; may_fall = c.may_fall } in
+      let same : (let then : Course = record { graph = c.graph; gifts = noted_call c.gifts call; may_fall = c.may_fall } in then) ≡ record { graph = c.graph; gifts = gs; may_fall = c.may_fall } =
+      λ i. record { graph = c.graph; gifts = sym is i; may_fall = c.may_fall } in
       subst (λ (after : Course). IsMade c after call) same (made_above c are ready call next upper)

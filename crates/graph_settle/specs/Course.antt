@@ -37,9 +37,9 @@ devices_of c = devices_in c.graph.known
 abbrev pub calls_of : Course → List Call
 calls_of c = calls (devices_of c) (held_of c) (wanted_of c)
 
--- Both sides are allowed, and the graph holds neither addresses nor routes. Gifts that are held and given know whether their
--- names fall. Where none of these may fall, each link that the graph holds is one of its rows, and no gift that is held tells that
--- its name falls.
+-- Both sides are allowed, and the graph holds neither addresses nor routes. Gifts that are held and given know whether
+-- their names fall. Where none of these may fall, each link that the graph holds is one of its rows, and no gift that
+-- is held tells that its name falls.
 pub record IsReady (c : Course) : Type 0 where
   pub held : AreAllowed (devices_of c) (held_of c)
   pub wanted : AreAllowed (devices_of c) (wanted_of c)
@@ -49,7 +49,8 @@ pub record IsReady (c : Course) : Type 0 where
   pub links : c.may_fall ≡ false → HoldsLinksOfRows c.graph
   pub quiet : c.may_fall ≡ false → (g : Gift) → Contains c.gifts g → g.held ≡ true → g.falls ≡ false
 
--- what is known of devices and what is wanted, how often each object is given, and which objects have a place are as before
+-- what is known of devices and what is wanted, how often each object is given, and which objects have a place are as
+-- before
 pub record IsAlike (before after : Course) : Type 0 where
   pub known : after.graph.known ≡ before.graph.known
   pub wanted : wanted_of after ≡ wanted_of before

@@ -1,5 +1,6 @@
 //! Names that fall under what is given, and what goes with a device.
-ghost use Rattle.std.specs.Prelude.{◌≡◌, ◌≤◌, ◌+◌, ◌*◌, ◌<◌, length, slice_get, slice_set, Some, true};
+ghost use Rattle.std.specs.Prelude.{◌≡◌, ◌≤◌, ◌+◌, ◌*◌, ◌<◌, length, slice_get, slice_set, Some};
+ghost use Rattle.std.specs.Prelude.{true};
 ghost use Rattle.given_objects.specs.declared.gift.Gift.{Gift};
 ghost use Rattle.graph_rules.specs.After.{name_at, left_by, absent_after};
 ghost use Rattle.graph_rules.specs.Conditions.{IsId};
@@ -30,7 +31,8 @@ impl GraphSettling {
         self.may_fall = true;
     }
 
-    /// The device of an id is gone, and what is held on it with it. One that is not there stays so, and what is held too.
+    /// The device of an id is gone, and what is held on it with it. One that is not there stays so,
+    /// and what is held too.
     pub fn leave<L: Ledger>(&mut self, id: DevId, steps: &mut Steps<L>)
         requires within { IsId self.old.graph id.0 }
         requires ready { IsReady self.old }

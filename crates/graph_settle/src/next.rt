@@ -5,7 +5,8 @@ ghost use Rattle.kern_calls.specs.Due.{due_count};
 ghost use Rattle.kern_calls.specs.Upper as upper;
 ghost use Rattle.graph_rules.specs.Calls.{calls_in};
 ghost use Rattle.given_objects.specs.Gifts.{AreGifts, has_place};
-ghost use Rattle.graph_settle.specs.Course.{held_of, wanted_of, calls_of, noted_call, IsReady, IsAlike};
+ghost use Rattle.graph_settle.specs.Course.{held_of, wanted_of, calls_of, noted_call, IsReady};
+ghost use Rattle.graph_settle.specs.Course.{IsAlike};
 
 use crate::settling::GraphSettling;
 use dev_graph::Graph;
@@ -13,8 +14,8 @@ use given_objects::GivenObjects;
 use kern_model::{Call, Object};
 
 impl GraphSettling {
-    /// The call that is to be made next: the first take of an address or a route, else the first call of devices, else the first put of
-    /// an address or a route.
+    /// The call that is to be made next: the first take of an address or a route, else the first
+    /// call of devices, else the first put of an address or a route.
     pub fn next_call(&self) -> Option<Call>
         requires { IsReady self.now }
         ensures { result ≡ slice_get (calls_of self.now) 0 }
@@ -50,7 +51,8 @@ impl GraphSettling {
         }
     }
 
-    /// The calls that come next are put in order, so that each is found at once. Nothing else is seen of it.
+    /// The calls that come next are put in order, so that each is found at once. Nothing else is
+    /// seen of it.
     pub(crate) fn prepare(&mut self)
         ensures { self.new ≡ self.old }
     {

@@ -3,7 +3,8 @@ ghost use Rattle.plane_words.specs.Causes.{HasCause};
 ghost use Rattle.plane_words.specs.Growth.{Grows, GrowsByFront};
 ghost use Rattle.net_settle.specs.Outside.{outside_of};
 ghost use Rattle.net_settle.specs.Settle.{SettleEnds, whole_line};
-ghost use Rattle.graph_settle.specs.Course.{held_of, wanted_of, calls_of, IsReady, IsAlike, HoldsAs};
+ghost use Rattle.graph_settle.specs.Course.{held_of, wanted_of, calls_of, IsReady, IsAlike};
+ghost use Rattle.graph_settle.specs.Course.{HoldsAs};
 
 use crate::next::are_gifts;
 use crate::settling::GraphSettling;
@@ -12,13 +13,14 @@ use net_settle::SettleError;
 use plane_io::{Failed, Sink};
 
 impl GraphSettling {
-    /// Makes the calls that are left, in their order, and writes the line of each after it. It takes no memory. Where all are made, what is
-    /// wanted is held, and no name may fall any more.
+    /// Makes the calls that are left, in their order, and writes the line of each after it. It
+    /// takes no memory. Where all are made, what is wanted is held, and no name may fall any more.
     ///
     /// # Errors
     ///
-    /// `KernelFailed` at the first call that the kernel fails at: the calls before it were made, and it is still to be made.
-    /// `WriteFailed` at the first line that is not written, or not wholly: its call was made.
+    /// `KernelFailed` at the first call that the kernel fails at: the calls before it were made,
+    /// and it is still to be made. `WriteFailed` at the first line that is not written, or not
+    /// wholly: its call was made.
     pub fn settle<K: Kernel, O: Sink>(
         &mut self,
         kernel: &mut K,

@@ -6,7 +6,8 @@ use dev_graph::Graph;
 use given_objects::GivenObjects;
 use std::alloc::Global;
 
-/// What is held and what is wanted: on devices by a graph, and of addresses and routes by the table of what is given.
+/// What is held and what is wanted: on devices by a graph, and of addresses and routes by the table
+/// of what is given.
 #[derive(Drop)]
 pub struct GraphSettling {
     pub graph: Graph,

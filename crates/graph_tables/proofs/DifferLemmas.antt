@@ -32,14 +32,16 @@ same_or_not false true = inr (λ h. cc h)
 pub none_seen : (s : Known) (old : List Bool) → SeesSome s [] old old
 none_seen s old id = inr (none_in_nil id, refl)
 
-pub one_seen : (s : Known) (ids : List ℕ) (k one : ℕ) (old mid : List Bool) (b : Bool) → SeesSome s (take k ids) old mid → k < length ids → one ≡ get_or ids k 0 → one < length mid → b ≡ used_in s (name_of s one) → SeesSome s (take (k + 1) ids) old (slice_set mid one b)
-one_seen s ids k one old mid b so_far inside is within told id = elim (cases_eq id one) as (λ _. (is_used (slice_set mid one b) id ≡ used_in s (name_of s id)) ⊎ ((Contains (take (k + 1) ids) id → ⊥) × (is_used (slice_set mid one b) id ≡ is_used old id))) [
-  | inl same ↦ inl (ap (is_used (slice_set mid one b)) same ∙ get_or-set_same mid one b false within ∙ told ∙ ap (λ n. used_in s (name_of s n)) (sym same))
-  | inr other ↦ elim (so_far id) as (λ _. (is_used (slice_set mid one b) id ≡ used_in s (name_of s id)) ⊎ ((Contains (take (k + 1) ids) id → ⊥) × (is_used (slice_set mid one b) id ≡ is_used old id))) [
-    | inl seen ↦ inl (get_or-set_other mid one id b false other ∙ seen)
-    | inr left ↦ inr ((λ member. elim (one_more ids k id inside member) as (λ _. ⊥) [ inl before ↦ left.0 before | inr same ↦ other (same ∙ sym is) ]), get_or-set_other mid one id b false other ∙ left.1)
-  ]
-]
+pub one_seen : (s : Known) (ids : List ℕ) (k one : ℕ) (old mid : List Bool) (b : Bool) → SeesSome s (take k ids) old mid → k < length ids → one ≡ get_or ids k 0 → one < length mid → b ≡ used_in s (name_of s one)
+    → SeesSome s (take (k + 1) ids) old (slice_set mid one b)
+one_seen s ids k one old mid b so_far inside is within told id =
+    elim (cases_eq id one) as (λ _. (is_used (slice_set mid one b) id ≡ used_in s (name_of s id)) ⊎ ((Contains (take (k + 1) ids) id → ⊥) × (is_used (slice_set mid one b) id ≡ is_used old id))) [
+      | inl same ↦ inl (ap (is_used (slice_set mid one b)) same ∙ get_or-set_same mid one b false within ∙ told ∙ ap (λ n. used_in s (name_of s n)) (sym same))
+      | inr other ↦ elim (so_far id) as (λ _. (is_used (slice_set mid one b) id ≡ used_in s (name_of s id)) ⊎ ((Contains (take (k + 1) ids) id → ⊥) × (is_used (slice_set mid one b) id ≡ is_used old id))) [
+        | inl seen ↦ inl (get_or-set_other mid one id b false other ∙ seen)
+        | inr left ↦ inr ((λ member. elim (one_more ids k id inside member) as (λ _. ⊥) [ inl before ↦ left.0 before | inr same ↦ other (same ∙ sym is) ]), get_or-set_other mid one id b false other ∙ left.1)
+      ]
+    ]
 
 module _ (before now : Known) (ids : List ℕ) (old new : List Bool) (ws : List Wish) (differs : DiffersAt before now ids old ws) (sees : SeesSome now ids old new) (sound : IsSound now) where
   -- an id that is not among them is used as before

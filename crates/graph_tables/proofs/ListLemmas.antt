@@ -83,8 +83,10 @@ all_expected ws new k size same = subst (HaveSame new) (take_all k ws size) same
 
 -- lists that have the same members still have them when each is changed alike
 pub mapped_same : (f : Wish → Wish) (ws vs : List Wish) → HaveSame ws vs → HaveSame (map f ws) (map f vs)
-mapped_same f ws vs same w =
-    ((λ m. let from = member_of_map f ws w m in subst (Contains (map f vs)) from.same (map_member f vs from.source ((same from.source).0 from.member))), (λ m. let from = member_of_map f vs w m in subst (Contains (map f ws)) from.same (map_member f ws from.source ((same from.source).1 from.member))))
+mapped_same f ws vs same w = (
+  (λ m. let from = member_of_map f ws w m in subst (Contains (map f vs)) from.same (map_member f vs from.source ((same from.source).0 from.member))),
+  (λ m. let from = member_of_map f vs w m in subst (Contains (map f ws)) from.same (map_member f ws from.source ((same from.source).1 from.member))),
+)
 
 pub twice : (f : May → Wish) (g : Wish → Wish) (h : May → Wish) (ms : List May) → ((m : May) → Contains ms m → g (f m) ≡ h m) → map g (map f ms) ≡ map h ms
 twice f g h [] e = refl

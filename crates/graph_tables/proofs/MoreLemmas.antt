@@ -20,7 +20,8 @@ use Rattle.graph_wishes.specs.Wishes.{may_alone, may_master, may_entry, is_own_e
 use Rattle.graph_tables.specs.Wished.{wish_at, wishes_at, bridge_mays}
 
 -- what is made of a list part by part grows by what is made of one item more
-pub one_more : {X W : Type 0} (made : List X → List W) → ((xs ys : List X) → made (xs ++ ys) ≡ made xs ++ made ys) → (front now new : List W) (xs : List X) (k : ℕ) (x d : X) → k < length xs → x ≡ get_or xs k d → now ≡ front ++ made (take k xs) → new ≡ now ++ made (x ∷ []) → new ≡ front ++ made (take (k + 1) xs)
+pub one_more : {X W : Type 0} (made : List X → List W) → ((xs ys : List X) → made (xs ++ ys) ≡ made xs ++ made ys) → (front now new : List W) (xs : List X) (k : ℕ) (x d : X) → k < length xs → x ≡ get_or xs k d → now ≡ front
+    ++ made (take k xs) → new ≡ now ++ made (x ∷ []) → new ≡ front ++ made (take (k + 1) xs)
 one_more {X} {W} made parts front now new xs k x d h is before after =
     after
     ∙ ap (λ (ws : List W). ws ++ made (x ∷ [])) before

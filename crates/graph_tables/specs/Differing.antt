@@ -9,8 +9,8 @@ use Rattle.graph_wishes.specs.Wishes.{mays}
 use Rattle.graph_tables.specs.Wished.{wish_in}
 use Rattle.graph_tables.specs.Lists.{AreUsed, HaveSame}
 
--- Names as they were before: their spelling and what they may want is as it is now, and each id whose use differs now is one
--- of some. By them the marks were set, and what is wanted was judged.
+-- Names as they were before: their spelling and what they may want is as it is now, and each id whose use differs now
+-- is one of some. By them the marks were set, and what is wanted was judged.
 pub record DiffersAt (before now : Known) (ids : List ℕ) (used : List Bool) (ws : List Wish) : Type 0 where
   pub spelling : names_in before ≡ names_in now
   pub objects : mays before ≡ mays now

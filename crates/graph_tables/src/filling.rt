@@ -39,8 +39,8 @@ fn filled(alloc: Global, wishes: &[Wish], old: &DeviceObjects) -> Result<DeviceO
     Ok(objects)
 }
 
-/// A table of what names may want, of which those of the rows come first, with the ports of radios. In it is held what another
-/// holds, and nothing is wanted yet.
+/// A table of what names may want, of which those of the rows come first, with the ports of radios.
+/// In it is held what another holds, and nothing is wanted yet.
 ///
 /// # Errors
 ///

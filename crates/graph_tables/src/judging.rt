@@ -23,7 +23,8 @@ fn look(names: &CountedNames, used: &mut Vec<bool>)
     }
 }
 
-/// What may be wanted is wanted where both names are used. The marks say of each id whether its name is used.
+/// What may be wanted is wanted where both names are used. The marks say of each id whether its
+/// name is used.
 pub fn judge(names: &CountedNames, used: &mut Vec<bool>, objects: &mut DeviceObjects)
     requires sound { IsSound names.now }
     requires size { length used.old.items ≡ length names.now.names }
@@ -51,8 +52,8 @@ fn look_at(names: &CountedNames, used: &mut Vec<bool>, ids: &[usize])
     }
 }
 
-/// What may be wanted is wanted where both names are used, after the use of some ids alone has changed. The marks say of each id
-/// whether its name is used.
+/// What may be wanted is wanted where both names are used, after the use of some ids alone has
+/// changed. The marks say of each id whether its name is used.
 pub fn judge_marked(
     names: &CountedNames,
     used: &mut Vec<bool>,

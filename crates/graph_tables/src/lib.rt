@@ -1,4 +1,5 @@
-//! What may be wanted on the devices of a graph, as a table with what is held from before, and what of it is wanted.
+//! What may be wanted on the devices of a graph, as a table with what is held from before, and what
+//! of it is wanted.
 #![tactic(auto)]
 
 mod bridges;

@@ -1,5 +1,6 @@
 //! What the rows of names, with ports of radios, can ever want, name by name.
-ghost use Rattle.std.specs.Prelude.{◌≡◌, ◌<◌, ◌++◌, ◌∷◌, [], length, map, slice_index_or, is_some, IfOk, OnOk, false};
+ghost use Rattle.std.specs.Prelude.{◌≡◌, ◌<◌, ◌++◌, ◌∷◌, [], length, map, slice_index_or, is_some};
+ghost use Rattle.std.specs.Prelude.{IfOk, OnOk, false};
 ghost use Rattle.net_rows.specs.Dotted as dotted;
 ghost use Rattle.net_rules.specs.Rows.{rowless};
 ghost use Rattle.net_rules.specs.Standing.{Ports, Over};

@@ -40,7 +40,8 @@ pub record IsBridgeOf (s : Known) (name : List ℕ) (empty : Bool) (ports : List
   pub kind : (row_at s.rows name).kind ≡ Bridge empty own
   pub all : own ++ given_ports (map port_of s.radio) name ≡ ports
 
-bridge_by : (s : Known) (name : List ℕ) (empty : Bool) (ports : List (List ℕ)) (k : NameKind) (broken : Bool) → (row_at s.rows name).kind ≡ k → standing_of k broken (given_ports (map port_of s.radio) name) ≡ Ports empty ports → IsBridgeOf s name empty ports
+bridge_by : (s : Known) (name : List ℕ) (empty : Bool) (ports : List (List ℕ)) (k : NameKind) (broken : Bool) → (row_at s.rows name).kind ≡ k → standing_of k broken (given_ports (map port_of s.radio) name) ≡ Ports empty ports
+    → IsBridgeOf s name empty ports
 bridge_by s name empty ports Plain broken is h = cc h
 bridge_by s name empty ports (Bridge none own) true is h = cc h
 bridge_by s name empty ports (Bridge none own) false is h =
@@ -104,7 +105,8 @@ module _ (s : Known) (sound : IsSound s) where
   port_of_rows : (bridge port : List ℕ) (at : IsPort s bridge port) → Contains (ports_of_kind (row_at s.rows bridge).kind) port ⊎ Contains (given_ports (map port_of s.radio) bridge) port
   port_of_rows bridge port at =
       let row = bridge_of s bridge at.empty at.ports at.standing in
-      elim (Contains-append_cases row.own (given_ports (map port_of s.radio) bridge) port (subst (λ ps. Contains ps port) (sym row.all) at.member)) as (λ _. Contains (ports_of_kind (row_at s.rows bridge).kind) port ⊎ Contains (given_ports (map port_of s.radio) bridge) port) [
+      elim (Contains-append_cases row.own (given_ports (map port_of s.radio) bridge) port (subst (λ ps. Contains ps port) (sym row.all) at.member)) as
+      (λ _. Contains (ports_of_kind (row_at s.rows bridge).kind) port ⊎ Contains (given_ports (map port_of s.radio) bridge) port) [
         | inl own ↦ inl (subst (λ k. Contains (ports_of_kind k) port) (sym row.kind) own)
         | inr given ↦ inr given
       ]

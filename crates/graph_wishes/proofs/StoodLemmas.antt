@@ -37,7 +37,8 @@ row_or_less (row ∷ rows) name = go (bytes_eq row.name name) refl (row_or_less 
     ]
 
 -- what a name stands on is of its row, which is not broken, or given to a bridge by a radio
-stood_cases : (kind : NameKind) (broken : Bool) (more : List (List ℕ)) (lower : List ℕ) → Contains (lowers_of (standing_of kind broken more)) lower → (broken ≡ false) × (Contains (lowers_of (standing_of kind broken [])) lower ⊎ ((is_bridge_kind kind ≡ true) × Contains more lower))
+stood_cases : (kind : NameKind) (broken : Bool) (more : List (List ℕ)) (lower : List ℕ) → Contains (lowers_of (standing_of kind broken more)) lower → (broken ≡ false)
+    × (Contains (lowers_of (standing_of kind broken [])) lower ⊎ ((is_bridge_kind kind ≡ true) × Contains more lower))
 stood_cases Plain broken more lower h = absurd (none_in_nil lower h)
 stood_cases (Bridge empty ports) true more lower h = absurd (none_in_nil lower h)
 stood_cases (Bridge empty ports) false more lower h = (

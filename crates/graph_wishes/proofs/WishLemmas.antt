@@ -92,7 +92,8 @@ module _ (s : Known) where
     masters_used [] is = refl
     masters_used (p ∷ ps) is = by (masters_used ps is) (used_in s p) refl
       where
-        by : used_mays s (map (may_master name) ps) ≡ map (λ port. object.Master port name) (filter (used_in s) ps) → (b : Bool) → used_in s p ≡ b → used_mays s (map (may_master name) (p ∷ ps)) ≡ map (λ port. object.Master port name) (filter (used_in s) (p ∷ ps))
+        by : used_mays s (map (may_master name) ps) ≡ map (λ port. object.Master port name) (filter (used_in s) ps) → (b : Bool) → used_in s p ≡ b → used_mays s (map (may_master name) (p ∷ ps))
+            ≡ map (λ port. object.Master port name) (filter (used_in s) (p ∷ ps))
         by rest true port =
             one_used (may_master name p) (map (may_master name) ps) (on (used_in s name) (used_in s p) true is port)
             ∙ ap (λ (xs : List Object). object.Master p name ∷ xs) rest

@@ -14,7 +14,8 @@ pub fn wants_are_used_mays()
     ensures { (s : Known) → want_in s ≡ set_of (used_mays s (mays s)) }
 {}
 
-/// Of the objects that sound rows may want there is one of a key, and no VLAN among them is under itself.
+/// Of the objects that sound rows may want there is one of a key, and no VLAN among them is under
+/// itself.
 pub fn mays_are_apart()
     ensures apart { (s : Known) → IsSound s
         → HasSoundVlans (record (conf_of s.rows) { vlans = s.vlans }) → (m n : May)

@@ -38,7 +38,8 @@ then_alike Less h k l same less = refl
 then_alike Equal h k l same less = ap (λ x. ordering_then x l) (sym (same refl)) ∙ less
 then_alike Greater h k l same less = cc less
 
-pub less_alike : (held wanted now to : Objects) (a b : Call) → (rank a ≡ rank b → nat_cmp (height_place held wanted a) (height_place held wanted b) ≡ nat_cmp (height_place now to a) (height_place now to b)) → call_cmp held wanted a b ≡ Less → call_cmp now to a b ≡ Less
+pub less_alike : (held wanted now to : Objects) (a b : Call) → (rank a ≡ rank b → nat_cmp (height_place held wanted a) (height_place held wanted b) ≡ nat_cmp (height_place now to a) (height_place now to b)) → call_cmp held wanted a b ≡ Less
+    → call_cmp now to a b ≡ Less
 less_alike held wanted now to a b same less =
     then_alike (nat_cmp (rank a) (rank b)) (nat_cmp (height_place held wanted a) (height_place held wanted b)) (nat_cmp (height_place now to a) (height_place now to b))
     (ordering_then (slice_cmp nat_cmp (line_of a) (line_of b)) (slice_cmp nat_cmp (call_key a) (call_key b)))

@@ -141,7 +141,8 @@ lower_goes held name =
     let of_part = λ (o : Object). not (stands_on (lower_part held) name o) in
     same_members (lower_part (gone held name)) (gone (lower_part held) name)
     (λ x h. let is = of_retained (gone held name) is_lower x h in let was = of_retained held of_all x is.0 in has_retained (lower_part held) of_part x (has_retained held is_lower x was.0 is.1) (ap not (stands_in_parts held name x) ∙ was.1))
-    (λ x h. let is = of_retained (lower_part held) of_part x h in let was = of_retained held is_lower x is.0 in has_retained (gone held name) is_lower x (has_retained held of_all x was.0 (sym (ap not (stands_in_parts held name x)) ∙ is.1)) was.1)
+    (λ x h. let is = of_retained (lower_part held) of_part x h in let was = of_retained held is_lower x is.0 in
+    has_retained (gone held name) is_lower x (has_retained held of_all x was.0 (sym (ap not (stands_in_parts held name x)) ∙ is.1)) was.1)
 
 -- an address or a route goes with its device's being up
 stands_as_up : (held : Objects) (name : List ℕ) (o : Object) → is_upper o ≡ true → stands_on held name o ≡ stands_on held name (object.Up (name_of o))

@@ -28,7 +28,8 @@ use Rattle.kern_model.proofs.StandingLemmas.{over_cases, higher, height_within}
 use Rattle.kern_model.proofs.GoneLemmas.{is_over_of_test, test_of_is_over, over_more}
 use Rattle.kern_model.proofs.AllowedLemmas.{one_link}
 use Rattle.kern_model.proofs.KeepLemmas.{only_one}
-use Rattle.kern_model.proofs.TouchLemmas.{replaceable, falls_with, falls_of, on_taken_at, touched_held, touched_wanted, touched_on, touched_cases, replaced_by, taken_held, taken_touched, taken_not_replaced, taken_of, taken_on, put_wanted, put_of, put_touched}
+use Rattle.kern_model.proofs.TouchLemmas.{replaceable, falls_with, falls_of, on_taken_at, touched_held, touched_wanted, touched_on, touched_cases, replaced_by, taken_held, taken_touched, taken_not_replaced, taken_of, taken_on, put_wanted}
+use Rattle.kern_model.proofs.TouchLemmas.{put_of, put_touched}
 use Rattle.kern_model.proofs.LeadLemmas.{own_take, IsPut, PutsAreLeft, TakesAreLeft, AtTake, at_first, after_take, after_puts, puts_are_left, all_puts, first_before, taken_call, carries, is_own, call_of_taken}
 use Rattle.kern_calls.proofs.AlikeLemmas.{left_alike, less_alike, resorted, front_less}
 
@@ -40,7 +41,8 @@ rest_are_puts : (made rest : List Call) → AllByRecursion IsPut (made ++ rest) 
 rest_are_puts [] rest all = all
 rest_are_puts (c ∷ made) rest all = rest_are_puts made rest all.1
 
-stage_after : (devices : Devices) (held wanted : Objects) → AreAllowed devices held → AreAllowed devices wanted → (now : Objects) (made rest : List Call) → TakesAreLeft devices held wanted now (made ++ rest) → Stage devices held wanted (after_calls now made) rest
+stage_after : (devices : Devices) (held wanted : Objects) → AreAllowed devices held → AreAllowed devices wanted → (now : Objects) (made rest : List Call) → TakesAreLeft devices held wanted now (made ++ rest)
+    → Stage devices held wanted (after_calls now made) rest
 stage_after devices held wanted from to now [] rest on = inl on
 stage_after devices held wanted from to now (Put o ∷ made) rest on =
     let all : AllByRecursion IsPut (Put o ∷ (made ++ rest)) = (tt, all_puts devices held wanted o (made ++ rest) (first_before held wanted (Put o) (made ++ rest) on.sorted)) in
@@ -138,7 +140,8 @@ module _ (devices : Devices) (held wanted : Objects) (from : AreAllowed devices 
     IsBelow _ base = ⊤
 
     -- a link was not taken before what is over it
-    not_before : (o : Object) (base : List ℕ) (kind : LinkKind) → Contains rest (own_take devices o) → Has held (object.Link base kind) → IsBelow o base → is_taken held wanted (object.Link base kind) ≡ true → (Contains rest (own_take devices (object.Link base kind)) → ⊥) → ⊥
+    not_before : (o : Object) (base : List ℕ) (kind : LinkKind) → Contains rest (own_take devices o) → Has held (object.Link base kind) → IsBelow o base → is_taken held wanted (object.Link base kind) ≡ true
+        → (Contains rest (own_take devices (object.Link base kind)) → ⊥) → ⊥
     not_before (object.Link name other) base kind waits had below taken early =
         let x = object.Link base kind in
         let o = object.Link name other in
@@ -154,7 +157,8 @@ module _ (devices : Devices) (held wanted : Objects) (from : AreAllowed devices 
               omega arith
         ]
     not_before o base kind waits had below taken early =
-        let less = rank_rises held wanted (own_take devices (object.Link base kind)) (own_take devices o) (before (own_take devices (object.Link base kind)) (own_take devices o) (call_of_taken devices held wanted (object.Link base kind) taken) early waits) in
+        let less = rank_rises held wanted (own_take devices (object.Link base kind)) (own_take devices o)
+        (before (own_take devices (object.Link base kind)) (own_take devices o) (call_of_taken devices held wanted (object.Link base kind) taken) early waits) in
         omega arith
 
     link_left : (o : Object) (base : List ℕ) (kind : LinkKind) → Contains rest (own_take devices o) → Has held (object.Link base kind) → IsBelow o base → Has now (object.Link base kind)
@@ -219,7 +223,8 @@ module _ (devices : Devices) (held wanted : Objects) (from : AreAllowed devices 
           | inl unwanted ↦ touched_held now wanted o h unwanted
           | inr stands ↦ touched_on now wanted o (on_taken_still o waits stands)
         ] in
-        taken_of now wanted o h touched (λ replaced. let by = replaced_by now wanted o replaced in taken_not_replaced held wanted o taken (is_replaced_of_all held wanted o by.unwanted (λ stands. by.stays (on_taken_still o waits stands)) by.by by.is by.place))
+        taken_of now wanted o h touched (λ replaced. let by = replaced_by now wanted o replaced in
+        taken_not_replaced held wanted o taken (is_replaced_of_all held wanted o by.unwanted (λ stands. by.stays (on_taken_still o waits stands)) by.by by.is by.place))
 
     put_due : (o : Object) → Contains rest (Put o) → is_put now wanted o ≡ true
     put_due o member =
@@ -248,7 +253,8 @@ module _ (devices : Devices) (held wanted : Objects) (from : AreAllowed devices 
           | inl unwanted ↦ touched_held held wanted o had unwanted
           | inr stands ↦ touched_on held wanted o (was_on_taken o stands)
         ] in
-        taken_of held wanted o had touched (λ replaced. let by = replaced_by held wanted o replaced in taken_not_replaced now wanted o taken (is_replaced_of_all now wanted o by.unwanted (λ stands. by.stays (was_on_taken o stands)) by.by by.is by.place))
+        taken_of held wanted o had touched (λ replaced. let by = replaced_by held wanted o replaced in
+        taken_not_replaced now wanted o taken (is_replaced_of_all now wanted o by.unwanted (λ stands. by.stays (was_on_taken o stands)) by.by by.is by.place))
 
     was_put : (o : Object) → is_put now wanted o ≡ true → is_put held wanted o ≡ true
     was_put o due =
@@ -328,7 +334,8 @@ module _ (devices : Devices) (held wanted : Objects) (from : AreAllowed devices 
 
     puts_go_on : AreCalls devices now wanted rest
     puts_go_on = record {
-      sorted = resorted (call_cmp held wanted) (call_cmp now wanted) rest (λ a b m n less. less_alike held wanted now wanted a b (λ level. puts_alike held now wanted a b (member_of_all IsPut rest a all m) (member_of_all IsPut rest b all n)) less) on.sorted;
+      sorted = resorted (call_cmp held wanted) (call_cmp now wanted) rest
+          (λ a b m n less. less_alike held wanted now wanted a b (λ level. puts_alike held now wanted a b (member_of_all IsPut rest a all m) (member_of_all IsPut rest b all n)) less) on.sorted;
       sound = λ c member. put_left c (member_of_all IsPut rest c all member) member;
       complete = left_due;
     }

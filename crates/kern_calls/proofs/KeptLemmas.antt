@@ -66,14 +66,16 @@ none_pass {X} p (x ∷ xs) none = at (none_pass p xs (λ y member. none y (there
     at rest true is = absurd (none x (here x xs) is)
     at rest false is = rest
 
-pub one_passes : (held wanted : Objects) (p : Call → Bool) → (calls : List Call) → IsStrictlySortedBy (call_cmp held wanted) calls → ((a b : Call) → Contains calls a → Contains calls b → p a ≡ true → p b ≡ true → a ≡ b) → length (filter p calls) ≤ 1
+pub one_passes : (held wanted : Objects) (p : Call → Bool) → (calls : List Call) → IsStrictlySortedBy (call_cmp held wanted) calls → ((a b : Call) → Contains calls a → Contains calls b → p a ≡ true → p b ≡ true → a ≡ b)
+    → length (filter p calls) ≤ 1
 unfolding IsStrictlySortedBy
 one_passes held wanted p [] sorted one = omega arith
 one_passes held wanted p (c ∷ calls) sorted one = at (one_passes held wanted p calls sorted.1 (λ a b m n. one a b (there c calls a m) (there c calls b n))) (p c) refl
   where
     at : length (filter p calls) ≤ 1 → (b : Bool) → p c ≡ b → length (cond b (c ∷ filter p calls) (filter p calls)) ≤ 1
     at rest true is =
-        let none = none_pass p calls (λ x member passes. cc (one c x (here c calls) (there c calls x member) is passes, member_of_all (λ y. call_cmp held wanted c y ≡ Less) calls x sorted.0 member, tied_itself (calls_total held wanted) c)) in
+        let none = none_pass p calls (λ x member passes. cc (one c x (here c calls) (there c calls x member) is passes, member_of_all (λ y. call_cmp held wanted c y ≡ Less) calls x sorted.0 member, tied_itself (calls_total held wanted) c))
+        in
         omega arith
     at rest false is = rest
 
@@ -111,7 +113,8 @@ same_if_none_due held wanted none =
     same_members held wanted (λ o h. of_beyond held wanted o h (omega arith)) (λ o h. of_beyond wanted held o h (omega arith))
 
 nothing_beyond : (s : Objects) → set.len (set.difference s s) ≡ 0
-nothing_beyond s = ap set.len (same_members (set.difference s s) set.empty (λ o h. let parts = both (set.contains s o) _ (sym (set.contains-difference objects_total s s o) ∙ h) in absurd (not_true (set.contains s o) parts.1 parts.0)) (λ o h. absurd (none_in_empty o h))) ∙ set.len-empty object_cmp
+nothing_beyond s = ap set.len (same_members (set.difference s s) set.empty (λ o h. let parts = both (set.contains s o) _ (sym (set.contains-difference objects_total s s o) ∙ h) in absurd (not_true (set.contains s o) parts.1 parts.0))
+    (λ o h. absurd (none_in_empty o h))) ∙ set.len-empty object_cmp
 
 pub none_due_if_same : (held wanted : Objects) → held ≡ wanted → due_count held wanted ≡ 0
 none_due_if_same held wanted same = subst (λ s. due_count held s ≡ 0) same (let none = nothing_beyond held in omega arith)

@@ -75,7 +75,8 @@ module _ (held wanted : Objects) where
       let found = from_any (falls held wanted) (places_of o) h in
       let f = falls_with held wanted found.passing found.passes in
       on_taken_at (lower_part held) (lower_part wanted) o found.passing found.member
-      (falls_of (lower_part held) (lower_part wanted) found.passing f.base f.kind (in_part held (object.Link f.base f.kind) f.had refl) (λ is. f.unwanted (of_part wanted (object.Link f.base f.kind) is)) (over_in_part held f.base found.passing f.over))
+      (falls_of (lower_part held) (lower_part wanted) found.passing f.base f.kind (in_part held (object.Link f.base f.kind) f.had refl) (λ is. f.unwanted (of_part wanted (object.Link f.base f.kind) is))
+      (over_in_part held f.base found.passing f.over))
 
   on_of_part : (o : Object) → is_on_taken (lower_part held) (lower_part wanted) o ≡ true → is_on_taken held wanted o ≡ true
   on_of_part o h =
@@ -106,7 +107,8 @@ module _ (held wanted : Objects) where
       ] in
       taken_of held wanted o had.0 touched (λ replaced.
       let by = replaced_by held wanted o replaced in
-      taken_not_replaced (lower_part held) (lower_part wanted) o taken (is_replaced_of_all (lower_part held) (lower_part wanted) o (λ is. by.unwanted (of_part wanted o is)) (λ on. by.stays (on_of_part o on)) by.by (in_part wanted by.by by.is (replacer_is_lower by.by o by.place)) by.place))
+      taken_not_replaced (lower_part held) (lower_part wanted) o taken
+      (is_replaced_of_all (lower_part held) (lower_part wanted) o (λ is. by.unwanted (of_part wanted o is)) (λ on. by.stays (on_of_part o on)) by.by (in_part wanted by.by by.is (replacer_is_lower by.by o by.place)) by.place))
 
   put_in_part : (o : Object) → is_lower o ≡ true → is_put held wanted o ≡ true → is_put (lower_part held) (lower_part wanted) o ≡ true
   put_in_part o lower due =

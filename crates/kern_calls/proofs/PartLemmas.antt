@@ -87,12 +87,14 @@ module _ (devices : Devices) (held wanted : Objects) where
       let front : all ≡ filter is_upper_take all ++ rest = fronted cmp is_upper_take is_behind (λ c. refl)
       (λ a b p q less. let above = rank_rises held wanted a b less in let low = behind_rank a p in let high = take_rank b q in absurd (omega arith)) all are.sorted in
       let back : rest ≡ filter is_before_puts rest ++ filter is_upper_put rest = fronted cmp is_before_puts is_upper_put (λ c. twice_negated (is_upper_put c))
-      (λ a b p q less. let above = rank_rises held wanted a b less in let low = put_rank a (true_of_negated (is_upper_put a) p) in let high = before_rank b (false_of_negated (is_upper_put b) q) in absurd (omega arith)) rest (IsStrictlySortedBy-filter cmp is_behind all are.sorted) in
+      (λ a b p q less. let above = rank_rises held wanted a b less in let low = put_rank a (true_of_negated (is_upper_put a) p) in let high = before_rank b (false_of_negated (is_upper_put b) q) in absurd (omega arith)) rest
+      (IsStrictlySortedBy-filter cmp is_behind all are.sorted) in
       let between = kept_twice is_behind is_before_puts is_lower_call lower_is_between all ∙ no_other_calls devices (lower_part held) (lower_part wanted) (filter is_lower_call all) (lower_calls held wanted devices all are) in
       let puts = kept_twice is_behind is_upper_put is_upper_put put_is_behind all in
       front ∙ ap (λ xs. filter is_upper_take all ++ xs) (back ∙ ap (λ xs. xs ++ filter is_upper_put rest) between ∙ ap (λ xs. calls devices (lower_part held) (lower_part wanted) ++ xs) puts)
 
-  pub first_in_parts : slice_get (calls devices held wanted) 0 ≡ option_or (find is_upper_take (calls devices held wanted)) (option_or (slice_get (calls devices (lower_part held) (lower_part wanted)) 0) (find is_upper_put (calls devices held wanted)))
+  pub first_in_parts : slice_get (calls devices held wanted) 0
+      ≡ option_or (find is_upper_take (calls devices held wanted)) (option_or (slice_get (calls devices (lower_part held) (lower_part wanted)) 0) (find is_upper_put (calls devices held wanted)))
   first_in_parts =
       let all = calls devices held wanted in
       let lower = calls devices (lower_part held) (lower_part wanted) in

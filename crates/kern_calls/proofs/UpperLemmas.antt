@@ -102,7 +102,8 @@ level : (held wanted : Objects) (a b : Call) → is_upper (object_of a) ≡ true
 level held wanted (Put a) (Put b) p q ranks = ap (λ n. nat_cmp n (height_of wanted b)) (no_height wanted a p) ∙ ap (nat_cmp 0) (no_height wanted b q) ∙ tied 0
 level held wanted (Put a) (Take b k x) p q ranks = absurd (omega arith)
 level held wanted (Take a k x) (Put b) p q ranks = absurd (omega arith)
-level held wanted (Take a k x) (Take b l y) p q ranks = ap (λ n. nat_cmp (set.len held - n) (set.len held - height_of held b)) (no_height held a p) ∙ ap (λ n. nat_cmp (set.len held - 0) (set.len held - n)) (no_height held b q) ∙ tied (set.len held - 0)
+level held wanted (Take a k x) (Take b l y) p q ranks = ap (λ n. nat_cmp (set.len held - n) (set.len held - height_of held b)) (no_height held a p) ∙ ap (λ n. nat_cmp (set.len held - 0) (set.len held - n)) (no_height held b q)
+    ∙ tied (set.len held - 0)
 
 then_level : (r h k l : Ordering) → (r ≡ Equal → h ≡ k) → ordering_then r (ordering_then h l) ≡ ordering_then r (ordering_then k l)
 then_level Less h k l same = refl

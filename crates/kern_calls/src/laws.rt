@@ -1,5 +1,6 @@
 // Laws of the calls between two sets. Each body is empty, and the contract is the law.
-ghost use Rattle.std.specs.Prelude.{◌≡◌, ◌≤◌, ◌<◌, ◌↔◌, ◌++◌, ℕ, List, Option, Contains, length, filter, true, false};
+ghost use Rattle.std.specs.Prelude.{◌≡◌, ◌≤◌, ◌<◌, ◌↔◌, ◌++◌, ℕ, List, Option, Contains, length};
+ghost use Rattle.std.specs.Prelude.{filter, true, false};
 ghost use Rattle.std.specs.FinSet as set;
 ghost use Rattle.kern_model.specs.declared.object.Mac.{Mac};
 ghost use Rattle.kern_model.specs.declared.object.LinkKind.TheVariants.{Vlan};

@@ -1,5 +1,6 @@
 // Laws of the parts of the calls. Each body is empty, and the contract is the law.
-ghost use Rattle.std.specs.Prelude.{◌≡◌, ◌↔◌, ◌++◌, ◌+◌, ◌||◌, ℕ, List, filter, slice_get, Bool, true, false, not};
+ghost use Rattle.std.specs.Prelude.{◌≡◌, ◌↔◌, ◌++◌, ◌+◌, ◌||◌, ℕ, List, filter, slice_get, Bool};
+ghost use Rattle.std.specs.Prelude.{true, false, not};
 ghost use Rattle.std.specs.List.{find};
 ghost use Rattle.std.specs.Option.{option_or};
 ghost use Rattle.std.specs.FinSet as set;
@@ -19,9 +20,10 @@ ghost use Rattle.kern_calls.specs.Lower.{is_lower, lower_part, is_lower_call};
 ghost use Rattle.kern_calls.specs.Due.{due_count};
 ghost use Rattle.kern_calls.specs.Upper.{is_upper, upper_part, is_upper_take, is_upper_put};
 
-/// Calls come in three parts: takes of addresses and routes, the calls of all other objects, puts of addresses and routes. An
-/// address or a route is in a call where only one side has it, or where its device falls, as the sides without addresses and
-/// routes tell. Among themselves their calls stand in one order, whatever the sides.
+/// Calls come in three parts: takes of addresses and routes, the calls of all other objects, puts
+/// of addresses and routes. An address or a route is in a call where only one side has it, or where
+/// its device falls, as the sides without addresses and routes tell. Among themselves their calls
+/// stand in one order, whatever the sides.
 pub fn calls_come_in_parts()
     ensures parts { (devices : Devices) (held wanted : Objects) → calls devices held wanted
         ≡ filter is_upper_take (calls devices held wanted)
@@ -59,10 +61,11 @@ pub fn takes_come_before_puts()
         (find (λ call. not (test call)) (calls devices held wanted)) }
 {}
 
-/// A call does to the part of its object what it does to the set, and leaves the other part. Both parts make the set, and two sets,
-/// one of addresses and routes and one of other objects, are the parts of their union. A device that goes takes from the lower part
-/// what it takes from the set, and an address or a route of an allowed set goes with its device's being up. How much is due is the
-/// sum of what is due in the parts.
+/// A call does to the part of its object what it does to the set, and leaves the other part. Both
+/// parts make the set, and two sets, one of addresses and routes and one of other objects, are the
+/// parts of their union. A device that goes takes from the lower part what it takes from the set,
+/// and an address or a route of an allowed set goes with its device's being up. How much is due is
+/// the sum of what is due in the parts.
 pub fn parts_follow_calls()
     ensures lower { (held : Objects) (call : Call) → is_lower_call call ≡ true
         → (lower_part (after_call held call) ≡ after_call (lower_part held) call)

@@ -56,7 +56,8 @@ pub none_found : (devices : Devices) (name : List ℕ) → map.get devices name 
 none_found devices name at = at ∙ sym (looked [] name)
 
 -- what a list of the device of a name says of another name
-either_found : (devices : Devices) (name other : List ℕ) (d : Device) (rest : List (List ℕ × Device)) → map.get devices name ≡ Some d → map.get devices other ≡ lookup (bytes_eq other) rest → (b : Bool) → bytes_eq other name ≡ b → map.get devices other ≡ cond b (Some d) (lookup (bytes_eq other) rest)
+either_found : (devices : Devices) (name other : List ℕ) (d : Device) (rest : List (List ℕ × Device)) → map.get devices name ≡ Some d → map.get devices other ≡ lookup (bytes_eq other) rest → (b : Bool) → bytes_eq other name ≡ b
+    → map.get devices other ≡ cond b (Some d) (lookup (bytes_eq other) rest)
 either_found devices name other d rest at after true is = ap (map.get devices) (bytes_same other name is) ∙ at
 either_found devices name other d rest at after false is = after
 
@@ -67,13 +68,15 @@ pub first_found : (devices : Devices) (name : List ℕ) (d : Device) (rest : Lis
 first_found devices name d rest at = at ∙ sym (itself name d (lookup (bytes_eq name) rest)) ∙ sym (looked ((name, d) ∷ rest) name)
 
 -- where a list has what there is of the names that matter, it is judged by it
-pub admits_by : (devices few : Devices) (s held : Objects) (call : Call) (o : Object) (name lower : List ℕ) (b : Bool) → o ≡ object_of call → name ≡ name_of o → lower ≡ lower_of o → held ≡ s → AreAlike devices few name → AreAlike devices few lower → (IsTrue b ↔ Admits few held call) → IsTrue b ↔ Admits devices s call
+pub admits_by : (devices few : Devices) (s held : Objects) (call : Call) (o : Object) (name lower : List ℕ) (b : Bool) → o ≡ object_of call → name ≡ name_of o → lower ≡ lower_of o → held ≡ s → AreAlike devices few name
+    → AreAlike devices few lower → (IsTrue b ↔ Admits few held call) → IsTrue b ↔ Admits devices s call
 admits_by devices few s held call o name lower b of named under is first second judged =
     let at = subst (AreAlike devices few) (named ∙ ap name_of of) first in
     let below = subst (AreAlike devices few) (under ∙ ap lower_of of) second in
     (λ h. subst (λ t. Admits devices t call) is (admits_alike few devices held call (sym at) (sym below) (judged.0 h)), λ h. judged.1 (admits_alike devices few held call at below (subst (λ t. Admits devices t call) (sym is) h)))
 
-pub may_by : (devices few : Devices) (s held : Objects) (happens : DevEvent) (name : List ℕ) (b : Bool) → name ≡ name_in happens → held ≡ s → AreAlike devices few name → (IsTrue b ↔ MayHappen few held happens) → IsTrue b ↔ MayHappen devices s happens
+pub may_by : (devices few : Devices) (s held : Objects) (happens : DevEvent) (name : List ℕ) (b : Bool) → name ≡ name_in happens → held ≡ s → AreAlike devices few name → (IsTrue b ↔ MayHappen few held happens)
+    → IsTrue b ↔ MayHappen devices s happens
 may_by devices few s held happens name b named is first judged =
     let at = subst (AreAlike devices few) named first in
     (λ h. subst (λ t. MayHappen devices t happens) is (may_alike few devices held happens (sym at) (judged.0 h)), λ h. judged.1 (may_alike devices few held happens at (subst (λ t. MayHappen devices t happens) (sym is) h)))

@@ -66,8 +66,10 @@ module _ (s t u : Objects) (upper base : List ℕ) (id : ℕ) (mac : Option Mac)
 
   stays_alike : (o : Object) → not (stands_on s base o) ≡ (not (stands_on t upper o) && not (stands_on u base o))
   stays_alike o = true_of_both_ways (not (stands_on s base o)) (not (stands_on t upper o) && not (stands_on u base o))
-      (λ h. of_both (not (stands_on t upper o)) _ (of_not (stands_on t upper o) (λ g. not_true (stands_on s base o) h (stands_below o g))) (of_not (stands_on u base o) (λ g. not_true (stands_on s base o) h (stands_more u s (λ x v. within x (within_again x v)) base o g))))
-      (λ h. let parts = both (not (stands_on t upper o)) (not (stands_on u base o)) h in of_not (stands_on s base o) (λ g. elim (stands_still o g) as (λ _. ⊥) [ inl a ↦ not_true (stands_on t upper o) parts.0 a | inr b ↦ not_true (stands_on u base o) parts.1 b ]))
+      (λ h. of_both (not (stands_on t upper o)) _ (of_not (stands_on t upper o) (λ g. not_true (stands_on s base o) h (stands_below o g)))
+      (of_not (stands_on u base o) (λ g. not_true (stands_on s base o) h (stands_more u s (λ x v. within x (within_again x v)) base o g))))
+      (λ h. let parts = both (not (stands_on t upper o)) (not (stands_on u base o)) h in
+      of_not (stands_on s base o) (λ g. elim (stands_still o g) as (λ _. ⊥) [ inl a ↦ not_true (stands_on t upper o) parts.0 a | inr b ↦ not_true (stands_on u base o) parts.1 b ]))
 
 module _ (s : Objects) (upper name : List ℕ) (id : ℕ) (mac : Option Mac) (held : Has s (object.Link upper (Vlan name id mac))) where
   without_vlan : gone (gone (set.remove s (object.Link upper (Vlan name id mac))) upper) name ≡ gone s name
@@ -108,8 +110,10 @@ module _ (s : Objects) (name : List ℕ) (none : (o : Object) → Has s o → is
 
   at_or_not : (o : Object) → not (is_at name o) ≡ not (stands_on s name o)
   at_or_not o = ap not (true_of_both_ways (is_at name o) (stands_on s name o)
-      (λ h. let found = from_any (λ place. bytes_eq place name) (places_of o) h in of_any (is_over s name) (places_of o) found.passing found.member (subst (λ n. is_over s name n ≡ true) (sym (bytes_same found.passing name found.passes)) (over_itself s name)))
-      (λ h. let found = from_any (is_over s name) (places_of o) h in of_any (λ place. bytes_eq place name) (places_of o) found.passing found.member (same_bytes found.passing name (only_itself found.passing (is_over_of_test s name found.passing found.passes)))))
+      (λ h. let found = from_any (λ place. bytes_eq place name) (places_of o) h in
+      of_any (is_over s name) (places_of o) found.passing found.member (subst (λ n. is_over s name n ≡ true) (sym (bytes_same found.passing name found.passes)) (over_itself s name)))
+      (λ h. let found = from_any (is_over s name) (places_of o) h in
+      of_any (λ place. bytes_eq place name) (places_of o) found.passing found.member (same_bytes found.passing name (only_itself found.passing (is_over_of_test s name found.passing found.passes)))))
 
   pub without_vlans : set.retain s (λ o. not (is_at name o)) ≡ gone s name
   without_vlans = ap (set.retain s) (λ i x. at_or_not x i)

@@ -7,7 +7,8 @@ use Rattle.kern_model.proofs.MemberLemmas.{first_or_later, none_in_nil}
 use Rattle.kern_model.proofs.TestLemmas.{below_test, above_test}
 
 -- the first place at which a test passes
-passes_step : (p : Object → Bool) (x : Object) (xs : List Object) (d : Object) → ((i : ℕ) → position_or_len p xs ≡ i → i < length xs → p (get_or xs i d) ≡ true) → (b : Bool) → p x ≡ b → (i : ℕ) → position_or_len p (x ∷ xs) ≡ i → i < length (x ∷ xs) → p (get_or (x ∷ xs) i d) ≡ true
+passes_step : (p : Object → Bool) (x : Object) (xs : List Object) (d : Object) → ((i : ℕ) → position_or_len p xs ≡ i → i < length xs → p (get_or xs i d) ≡ true) → (b : Bool) → p x ≡ b → (i : ℕ) → position_or_len p (x ∷ xs) ≡ i
+    → i < length (x ∷ xs) → p (get_or (x ∷ xs) i d) ≡ true
 passes_step p x xs d rest true px i is inside =
     let first : 0 ≡ i = ap (λ b. cond (not b) (1 + position_or_len p xs) 0) (sym px) ∙ is in
     subst (λ k. p (get_or (x ∷ xs) k d) ≡ true) first px
@@ -22,7 +23,8 @@ passes_at : (p : Object → Bool) → (xs : List Object) (d : Object) (i : ℕ) 
 passes_at p [] d i is inside = absurd (omega arith)
 passes_at p (x ∷ xs) d i is inside = passes_step p x xs d (passes_at p xs d) (p x) refl i is inside
 
-none_step : (p : Object → Bool) (x : Object) (xs : List Object) (o : Object) → (length xs ≤ position_or_len p xs → Contains xs o → p o ≡ true → ⊥) → (b : Bool) → p x ≡ b → length (x ∷ xs) ≤ position_or_len p (x ∷ xs) → Contains (x ∷ xs) o → p o ≡ true → ⊥
+none_step : (p : Object → Bool) (x : Object) (xs : List Object) (o : Object) → (length xs ≤ position_or_len p xs → Contains xs o → p o ≡ true → ⊥) → (b : Bool) → p x ≡ b → length (x ∷ xs) ≤ position_or_len p (x ∷ xs) → Contains (x ∷ xs) o
+    → p o ≡ true → ⊥
 none_step p x xs o rest true px long member passes =
     let none : position_or_len p (x ∷ xs) ≡ 0 = ap (λ b. cond (not b) (1 + position_or_len p xs) 0) px in
     omega arith

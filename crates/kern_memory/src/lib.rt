@@ -1,4 +1,5 @@
-//! A kernel in memory: its objects and devices in hash tables, and where it is asked for, the lists of what it did.
+//! A kernel in memory: its objects and devices in hash tables, and where it is asked for, the lists
+//! of what it did.
 #![tactic(auto)]
 
 mod devices;

@@ -1,15 +1,18 @@
-ghost use Rattle.std.specs.Prelude.{◌≡◌, ◌≤◌, ◌⊎◌, ◌↔◌, ◌+◌, [], ◌∷◌, Some, None, IsTrue, is_ok, OnOk, OnErr, IfOk, Contains, unwrap_or, length};
+ghost use Rattle.std.specs.Prelude.{◌≡◌, ◌≤◌, ◌⊎◌, ◌↔◌, ◌+◌, [], ◌∷◌, Some, None, IsTrue, is_ok};
+ghost use Rattle.std.specs.Prelude.{OnOk, OnErr, IfOk, Contains, unwrap_or, length};
 ghost use Rattle.std.specs.FinMap as map;
 ghost use Rattle.std.specs.FinSet as set;
 ghost use Rattle.plane_words.specs.Causes.{HasCause, next_count};
 ghost use Rattle.plane_words.specs.Distinct.{AreDistinct};
 ghost use Rattle.plane_words.specs.Growth.{Grows};
 ghost use Rattle.kern_model.specs.ObjectOrder.{set_of};
-ghost use Rattle.kern_model.specs.Kernel.{after_call, MayHappen, after_event, objects_after_event, Records};
+ghost use Rattle.kern_model.specs.Kernel.{after_call, MayHappen, after_event, objects_after_event};
+ghost use Rattle.kern_model.specs.Kernel.{Records};
 ghost use Rattle.kern_model.specs.Admission.{Admits};
 ghost use Rattle.kern_memory.specs.Tables.{LacksObjectRoom, CallKeepsRoom, EventKeepsRoom};
 ghost use Rattle.kern_memory.specs.Log.{IsFull, HasRoom};
-ghost use Rattle.kern_memory.specs.MemKernel.{objects_of, devices_of, IsFullForCall, IsFullForEvent, FailedBy};
+ghost use Rattle.kern_memory.specs.MemKernel.{objects_of, devices_of, IsFullForCall};
+ghost use Rattle.kern_memory.specs.MemKernel.{IsFullForEvent, FailedBy};
 
 use crate::log::Log;
 use crate::tables::Tables;
@@ -66,8 +69,8 @@ impl Model for MemKernel {
 }
 
 impl MemKernel {
-    /// A kernel without objects and devices, whose calls with these numbers fail. It keeps the lists
-    /// of what it did and of all that was asked of it.
+    /// A kernel without objects and devices, whose calls with these numbers fail. It keeps the
+    /// lists of what it did and of all that was asked of it.
     pub fn new(alloc: Global, failing_apply: Vec<u64>, failing_environment: Vec<u64>) -> MemKernel
         ensures empty { (objects_of result ≡ set.empty) × (devices_of result ≡ map.empty) }
         ensures calls { result.calls.items ≡ Some [] }
@@ -210,8 +213,8 @@ impl Kernel for MemKernel {
         ensures devices { devices_of self.new ≡ devices_of self.old }
         ensures cause { HasCause self.old.faults self.new.faults result }
 
-        // A call fails exactly where its number is in the list, or where what it makes longer is full
-        // and cannot grow.
+        // A call fails exactly where its number is in the list, or where what it makes longer is
+        // full and cannot grow.
         ensures number { (self.new.applied ≡ next_count self.old.applied)
             × (self.new.happened ≡ self.old.happened) }
         ensures lists { (self.new.failing_apply ≡ self.old.failing_apply)
@@ -278,8 +281,8 @@ impl Kernel for MemKernel {
             (Asked.Event event.now (is_ok result) ∷ []) }
         ensures cause { HasCause self.old.faults self.new.faults result }
 
-        // A call fails exactly where its number is in the list, or where what it makes longer is full
-        // and cannot grow.
+        // A call fails exactly where its number is in the list, or where what it makes longer is
+        // full and cannot grow.
         ensures number { (self.new.happened ≡ next_count self.old.happened)
             × (self.new.applied ≡ self.old.applied) }
         ensures lists { (self.new.failing_apply ≡ self.old.failing_apply)

@@ -1,5 +1,6 @@
 //! How the table of the objects that a kernel holds changes.
-ghost use Rattle.std.specs.Prelude.{◌≡◌, ◌≤◌, ◌+◌, true, not, position, length, if◌then◌else◌, OnOk, OnErr};
+ghost use Rattle.std.specs.Prelude.{◌≡◌, ◌≤◌, ◌+◌, true, not, position, length, if◌then◌else◌};
+ghost use Rattle.std.specs.Prelude.{OnOk, OnErr};
 ghost use Rattle.std.specs.FinSet as set;
 ghost use Rattle.kern_model.specs.declared.object.Call.TheVariants.{Put};
 ghost use Rattle.kern_model.specs.AdmissionTest.{is_at, is_vlan_over};

@@ -5,7 +5,8 @@ ghost use Rattle.plane_words.specs.Distinct.{AreDistinct};
 ghost use Rattle.kern_model.specs.ObjectOrder.{set_of};
 ghost use Rattle.kern_model.specs.Kernel.{after_call, MayHappen, after_event, objects_after_event};
 ghost use Rattle.kern_model.specs.Admission.{Admits};
-ghost use Rattle.kern_memory.specs.Tables.{LacksObjectRoom, LacksDeviceRoom, CallKeepsRoom, EventKeepsRoom, lower_of, name_in};
+ghost use Rattle.kern_memory.specs.Tables.{LacksObjectRoom, LacksDeviceRoom, CallKeepsRoom};
+ghost use Rattle.kern_memory.specs.Tables.{EventKeepsRoom, lower_of, name_in};
 
 use crate::devices::{add_device, remove_device, set_carrier};
 use crate::objects::{change, remove_standing_on};

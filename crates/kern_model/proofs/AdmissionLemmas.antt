@@ -207,7 +207,8 @@ module _ (devices : List (List ℕ × Device)) (objects : List Object) where
           | inr master ↦ inr (among_has (object.Master port bridge) master)
         ];
         free = λ other v u held. not_one (test.is_vlan_on port id) c.0 (object.Vlan other port id v u) held (of_both (bytes_eq port port) (nat_eq id id) (same_bytes port port refl) ((Decides-eqb id id).1 refl));
-        alone = λ is other i u held. not_true (pvid && list_any (test.is_pvid_on port) objects) c.1 (of_both pvid _ is (any_of (test.is_pvid_on port) (object.Vlan other port i true u) held (of_both (bytes_eq port port) true (same_bytes port port refl) refl)));
+        alone = λ is other i u held. not_true (pvid && list_any (test.is_pvid_on port) objects) c.1
+            (of_both pvid _ is (any_of (test.is_pvid_on port) (object.Vlan other port i true u) held (of_both (bytes_eq port port) true (same_bytes port port refl) refl)));
       }
 
   port_vlan_of : (bridge port : List ℕ) (id : ℕ) (pvid : Bool) → PortVlanMayBeSet (set_of objects) bridge port id pvid → test.port_vlan_may_be_set objects bridge port id pvid ≡ true
@@ -226,7 +227,8 @@ module _ (devices : List (List ℕ × Device)) (objects : List Object) where
       h.alone parts.0 v.bridge v.id v.untagged (subst (Has (set_of objects)) v.same (set_of_member objects found.passing found.member))))))
 
   lower_to : (name : List ℕ) → not (list_any (test.lacks_lower objects name) objects) ≡ true → HasLowerUp (set_of objects) name
-  lower_to name h lower id mac held = among_has (object.Up lower) (lower_in (test.is_among objects (object.Up lower)) (λ lacking. not_one (test.lacks_lower objects name) h (object.Link name (Vlan lower id mac)) held (of_both (bytes_eq name name) _ (same_bytes name name refl) lacking)))
+  lower_to name h lower id mac held = among_has (object.Up lower)
+      (lower_in (test.is_among objects (object.Up lower)) (λ lacking. not_one (test.lacks_lower objects name) h (object.Link name (Vlan lower id mac)) held (of_both (bytes_eq name name) _ (same_bytes name name refl) lacking)))
     where
       lower_in : (b : Bool) → (not b ≡ true → ⊥) → b ≡ true
       lower_in true h = refl
@@ -269,7 +271,8 @@ module _ (devices : List (List ℕ × Device)) (objects : List Object) where
 
   take_to : (o : Object) → test.may_be_taken objects o ≡ true → AdmitsTake (set_of objects) o
   take_to (object.Link name kind) h = λ o held place. not_one (test.is_at name) h o held (test_at name o place)
-  take_to (object.Master port bridge) h = λ id pvid untagged held. not_one (test.is_vlan_of bridge port) h (object.Vlan bridge port id pvid untagged) held (of_both (bytes_eq bridge bridge) (bytes_eq port port) (same_bytes bridge bridge refl) (same_bytes port port refl))
+  take_to (object.Master port bridge) h = λ id pvid untagged held. not_one (test.is_vlan_of bridge port) h (object.Vlan bridge port id pvid untagged) held
+      (of_both (bytes_eq bridge bridge) (bytes_eq port port) (same_bytes bridge bridge refl) (same_bytes port port refl))
   take_to (object.Up name) h = record {
     addresses = λ cidr held. not_one (test.needs_up objects name) h (object.Address name cidr) held (same_bytes name name refl);
     routes = λ r held on. not_one (test.needs_up objects name) h (object.Route r) held (same_bytes r.dev name on);
@@ -289,7 +292,8 @@ module _ (devices : List (List ℕ × Device)) (objects : List Object) where
       let a = both (test.is_among objects o) _ h in
       let b = both (test.may_be_taken objects o) _ a.1 in
       let c = both (nat_eq mtu (own_mtu (map_of devices) (name_of o))) _ b.1 in
-      let own : CarriesOwn (map_of devices) o mtu mac = record { mtu_own = (Decides-eqb mtu (own_mtu (map_of devices) (name_of o))).0 c.0; mac_own = let same = bytes_same mac.0 (own_mac (map_of devices) (name_of o)).0 c.1 in ap (λ (xs : List ℕ). record { 0 = xs }) same } in
+      let own : CarriesOwn (map_of devices) o mtu mac = record
+      { mtu_own = (Decides-eqb mtu (own_mtu (map_of devices) (name_of o))).0 c.0; mac_own = let same = bytes_same mac.0 (own_mac (map_of devices) (name_of o)).0 c.1 in ap (λ (xs : List ℕ). record { 0 = xs }) same } in
       (among_has o a.0, take_to o b.0, own)
 
   pub admitted_of : (c : Call) → Admits (map_of devices) (set_of objects) c → test.call_passes devices objects c ≡ true

@@ -93,11 +93,13 @@ module _ (devices : Devices) (objects : Objects) (allowed : AreAllowed devices o
   off x place h at over = not_true (stands_on objects name x) (of_retained objects (λ o. not (stands_on objects name o)) x h).1 (of_any (is_over objects name) (places_of x) place at over)
 
   left : (x : Object) → Has objects x → ((place : List ℕ) → Contains (places_of x) place → is_over objects name place ≡ true → ⊥) → Has (gone objects name) x
-  left x h none = has_retained objects (λ o. not (stands_on objects name o)) x h (of_not (stands_on objects name x) (λ stands. let found = from_any (is_over objects name) (places_of x) stands in none found.passing found.member found.passes))
+  left x h none = has_retained objects (λ o. not (stands_on objects name o)) x h
+      (of_not (stands_on objects name x) (λ stands. let found = from_any (is_over objects name) (places_of x) stands in none found.passing found.member found.passes))
 
   link_left : (n : List ℕ) (kind : LinkKind) → (is_over objects name n ≡ true → ⊥) → Has objects (object.Link n kind) → Has (gone objects name) (object.Link n kind)
   link_left n (Bridge mac filtering) apart h = left (object.Link n (Bridge mac filtering)) h (λ place at over. none_in_nil place at)
-  link_left n (Vlan lower id mac) apart h = left (object.Link n (Vlan lower id mac)) h (λ place at over. apart (over_on objects name lower n (subst (λ l. is_over objects name l ≡ true) (sym (only_one lower place at)) over) (over_lower objects n lower id mac h)))
+  link_left n (Vlan lower id mac) apart h = left (object.Link n (Vlan lower id mac)) h
+      (λ place at over. apart (over_on objects name lower n (subst (λ l. is_over objects name l ≡ true) (sym (only_one lower place at)) over) (over_lower objects n lower id mac h)))
 
   up_left : (n : List ℕ) → (is_over objects name n ≡ true → ⊥) → Has objects (object.Up n) → Has (gone objects name) (object.Up n)
   up_left n apart h = left (object.Up n) h (λ place at over. apart (subst (λ l. is_over objects name l ≡ true) (sym (only_one n place at)) over))
@@ -168,7 +170,8 @@ module _ (devices : Devices) (objects : Objects) (allowed : AreAllowed devices o
   left_allowed = record { supported = left_supported; apart = λ a b h g excluded. allowed.apart a b (was_held a h) (was_held b g) excluded }
 
 -- a device tells of its carrier
-carrier_allowed : (devices : Devices) (objects : Objects) (name : List ℕ) (on : Bool) (found : Option Device) → map.get devices name ≡ found → AreAllowed devices objects → AreAllowed (option_map_or (λ device. map.insert devices name (with_carrier on device)) found devices) objects
+carrier_allowed : (devices : Devices) (objects : Objects) (name : List ℕ) (on : Bool) (found : Option Device) → map.get devices name ≡ found → AreAllowed devices objects
+    → AreAllowed (option_map_or (λ device. map.insert devices name (with_carrier on device)) found devices) objects
 carrier_allowed devices objects name on None got allowed = allowed
 carrier_allowed devices objects name on (Some d) got allowed =
     more_allowed devices (map.insert devices name (with_carrier on d)) objects allowed (still_present devices name (with_carrier on d))

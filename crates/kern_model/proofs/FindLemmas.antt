@@ -30,7 +30,8 @@ pub found : (es : List (List ℕ × Device)) (i : ℕ) (e : List ℕ × Device) 
 found es i e name inside is left same =
     sym (map.get-from_entries nat_list_cmp_total es name ∙ sym left ∙ ap (first_of name) (at_index es i e inside is) ∙ first_at name e (drop (i + 1) es) same)
 
-pub passed : (es : List (List ℕ × Device)) (i : ℕ) (e : List ℕ × Device) (name : List ℕ) → i < length es → e ≡ get_or es i e → first_of name (drop i es) ≡ first_of name es → (e.0 ≡ name → ⊥) → first_of name (drop (i + 1) es) ≡ first_of name es
+pub passed : (es : List (List ℕ × Device)) (i : ℕ) (e : List ℕ × Device) (name : List ℕ) → i < length es → e ≡ get_or es i e → first_of name (drop i es) ≡ first_of name es → (e.0 ≡ name → ⊥) → first_of name (drop (i + 1) es)
+    ≡ first_of name es
 passed es i e name inside is left other = sym (ap (first_of name) (at_index es i e inside is) ∙ first_behind name e (drop (i + 1) es) other) ∙ left
 
 pub none_left : (es : List (List ℕ × Device)) (i : ℕ) (name : List ℕ) → length es ≤ i → first_of name (drop i es) ≡ first_of name es → None ≡ map.get (map_of es) name

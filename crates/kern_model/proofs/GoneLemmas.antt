@@ -43,7 +43,8 @@ pub over_more : (s t : Objects) → ((x : Object) → Has s x → Has t x) → (
 over_more s t within a b h = test_of_is_over t a b (more_over s t within a b (is_over_of_test s a b h))
 
 -- lists and their filters
-kept_step : (p : Object → Bool) (y : Object) (ys : List Object) (x : Object) → (Contains (filter p ys) x → Contains ys x × (p x ≡ true)) → (b : Bool) → p y ≡ b → Contains (cond b (y ∷ filter p ys) (filter p ys)) x → Contains (y ∷ ys) x × (p x ≡ true)
+kept_step : (p : Object → Bool) (y : Object) (ys : List Object) (x : Object) → (Contains (filter p ys) x → Contains ys x × (p x ≡ true)) → (b : Bool) → p y ≡ b → Contains (cond b (y ∷ filter p ys) (filter p ys)) x → Contains (y ∷ ys) x
+    × (p x ≡ true)
 kept_step p y ys x rest true is h = elim (first_or_later y (filter p ys) x h) as (λ _. Contains (y ∷ ys) x × (p x ≡ true)) [
   | inl same ↦ (subst (Contains (y ∷ ys)) same (here y ys), subst (λ z. p z ≡ true) same is)
   | inr later ↦ let found = rest later in (there y ys x found.0, found.1)

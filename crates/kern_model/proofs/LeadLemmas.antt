@@ -27,7 +27,8 @@ use Rattle.kern_model.proofs.MemberLemmas.{all_members, member_of_all, here, the
 use Rattle.kern_model.proofs.SetLemmas.{same_or_other, has_itself, has_before, new_or_before, has_without, of_without, has_retained, of_retained, same_members}
 use Rattle.kern_model.proofs.TestLemmas.{both, of_both, of_left, of_right, not_true, of_not, true_or_not, bytes_same, same_bytes}
 use Rattle.kern_model.proofs.StandingLemmas.{over_itself, higher, height_within}
-use Rattle.kern_model.proofs.TouchLemmas.{IsReplaceable, replaceable, replaces_excludes, both_replace, touched_held, touched_wanted, replaced_by, taken_held, taken_touched, taken_not_replaced, taken_of, put_wanted, put_of, put_touched, taken_at_link, taken_address, taken_route, taken_upper, taken_vlan}
+use Rattle.kern_model.proofs.TouchLemmas.{IsReplaceable, replaceable, replaces_excludes, both_replace, touched_held, touched_wanted, replaced_by, taken_held, taken_touched, taken_not_replaced, taken_of, put_wanted, put_of, put_touched}
+use Rattle.kern_model.proofs.TouchLemmas.{taken_at_link, taken_address, taken_route, taken_upper, taken_vlan}
 
 -- the take of an object, with the own values
 abbrev pub own_take : Devices → Object → Call
@@ -88,7 +89,8 @@ module _ (devices : Devices) (held wanted : Objects) where
   is_own o mtu mac own = let m = own.mtu_own in let a = own.mac_own in cc (m, a)
 
   pub call_of_taken : (o : Object) → is_taken held wanted o ≡ true → is_call devices held wanted (own_take devices o) ≡ true
-  call_of_taken o h = of_both (is_taken held wanted o) _ h (of_both (nat_eq (own_mtu devices (name_of o)) (own_mtu devices (name_of o))) _ ((Decides-eqb (own_mtu devices (name_of o)) (own_mtu devices (name_of o))).1 refl) (same_bytes (own_mac devices (name_of o)).0 (own_mac devices (name_of o)).0 refl))
+  call_of_taken o h = of_both (is_taken held wanted o) _ h (of_both (nat_eq (own_mtu devices (name_of o)) (own_mtu devices (name_of o))) _ ((Decides-eqb (own_mtu devices (name_of o)) (own_mtu devices (name_of o))).1 refl)
+      (same_bytes (own_mac devices (name_of o)).0 (own_mac devices (name_of o)).0 refl))
 
 -- the first of the puts that are left
 module _ (devices : Devices) (held wanted : Objects) (to : AreAllowed devices wanted) (now : Objects) (rest : List Call) where
@@ -157,7 +159,8 @@ module _ (devices : Devices) (held wanted : Objects) (to : AreAllowed devices wa
         ];
         least = support.least;
         most = support.most;
-        free = λ other other_mac h. not_now new (object.Link other (Vlan lower id other_mac)) at (λ r. r) (of_right (bytes_eq name other) (are_one_vlan (Vlan lower id mac) (Vlan lower id other_mac)) (of_both (bytes_eq lower lower) (nat_eq id id) (same_bytes lower lower refl) ((Decides-eqb id id).1 refl))) h;
+        free = λ other other_mac h. not_now new (object.Link other (Vlan lower id other_mac)) at (λ r. r)
+            (of_right (bytes_eq name other) (are_one_vlan (Vlan lower id mac) (Vlan lower id other_mac)) (of_both (bytes_eq lower lower) (nat_eq id id) (same_bytes lower lower refl) ((Decides-eqb id id).1 refl))) h;
       }
 
   up_has_lower : (name : List ℕ) → AtPut (object.Up name) → HasLowerUp now name
@@ -191,8 +194,10 @@ module _ (devices : Devices) (held wanted : Objects) (to : AreAllowed devices wa
           | inl itself ↦ inl itself
           | inr master ↦ inr (earlier new (object.Master port bridge) at master (λ h. omega arith))
         ];
-        free = λ other v u h. not_now new (object.Vlan other port id v u) at (λ r. r) (of_both (bytes_eq port port) (nat_eq id id || (pvid && v)) (same_bytes port port refl) (of_left (nat_eq id id) (pvid && v) ((Decides-eqb id id).1 refl))) h;
-        alone = λ is other i u h. not_now new (object.Vlan other port i true u) at (λ r. r) (of_both (bytes_eq port port) (nat_eq id i || (pvid && true)) (same_bytes port port refl) (of_right (nat_eq id i) (pvid && true) (of_both pvid true is refl))) h;
+        free = λ other v u h. not_now new (object.Vlan other port id v u) at (λ r. r) (of_both (bytes_eq port port) (nat_eq id id || (pvid && v)) (same_bytes port port refl) (of_left (nat_eq id id) (pvid && v) ((Decides-eqb id id).1 refl)))
+            h;
+        alone = λ is other i u h. not_now new (object.Vlan other port i true u) at (λ r. r)
+            (of_both (bytes_eq port port) (nat_eq id i || (pvid && true)) (same_bytes port port refl) (of_right (nat_eq id i) (pvid && true) (of_both pvid true is refl))) h;
       }
   put_admitted (object.Up name) at =
       let support = to.supported (object.Up name) (put_is_wanted (object.Up name) at) in
@@ -257,8 +262,13 @@ unfolding IsStrictlySortedBy
 first_before held wanted c rest s = s.0
 
 -- puts alone, from what they find, are admitted each in its turn and lead to what is wanted
-puts_lead : (devices : Devices) (held wanted : Objects) (to : AreAllowed devices wanted) (now : Objects) (rest : List Call) → AllByRecursion IsPut rest → PutsAreLeft devices held wanted now rest → AreAdmitted devices now rest × (after_calls now rest ≡ wanted)
-puts_lead devices held wanted to now [] all on = (tt, same_members now wanted (λ x h. elim (on.kept x h) as (λ _. Has wanted x) [ inl stays ↦ stays.0 | inr still ↦ absurd (none_in_nil (Put still.by) still.left) ]) (λ x is. on.made x is (none_in_nil (Put x))))
+puts_lead : (devices : Devices) (held wanted : Objects) (to : AreAllowed devices wanted) (now : Objects) (rest : List Call) → AllByRecursion IsPut rest → PutsAreLeft devices held wanted now rest → AreAdmitted devices now rest
+    × (after_calls now rest ≡ wanted)
+puts_lead devices held wanted to now [] all on = (
+  tt,
+  same_members now wanted (λ x h. elim (on.kept x h) as (λ _. Has wanted x) [ inl stays ↦ stays.0 | inr still ↦ absurd (none_in_nil (Put still.by) still.left) ])
+      (λ x is. on.made x is (none_in_nil (Put x))),
+)
 puts_lead devices held wanted to now (Take o mtu mac ∷ rest) all on = absurd all.0
 puts_lead devices held wanted to now (Put o ∷ rest) all on =
     let at : AtPut devices held wanted to now rest o = record { on = on; first = first_before held wanted (Put o) rest on.sorted } in
@@ -266,7 +276,8 @@ puts_lead devices held wanted to now (Put o ∷ rest) all on =
     (((put_is_unheld devices held wanted to now rest o at, put_admitted devices held wanted to now rest o at), goes_on.0), goes_on.1)
 
 -- after some of the puts the others are left
-pub after_puts : (devices : Devices) (held wanted : Objects) (to : AreAllowed devices wanted) (now : Objects) (made rest : List Call) → AllByRecursion IsPut (made ++ rest) → PutsAreLeft devices held wanted now (made ++ rest) → PutsAreLeft devices held wanted (after_calls now made) rest
+pub after_puts : (devices : Devices) (held wanted : Objects) (to : AreAllowed devices wanted) (now : Objects) (made rest : List Call) → AllByRecursion IsPut (made ++ rest) → PutsAreLeft devices held wanted now (made ++ rest)
+    → PutsAreLeft devices held wanted (after_calls now made) rest
 after_puts devices held wanted to now [] rest all on = on
 after_puts devices held wanted to now (Take o mtu mac ∷ made) rest all on = absurd all.0
 after_puts devices held wanted to now (Put o ∷ made) rest all on =
@@ -346,16 +357,19 @@ module _ (devices : Devices) (held wanted : Objects) (from : AreAllowed devices 
       at_link (object.Link other (Bridge mac filtering)) h place taken = none_in_nil name place
       at_link (object.Link other (Vlan lower id mac)) h place taken =
           elim (first_or_later lower [] name place) as (λ _. ⊥) [
-            | inl same ↦ not_below name other id mac (subst (λ l. Has held (object.Link other (Vlan l id mac))) same (at.on.kept (object.Link other (Vlan lower id mac)) h).0) (behind_place (object.Link name kind) (object.Link other (Vlan lower id mac)) at h taken refl)
+            | inl same ↦ not_below name other id mac (subst (λ l. Has held (object.Link other (Vlan l id mac))) same (at.on.kept (object.Link other (Vlan lower id mac)) h).0)
+                (behind_place (object.Link name kind) (object.Link other (Vlan lower id mac)) at h taken refl)
             | inr none ↦ none_in_nil name none
           ]
       at_link x h place taken = let behind = behind_rank (object.Link name kind) x at h taken in omega arith
 
   may_go_down : (name : List ℕ) → AtTake (object.Up name) → MayGoDown now name
   may_go_down name at = record {
-    addresses = λ cidr h. let behind = behind_rank (object.Up name) (object.Address name cidr) at h (taken_address held wanted devices to name cidr (is_first_taken (object.Up name) at) (at.on.kept (object.Address name cidr) h).0) in omega arith;
+    addresses = λ cidr h. let behind = behind_rank (object.Up name) (object.Address name cidr) at h (taken_address held wanted devices to name cidr (is_first_taken (object.Up name) at) (at.on.kept (object.Address name cidr) h).0) in
+        omega arith;
     routes = λ r h on. let behind = behind_rank (object.Up name) (object.Route r) at h (taken_route held wanted devices to name r (is_first_taken (object.Up name) at) (at.on.kept (object.Route r) h).0 on) in omega arith;
-    vlans = λ vlan id mac link up. let had = (at.on.kept (object.Link vlan (Vlan name id mac)) link).0 in not_below name vlan id mac had (behind_place (object.Up name) (object.Up vlan) at up (taken_upper held wanted devices to name vlan id mac (is_first_taken (object.Up name) at) had (at.on.kept (object.Up vlan) up).0) refl);
+    vlans = λ vlan id mac link up. let had = (at.on.kept (object.Link vlan (Vlan name id mac)) link).0 in
+        not_below name vlan id mac had (behind_place (object.Up name) (object.Up vlan) at up (taken_upper held wanted devices to name vlan id mac (is_first_taken (object.Up name) at) had (at.on.kept (object.Up vlan) up).0) refl);
   }
 
   take_admitted : (o : Object) → AtTake o → AdmitsTake now o
@@ -396,7 +410,8 @@ all_puts devices held wanted o rest first = all_members IsPut rest each
     each : (c : Call) → Contains rest c → IsPut c
     each c member = put_or_before c (head_rank held wanted (Put o) rest first c (there (Put o) rest c member))
 
-calls_lead : (devices : Devices) (held wanted : Objects) → AreAllowed devices held → AreAllowed devices wanted → (now : Objects) (rest : List Call) → TakesAreLeft devices held wanted now rest → AreAdmitted devices now rest × (after_calls now rest ≡ wanted)
+calls_lead : (devices : Devices) (held wanted : Objects) → AreAllowed devices held → AreAllowed devices wanted → (now : Objects) (rest : List Call) → TakesAreLeft devices held wanted now rest → AreAdmitted devices now rest
+    × (after_calls now rest ≡ wanted)
 calls_lead devices held wanted from to now [] on = puts_lead devices held wanted to now [] tt (puts_are_left devices held wanted from now [] tt on)
 calls_lead devices held wanted from to now (Put o ∷ rest) on =
     let all : AllByRecursion IsPut (Put o ∷ rest) = (tt, all_puts devices held wanted o rest (first_before held wanted (Put o) rest on.sorted)) in

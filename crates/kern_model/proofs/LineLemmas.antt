@@ -167,7 +167,16 @@ numbers_plain false true m t p q = (word refl, (number m p, tt))
 numbers_plain false false m t p q = (word refl, (number m p, (word refl, (number t q, tt))))
 
 route_plain : (verb : List ℕ) (r : RouteObject) → Plain verb → IsRoute r → AllByRecursion Plain (route_words verb r)
-route_plain verb r v p = (word refl, (v, (prefix r.target p.target, via_plain r.via (codes "dev" ∷ r.dev ∷ numbers (r.metric == 0) (r.table == 254) r.metric r.table) p.via (word refl, (name r.dev p.named, numbers_plain (r.metric == 0) (r.table == 254) r.metric r.table p.metric p.table)))))
+route_plain verb r v p = (
+  word refl,
+  (
+    v,
+    (
+      prefix r.target p.target,
+      via_plain r.via (codes "dev" ∷ r.dev ∷ numbers (r.metric == 0) (r.table == 254) r.metric r.table) p.via (word refl, (name r.dev p.named, numbers_plain (r.metric == 0) (r.table == 254) r.metric r.table p.metric p.table)),
+    ),
+  ),
+)
 
 filtering_plain : (b : Bool) → AllByRecursion Plain (filtering_words b)
 filtering_plain true = (word refl, (word refl, (word refl, (word refl, tt))))
@@ -187,7 +196,13 @@ marks_plain false u s = untagged_plain u s
 
 put_plain : (o : Object) → IsPrintable o → AllByRecursion Plain (put_words o)
 put_plain (object.Link n (Bridge mac filtering)) p = (word refl, (word refl, (word refl, (name n p.0, own_plain mac (codes "type" ∷ codes "bridge" ∷ filtering_words filtering) (word refl, (word refl, filtering_plain filtering))))))
-put_plain (object.Link n (Vlan l i mac)) p = (word refl, (word refl, (word refl, (name l p.1, (word refl, (name n p.0, own_plain mac (codes "type" ∷ codes "vlan" ∷ codes "id" ∷ decimal i ∷ []) (word refl, (word refl, (word refl, (number i (let small = p.2 in omega arith), tt))))))))))
+put_plain (object.Link n (Vlan l i mac)) p = (
+  word refl,
+  (
+    word refl,
+    (word refl, (name l p.1, (word refl, (name n p.0, own_plain mac (codes "type" ∷ codes "vlan" ∷ codes "id" ∷ decimal i ∷ []) (word refl, (word refl, (word refl, (number i (let small = p.2 in omega arith), tt)))))))),
+  ),
+)
 put_plain (object.Mtu n mtu) p = (word refl, (word refl, (word refl, (name n p.0, (word refl, (number mtu p.1, tt))))))
 put_plain (object.Mac n mac) p = (word refl, (word refl, (word refl, (name n p.0, (word refl, (pairs mac.0, tt))))))
 put_plain (object.Master q b) p = (word refl, (word refl, (word refl, (name q p.0, (word refl, (name b p.1, tt))))))

@@ -11,7 +11,8 @@ after_colon b = codes ":" ++ hex_pair b
 more_pairs : (xs : List ℕ) (i : ℕ) → i < length xs → flat_map after_colon (take i xs) ++ after_colon (get_or xs i 0) ≡ flat_map after_colon (take (i + 1) xs)
 more_pairs xs i h = flat_map_more after_colon [] (take i xs) (get_or xs i 0) ∙ sym (ap (flat_map after_colon) (take_more xs i 0 h))
 
-pub one_more_pair : (start before with_colon after pair xs : List ℕ) (i : ℕ) → before ≡ start ++ flat_map after_colon (take i xs) → with_colon ≡ before ++ 58 ∷ [] → after ≡ with_colon ++ pair → pair ≡ hex_pair (get_or xs i 0) → i < length xs → after ≡ start ++ flat_map after_colon (take (i + 1) xs)
+pub one_more_pair : (start before with_colon after pair xs : List ℕ) (i : ℕ) → before ≡ start ++ flat_map after_colon (take i xs) → with_colon ≡ before ++ 58 ∷ [] → after ≡ with_colon ++ pair → pair ≡ hex_pair (get_or xs i 0)
+    → i < length xs → after ≡ start ++ flat_map after_colon (take (i + 1) xs)
 one_more_pair start before with_colon after pair xs i so_far colon digits is inside =
     let so_far_pairs = flat_map after_colon (take i xs) in
     digits ∙ ap (λ (z : List ℕ). z ++ pair) (colon ∙ ap (λ (z : List ℕ). z ++ 58 ∷ []) so_far)
@@ -20,7 +21,8 @@ one_more_pair start before with_colon after pair xs i so_far colon digits is ins
     ∙ ap (λ (z : List ℕ). start ++ (so_far_pairs ++ 58 ∷ z)) is
     ∙ ap (λ (z : List ℕ). start ++ z) (more_pairs xs i inside)
 
-pub all_pairs : (start before after first xs : List ℕ) (i : ℕ) → after ≡ before ++ flat_map after_colon (take i (take (length xs - 1) (drop 1 xs))) → before ≡ start ++ first → first ≡ hex_pair (get_or xs 0 0) → 1 ≤ length xs → length (take (length xs - 1) (drop 1 xs)) ≤ i → after ≡ start ++ pairs_text xs
+pub all_pairs : (start before after first xs : List ℕ) (i : ℕ) → after ≡ before ++ flat_map after_colon (take i (take (length xs - 1) (drop 1 xs))) → before ≡ start ++ first → first ≡ hex_pair (get_or xs 0 0) → 1 ≤ length xs
+    → length (take (length xs - 1) (drop 1 xs)) ≤ i → after ≡ start ++ pairs_text xs
 all_pairs start before after first [] i others one is some all = absurd (omega arith)
 all_pairs start before after first (x ∷ xs) i others one is some all =
     let rest : take (length (x ∷ xs) - 1) (drop 1 (x ∷ xs)) ≡ xs = take_rest (x ∷ xs) 1 in

@@ -108,7 +108,8 @@ over_cases objects base name h = elim (last_step (steps_of objects) base name h)
 ]
 
 -- heights
-pub is_under : (objects : Objects) (name vlan lower : List ℕ) (id : ℕ) (mac : Option Mac) → Has objects (object.Link vlan (Vlan lower id mac)) → is_over objects vlan name ≡ true → Has (set.retain objects (is_vlan_under objects name)) (object.Link vlan (Vlan lower id mac))
+pub is_under : (objects : Objects) (name vlan lower : List ℕ) (id : ℕ) (mac : Option Mac) → Has objects (object.Link vlan (Vlan lower id mac)) → is_over objects vlan name ≡ true
+    → Has (set.retain objects (is_vlan_under objects name)) (object.Link vlan (Vlan lower id mac))
 is_under objects name vlan lower id mac held over = has_retained objects (is_vlan_under objects name) (object.Link vlan (Vlan lower id mac)) held over
 
 pub height_within : (objects : Objects) (name : List ℕ) → height objects name ≤ set.len objects
@@ -119,7 +120,8 @@ still_under objects base name (object.Link vlan (Vlan lower id mac)) over h = ov
 still_under objects base name o over h = cc h
 
 -- a VLAN that is not under its own lower name is higher than each name under it
-pub higher : (objects : Objects) (base name lower : List ℕ) (id : ℕ) (mac : Option Mac) → Has objects (object.Link name (Vlan lower id mac)) → (is_over objects name lower ≡ true → ⊥) → is_over objects base lower ≡ true → height objects base + 1 ≤ height objects name
+pub higher : (objects : Objects) (base name lower : List ℕ) (id : ℕ) (mac : Option Mac) → Has objects (object.Link name (Vlan lower id mac)) → (is_over objects name lower ≡ true → ⊥) → is_over objects base lower ≡ true → height objects base
+    + 1 ≤ height objects name
 higher objects base name lower id mac held grounded over =
     let up = over_on objects base lower name over (over_lower objects name lower id mac held) in
     size_within_but (set.retain objects (is_vlan_under objects base)) (set.retain objects (is_vlan_under objects name)) (object.Link name (Vlan lower id mac))

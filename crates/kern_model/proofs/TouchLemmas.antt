@@ -185,7 +185,8 @@ module _ (held wanted : Objects) where
           | inr on ↦ taken_on (object.Route r) had (subst (λ n. (falls held wanted n || false) ≡ true) (sym at) on)
         ]
 
-    pub taken_upper : (name vlan : List ℕ) (id : ℕ) (mac : Option Mac) → is_taken held wanted (object.Up name) ≡ true → Has held (object.Link vlan (Vlan name id mac)) → Has held (object.Up vlan) → is_taken held wanted (object.Up vlan) ≡ true
+    pub taken_upper : (name vlan : List ℕ) (id : ℕ) (mac : Option Mac) → is_taken held wanted (object.Up name) ≡ true → Has held (object.Link vlan (Vlan name id mac)) → Has held (object.Up vlan) → is_taken held wanted (object.Up vlan)
+        ≡ true
     taken_upper name vlan id mac h link up =
         elim (touched_cases (object.Up name) (taken_held (object.Up name) h) (taken_touched (object.Up name) h)) as (λ _. is_taken held wanted (object.Up vlan) ≡ true) [
           | inl unwanted ↦ elim (true_or_not (set.contains wanted (object.Link vlan (Vlan name id mac)))) as (λ _. is_taken held wanted (object.Up vlan) ≡ true) [
@@ -202,11 +203,13 @@ module _ (held wanted : Objects) (devices : Devices) (from : AreAllowed devices 
       let support = from.supported (object.Master port bridge) had in
       support.plain (subst (IsBridge held) (sym same) support.made)
 
-  pub taken_vlan : (bridge port : List ℕ) (id : ℕ) (pvid untagged : Bool) → is_taken held wanted (object.Master port bridge) ≡ true → Has held (object.Vlan bridge port id pvid untagged) → is_taken held wanted (object.Vlan bridge port id pvid untagged) ≡ true
+  pub taken_vlan : (bridge port : List ℕ) (id : ℕ) (pvid untagged : Bool) → is_taken held wanted (object.Master port bridge) ≡ true → Has held (object.Vlan bridge port id pvid untagged)
+      → is_taken held wanted (object.Vlan bridge port id pvid untagged) ≡ true
   taken_vlan bridge port id pvid untagged h had =
       let vlan = object.Vlan bridge port id pvid untagged in
       let master = taken_held held wanted (object.Master port bridge) h in
       elim (touched_cases held wanted (object.Master port bridge) master (taken_touched held wanted (object.Master port bridge) h)) as (λ _. is_taken held wanted (object.Vlan bridge port id pvid untagged) ≡ true) [
-        | inl unwanted ↦ taken_unwanted held wanted vlan had (λ is. elim (to.supported (object.Vlan bridge port id pvid untagged) is).joined as (λ _. ⊥) [ inl itself ↦ not_itself port bridge master itself | inr joined ↦ unwanted joined ]) (λ r. r)
+        | inl unwanted ↦ taken_unwanted held wanted vlan had (λ is. elim (to.supported (object.Vlan bridge port id pvid untagged) is).joined as (λ _. ⊥) [ inl itself ↦ not_itself port bridge master itself | inr joined ↦ unwanted joined ])
+            (λ r. r)
         | inr on ↦ taken_on held wanted vlan had on
       ]

@@ -1,7 +1,8 @@
 -- The lines of calls, as `ip -batch` of iproute2 takes them (ip-link(8), ip-address(8),
 -- ip-route(8)). A name with `#`, `\` or a quote in it is printed as it is, though `ip -batch` reads
 -- these bytes in a way of its own.
-use Rattle.std.specs.Prelude.{◌≡◌, ◌<◌, ◌^◌, ◌/◌, ◌%◌, ◌==◌, if◌then◌else◌, List, [], ◌∷◌, ◌++◌, codes, decimal, ℕ, true, Bool, bytes_eq, ⊤, Option, Some, None}
+use Rattle.std.specs.Prelude.{◌≡◌, ◌<◌, ◌^◌, ◌/◌, ◌%◌, ◌==◌, if◌then◌else◌, List, [], ◌∷◌, ◌++◌, codes, decimal, ℕ}
+use Rattle.std.specs.Prelude.{true, Bool, bytes_eq, ⊤, Option, Some, None}
 use Rattle.std.specs.List.{join_by}
 use Rattle.std.specs.Char.{digit_char}
 use Rattle.net_addr.specs.declared.address.Addr.{Addr}

@@ -6,10 +6,14 @@ ghost use Rattle.std.specs.FinMap as map;
 ghost use Rattle.kern_model.specs.ObjectOrder.{set_of};
 ghost use Rattle.kern_model.specs.Kernel.{map_of, is_present, own_mtu, own_mac, Exists, MayHappen};
 ghost use Rattle.kern_model.specs.Admission.{Admits};
-ghost use Rattle.kern_model.specs.AdmissionTest.{is_link_of, is_bridge_of, is_filtering_of, is_vlan_with};
-ghost use Rattle.kern_model.specs.AdmissionTest.{is_master_of, is_vlan_on, is_pvid_on, is_vlan_of, is_at};
-ghost use Rattle.kern_model.specs.AdmissionTest.{is_among, lacks_lower, needs_up, exists, may_be_made};
-ghost use Rattle.kern_model.specs.AdmissionTest.{master_may_be_set, port_vlan_may_be_set, may_be_put};
+ghost use Rattle.kern_model.specs.AdmissionTest.{is_link_of, is_bridge_of, is_filtering_of};
+ghost use Rattle.kern_model.specs.AdmissionTest.{is_vlan_with};
+ghost use Rattle.kern_model.specs.AdmissionTest.{is_master_of, is_vlan_on, is_pvid_on, is_vlan_of};
+ghost use Rattle.kern_model.specs.AdmissionTest.{is_at};
+ghost use Rattle.kern_model.specs.AdmissionTest.{is_among, lacks_lower, needs_up, exists};
+ghost use Rattle.kern_model.specs.AdmissionTest.{may_be_made};
+ghost use Rattle.kern_model.specs.AdmissionTest.{master_may_be_set, port_vlan_may_be_set};
+ghost use Rattle.kern_model.specs.AdmissionTest.{may_be_put};
 ghost use Rattle.kern_model.specs.AdmissionTest.{may_be_taken, call_passes, event_passes};
 
 use crate::name::DevName;

@@ -16,7 +16,8 @@ pub trait Kernel {
     ghost use Rattle.kern_model.specs.declared.object.Call.{Call};
     ghost use Rattle.kern_model.specs.declared.kernel.Asked.{Asked};
     ghost use Rattle.kern_model.specs.ObjectOrder.{Objects};
-    ghost use Rattle.kern_model.specs.Kernel.{Devices, after_call, MayHappen, after_event, objects_after_event, Records};
+    ghost use Rattle.kern_model.specs.Kernel.{Devices, after_call, MayHappen, after_event};
+    ghost use Rattle.kern_model.specs.Kernel.{objects_after_event, Records};
     ghost use Rattle.kern_model.specs.Admission.{Admits};
 
     /// The objects that it holds.

@@ -2,8 +2,10 @@ ghost use Rattle.std.specs.Prelude.{◌≡◌, ◌↔◌, IsTrue, false};
 ghost use Rattle.std.specs.Ordering.{eq_by_cmp};
 ghost use Rattle.kern_model.specs.ObjectOrder.{object_cmp};
 ghost use Rattle.kern_model.specs.Kernel.{object_of, name_of, replaces};
-ghost use Rattle.kern_model.specs.AdmissionTest.{is_link_of, is_bridge_of, is_vlan_with, is_vlan_over, is_at};
-ghost use Rattle.kern_model.specs.AdmissionTest.{is_master_of, is_filtering_of, is_vlan_on, is_pvid_on, is_vlan_of};
+ghost use Rattle.kern_model.specs.AdmissionTest.{is_link_of, is_bridge_of, is_vlan_with};
+ghost use Rattle.kern_model.specs.AdmissionTest.{is_vlan_over, is_at};
+ghost use Rattle.kern_model.specs.AdmissionTest.{is_master_of, is_filtering_of, is_vlan_on};
+ghost use Rattle.kern_model.specs.AdmissionTest.{is_pvid_on, is_vlan_of};
 
 use crate::name::DevName;
 use net_addr::{Addr, Cidr};

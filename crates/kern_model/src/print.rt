@@ -1,4 +1,5 @@
-ghost use Rattle.std.specs.Prelude.{◌≡◌, ◌≤◌, ◌<◌, ◌+◌, ◌*◌, ◌++◌, take, length, codes, decimal, bytes_eq};
+ghost use Rattle.std.specs.Prelude.{◌≡◌, ◌≤◌, ◌<◌, ◌+◌, ◌*◌, ◌++◌, take, length, codes, decimal};
+ghost use Rattle.std.specs.Prelude.{bytes_eq};
 ghost use Rattle.net_addr.specs.Printed.{cidr_text};
 ghost use Rattle.kern_model.specs.Line.{line_of, put_line, take_line, route_line, vlan_line, flag};
 ghost use Rattle.kern_model.specs.Line.{hex_pair, pairs_text, own_address, gateway, unusual};

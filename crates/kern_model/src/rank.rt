@@ -39,8 +39,8 @@ impl Object {
 }
 
 impl Call {
-    /// The place of its kind in the order of calls: takes come from above to below, and then puts from
-    /// below to above.
+    /// The place of its kind in the order of calls: takes come from above to below, and then puts
+    /// from below to above.
     pub fn rank(&self) -> u8
         ensures { result ≡ rank self.now }
     {

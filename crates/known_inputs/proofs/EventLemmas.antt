@@ -69,7 +69,8 @@ kept_named : (conf : Conf) (commands : List Command) (name : List ℕ) → Conta
 kept_named conf [] name member = absurd (none_in_nil name member)
 kept_named conf (c ∷ cs) name member = by (is_some (interface_named conf c.interface)) refl member (kept_named conf cs name)
   where
-    by : (b : Bool) → is_some (interface_named conf c.interface) ≡ b → Contains (map (λ (x : Command). x.interface) (cond b (c ∷ kept_commands conf cs) (kept_commands conf cs))) name → (Contains (map (λ (x : Command). x.interface) (kept_commands conf cs)) name → IsNamed conf name) → IsNamed conf name
+    by : (b : Bool) → is_some (interface_named conf c.interface) ≡ b → Contains (map (λ (x : Command). x.interface) (cond b (c ∷ kept_commands conf cs) (kept_commands conf cs))) name
+        → (Contains (map (λ (x : Command). x.interface) (kept_commands conf cs)) name → IsNamed conf name) → IsNamed conf name
     by true is h rest = elim (first_or_later c.interface (map (λ (x : Command). x.interface) (kept_commands conf cs)) name h) as (λ _. IsNamed conf name) [
       | inl same ↦ subst (IsNamed conf) same is
       | inr later ↦ rest later

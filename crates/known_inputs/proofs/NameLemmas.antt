@@ -67,7 +67,8 @@ pub not_found : {X : Type 0} (key : X → List ℕ) (xs : List X) (name : List �
 not_found key [] name none = tt
 not_found key (x ∷ xs) name none = by (bytes_eq (key x) name) refl none (not_found key xs name)
   where
-    by : (b : Bool) → bytes_eq (key x) name ≡ b → cond b (Some x) (found_in key xs name) ≡ None → (found_in key xs name ≡ None → AllByRecursion (λ other. other ≢ name) (map key xs)) → AllByRecursion (λ other. other ≢ name) (key x ∷ map key xs)
+    by : (b : Bool) → bytes_eq (key x) name ≡ b → cond b (Some x) (found_in key xs name) ≡ None → (found_in key xs name ≡ None → AllByRecursion (λ other. other ≢ name) (map key xs))
+        → AllByRecursion (λ other. other ≢ name) (key x ∷ map key xs)
     by true is h rest = cc h
     by false is h rest = ((λ same. let hit = same_bytes (key x) name same in cc (is, hit)), rest h)
 
@@ -117,7 +118,8 @@ other_member : (name : List ℕ) (names : List (List ℕ)) (q : List ℕ) → Co
 other_member name [] q member = absurd (none_in_nil q member)
 other_member name (n ∷ ns) q member = by (bytes_eq name n) refl member (λ h. let rest = other_member name ns q h in (there n ns q rest.0, rest.1))
   where
-    by : (b : Bool) → bytes_eq name n ≡ b → Contains (cond (not b) (n ∷ without name ns) (without name ns)) q → (Contains (without name ns) q → (Contains (n ∷ ns) q) × (bytes_eq name q ≡ false)) → (Contains (n ∷ ns) q) × (bytes_eq name q ≡ false)
+    by : (b : Bool) → bytes_eq name n ≡ b → Contains (cond (not b) (n ∷ without name ns) (without name ns)) q → (Contains (without name ns) q → (Contains (n ∷ ns) q) × (bytes_eq name q ≡ false)) → (Contains (n ∷ ns) q)
+        × (bytes_eq name q ≡ false)
     by true is h later = later h
     by false is h later = elim (first_or_later n (without name ns) q h) as (λ _. (Contains (n ∷ ns) q) × (bytes_eq name q ≡ false)) [
       | inl same ↦ (subst (Contains (n ∷ ns)) same (here n ns), subst (λ k. bytes_eq name k ≡ false) same is)

@@ -83,7 +83,8 @@ module _ {X K : Type 0} (key : X → K) (q : K → Bool) (one : (a b : K) → q 
   only_from [] i k distinct at = cc at
   only_from (x ∷ xs) i k distinct at = by (q (key x)) refl at (only_from xs (i + 1) k distinct.1)
     where
-      by : (b : Bool) → q (key x) ≡ b → cond b (Some i) (position_from q (i + 1) (map key xs)) ≡ Some k → (position_from q (i + 1) (map key xs) ≡ Some k → (j : ℕ) × (k ≡ i + 1 + j) × OnlyAt (λ y. q (key y)) xs j) → (j : ℕ) × (k ≡ i + j) × OnlyAt (λ y. q (key y)) (x ∷ xs) j
+      by : (b : Bool) → q (key x) ≡ b → cond b (Some i) (position_from q (i + 1) (map key xs)) ≡ Some k → (position_from q (i + 1) (map key xs) ≡ Some k → (j : ℕ) × (k ≡ i + 1 + j) × OnlyAt (λ y. q (key y)) xs j) → (j : ℕ) × (k ≡ i + j)
+          × OnlyAt (λ y. q (key y)) (x ∷ xs) j
       by true is h more = let same : i ≡ k = cc h in (0, omega (arith, same), (is, no_others x xs is distinct.0))
       by false is h more = let later = more h in let place = later.1 in (suc later.0, omega (arith, place), (is, later.2))
 

@@ -49,7 +49,8 @@ stands_happened inputs what stand = record {
 }
 
 -- commands
-pub commands_of_rows : (conf : Conf) (commands : List Command) (interface : List ℕ) (up : Bool) → AreOfRows conf (map (λ c. c.interface) commands) → IsNamed conf interface → AreOfRows conf (map (λ c. c.interface) (commands_after commands interface up))
+pub commands_of_rows : (conf : Conf) (commands : List Command) (interface : List ℕ) (up : Bool) → AreOfRows conf (map (λ c. c.interface) commands) → IsNamed conf interface
+    → AreOfRows conf (map (λ c. c.interface) (commands_after commands interface up))
 commands_of_rows conf commands interface up are named =
     let key : Command → List ℕ = λ c. c.interface in
     of_rows_pushed conf key (filter (λ c. not (bytes_eq c.interface interface)) commands) (record { interface = interface; up = up })

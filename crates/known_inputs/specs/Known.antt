@@ -32,8 +32,8 @@ pub record AreOfRows (conf : Conf) (names : List (List ℕ)) : Type 0 where
   pub once : AreDistinct names
   pub named : (name : List ℕ) → Contains names name → IsNamed conf name
 
--- One device has a name. There is one command and one open ask for an interface at most, and none but for interfaces of the
--- rows. The asks stand by rising number, from 1 and below the next one, which is not 0.
+-- One device has a name. There is one command and one open ask for an interface at most, and none but for interfaces of
+-- the rows. The asks stand by rising number, from 1 and below the next one, which is not 0.
 pub record StandOnce (inputs : Inputs) : Type 0 where
   pub devices : AreDistinct (device_names inputs)
   pub commands : AreOfRows inputs.conf (commanded_names inputs)

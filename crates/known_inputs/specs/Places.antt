@@ -1,5 +1,6 @@
 -- What stands at a place of a list.
-use Rattle.std.specs.Prelude.{ℕ, zero, suc, ◌≡◌, ◌<◌, List, [], ◌∷◌, remove, slice_get, slice_set, Bool, true, false, Option, Some, None, IfSome, bytes_eq}
+use Rattle.std.specs.Prelude.{ℕ, zero, suc, ◌≡◌, ◌<◌, List, [], ◌∷◌, remove, slice_get, slice_set, Bool, true, false}
+use Rattle.std.specs.Prelude.{Option, Some, None, IfSome, bytes_eq}
 use Rattle.std.specs.List.{AllByRecursion}
 use Rattle.std.specs.Option.{option_map_or}
 use Rattle.kern_model.specs.declared.object.Device.{Device}

@@ -1,10 +1,12 @@
-ghost use Rattle.std.specs.Prelude.{◌≡◌, ◌<◌, ◌≤◌, ◌+◌, ◌^◌, None, length, slice_get, IfOk, IfSome, IfNone, OnOk, OnErr, vec_len, vec_capacity};
+ghost use Rattle.std.specs.Prelude.{◌≡◌, ◌<◌, ◌≤◌, ◌+◌, ◌^◌, None, length, slice_get, IfOk, IfSome};
+ghost use Rattle.std.specs.Prelude.{IfNone, OnOk, OnErr, vec_len, vec_capacity};
 ghost use Rattle.std.specs.Option.{option_copied};
 ghost use Rattle.net_rules.specs.declared.event.Event.TheVariants as events;
 ghost use Rattle.net_rules.specs.Inputs.{no_inputs, open_interface};
 ghost use Rattle.net_rules.specs.After.{changed};
 ghost use Rattle.known_inputs.specs.Known.{StandOnce, IsNamed, device_names};
-ghost use Rattle.known_inputs.specs.Steps.{name_of, place_of, HasDeviceRoom, has_number, ask_of, with_ask, without_ask};
+ghost use Rattle.known_inputs.specs.Steps.{name_of, place_of, HasDeviceRoom, has_number, ask_of};
+ghost use Rattle.known_inputs.specs.Steps.{with_ask, without_ask};
 ghost use Rattle.known_inputs.specs.Places.{NonePass, OnlyAt, is_ask_of, answered_at};
 
 use crate::copies::{copy_commands, copy_open_interfaces, copy_open_radios};
@@ -17,8 +19,8 @@ use plane_io::{Items, Memory, Text};
 use std::alloc::{AllocError, Global};
 use std::marker::Model;
 
-/// The inputs of a network, with room for a command and an open ask of each interface of the rows, and for as many devices as was
-/// asked for. What stands once in them always does.
+/// The inputs of a network, with room for a command and an open ask of each interface of the rows,
+/// and for as many devices as was asked for. What stands once in them always does.
 #[derive(Drop)]
 pub struct KnownInputs {
     conf: Conf,
@@ -60,7 +62,8 @@ impl KnownInputs {
     ///
     /// # Errors
     ///
-    /// `Memory` where there is not enough of it for a command and an ask of each interface of the rows.
+    /// `Memory` where there is not enough of it for a command and an ask of each interface of the
+    /// rows.
     pub fn from(inputs: Inputs) -> Result<KnownInputs, Memory>
         requires { StandOnce inputs }
         ensures { IfOk result (λ known. known.inputs ≡ inputs) }
@@ -191,8 +194,8 @@ impl KnownInputs {
         Ok(())
     }
 
-    /// A device comes, leaves, or is told of its carrier. Its place among the devices is given, where it has one; there has to be room
-    /// for one that comes. It takes no memory.
+    /// A device comes, leaves, or is told of its carrier. Its place among the devices is given,
+    /// where it has one; there has to be room for one that comes. It takes no memory.
     pub fn happen(&mut self, event: &DevEvent, place: Option<usize>)
         requires place { place ≡ place_of (device_names self.old.inputs) (name_of event.now) }
         requires room { HasDeviceRoom self.old event.now }
@@ -214,8 +217,8 @@ impl KnownInputs {
         self.commands.push_reserved(Command { interface, up });
     }
 
-    /// An answer takes the place of an earlier one to the ask of an interface that has this number. Where there is no such ask, all
-    /// stays. It takes no memory.
+    /// An answer takes the place of an earlier one to the ask of an interface that has this number.
+    /// Where there is no such ask, all stays. It takes no memory.
     pub fn answer(&mut self, interface: &Text, number: u64, answer: Answer)
         ensures { self.new ≡ record self.old {
           inputs = changed self.old.inputs (events.Answer interface.now number answer);
@@ -242,7 +245,8 @@ impl KnownInputs {
         }
     }
 
-    /// An ask is opened for an interface of the rows that has none, and gets the next number. It takes no memory.
+    /// An ask is opened for an interface of the rows that has none, and gets the next number. It
+    /// takes no memory.
     pub fn open(&mut self, ask: InterfaceAsk) -> u64
         requires new { open_interface self.old.inputs.interfaces ask.name ≡ None }
         requires named { IsNamed self.old.inputs.conf ask.name }

@@ -12,8 +12,8 @@ ghost use Rattle.net_rules.specs.Refusal.{refusal};
 ghost use Rattle.known_inputs.specs.Known.{AreOfRows, IsNamed, StandOnce, commanded_names};
 ghost use Rattle.known_inputs.specs.Steps.{ask_of};
 
-/// What stands once in inputs that events lead to: all does, where commands are for interfaces of the rows. An event that is not refused
-/// keeps that.
+/// What stands once in inputs that events lead to: all does, where commands are for interfaces of
+/// the rows. An event that is not refused keeps that.
 pub fn events_stand_once()
     ensures nothing { StandOnce no_inputs }
     ensures reached { (inputs : Inputs) → IsReached inputs
@@ -32,7 +32,8 @@ pub fn asks_are_found()
         → Contains inputs.interfaces o → open_interface inputs.interfaces o.ask.name ≡ Some o }
 {}
 
-/// Distinct names of interfaces of the rows are no more than the rows, and fewer where there is another interface.
+/// Distinct names of interfaces of the rows are no more than the rows, and fewer where there is
+/// another interface.
 pub fn names_of_rows_are_few()
     ensures most { (conf : Conf) (names : List (List ℕ)) → AreOfRows conf names
         → length names ≤ length conf.interfaces }

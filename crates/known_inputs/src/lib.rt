@@ -1,5 +1,5 @@
-//! The inputs of a network with room, changed in their place: devices, commands, answers and open asks move one by one and take no
-//! memory.
+//! The inputs of a network with room, changed in their place: devices, commands, answers and open
+//! asks move one by one and take no memory.
 #![tactic(auto)]
 
 mod copies;

@@ -1,4 +1,5 @@
-//! Scans of bytes that look at a load of vector lanes at a time, and at the bytes behind the last whole load one by one.
+//! Scans of bytes that look at a load of vector lanes at a time, and at the bytes behind the last
+//! whole load one by one.
 //!
 //! Each scan gives the answer of its plain definition at every length. None takes memory.
 #![tactic(auto)]
@@ -15,8 +16,8 @@ mod tests;
 use byte_test::{NotName, NotPrintable, Nul, Stop};
 use search::first_place;
 
-/// The length of the longest prefix that has none of the stops: the place of the first stop, or the length where there is
-/// none. Who has fewer than sixteen stops repeats one.
+/// The length of the longest prefix that has none of the stops: the place of the first stop, or the
+/// length where there is none. Who has fewer than sixteen stops repeats one.
 // Inlined, so that stops which are constants make a test of their own.
 #[inline(always)]
 pub fn plain_run(bytes: &[u8], stops: &[u8; 16]) -> usize

@@ -15,7 +15,8 @@ pub trait ByteTest {
     fn finds_byte(&self, byte: u8) -> bool
         ensures { result ≡ finds self.now byte };
 
-    /// A bit for each lane, of the first lane the lowest: it is set where the lane's byte is looked for.
+    /// A bit for each lane, of the first lane the lowest: it is set where the lane's byte is looked
+    /// for.
     fn marks(&self, lanes: u8x16) -> u64
         ensures { result ≡ mask_l (map (finds self.now) lanes) };
 }

@@ -2,7 +2,8 @@ use crate::{all_name, all_printable, first_nul, plain_run};
 
 const STOPS: [u8; 16] = *b" \t\r\x0b\x0c\n;#'\"\\\0    ";
 
-/// The first and the last place of each of two loads of lanes, the next, and the last place of the text.
+/// The first and the last place of each of two loads of lanes, the next, and the last place of the
+/// text.
 const PLACES: [usize; 6] = [0, 15, 16, 31, 32, 34];
 
 /// Each byte, whether it is a stop, of a name, printable.

@@ -37,7 +37,8 @@ pub present_port : (devices : List Entry) (name : List ℕ) (row : Bool) (entry 
 present_port devices name row entry is =
     sym (not_present name row) ∙ ap (λ (o : Option Entry). name_unless name row (is_some (option_map (λ (e : Entry). e.1) o))) is
 
-pub absent_port : (devices : List Entry) (name : List ℕ) (row : Bool) → ◌≡◌ {A = Option Entry} None (named (λ (e : Entry). e.0) devices name) → cond {A = Option (List ℕ)} row None (Some name) ≡ name_unless name row (is_some (device_in devices name))
+pub absent_port : (devices : List Entry) (name : List ℕ) (row : Bool) → ◌≡◌ {A = Option Entry} None (named (λ (e : Entry). e.0) devices name) → cond {A = Option (List ℕ)} row None (Some name)
+    ≡ name_unless name row (is_some (device_in devices name))
 absent_port devices name row is =
     no_more name row ∙ ap (λ (o : Option Entry). name_unless name row (is_some (option_map (λ (e : Entry). e.1) o))) is
 
@@ -59,7 +60,8 @@ named_there {X} key (y ∷ ys) x h = some_when y (named key ys (key x)) (bytes_e
     ])
 
 -- and what is found by a name has it
-named_by : {X : Type 0} (key : X → List ℕ) (y : X) (ys : List X) (q : List ℕ) (x : X) (b : Bool) → bytes_eq (key y) q ≡ b → (named key ys q ≡ Some x → Contains ys x × (key x ≡ q)) → cond b (Some y) (named key ys q) ≡ Some x → Contains (y ∷ ys) x × (key x ≡ q)
+named_by : {X : Type 0} (key : X → List ℕ) (y : X) (ys : List X) (q : List ℕ) (x : X) (b : Bool) → bytes_eq (key y) q ≡ b → (named key ys q ≡ Some x → Contains ys x × (key x ≡ q)) → cond b (Some y) (named key ys q) ≡ Some x
+    → Contains (y ∷ ys) x × (key x ≡ q)
 named_by key y ys q x true on rest is =
     let one : y ≡ x = cc is in
     (subst (Contains (y ∷ ys)) one (here y ys), ap key (sym one) ∙ bytes_same (key y) q on)
@@ -94,7 +96,8 @@ some_mapped f (Some x) = refl
 device_there : (devices : List Entry) (entry : Entry) → Contains devices entry → is_some (device_in devices entry.0) ≡ true
 device_there devices entry h = some_mapped (λ (e : Entry). e.1) (named (λ (e : Entry). e.0) devices entry.0) ∙ named_there (λ (e : Entry). e.0) devices entry h
 
-device_by : (devices : List Entry) (name : List ℕ) (found : Option Entry) → named (λ (e : Entry). e.0) devices name ≡ found → is_some (option_map (λ (e : Entry). e.1) found) ≡ true → (entry : Entry) × Contains devices entry × (entry.0 ≡ name)
+device_by : (devices : List Entry) (name : List ℕ) (found : Option Entry) → named (λ (e : Entry). e.0) devices name ≡ found → is_some (option_map (λ (e : Entry). e.1) found) ≡ true → (entry : Entry) × Contains devices entry
+    × (entry.0 ≡ name)
 device_by devices name None is some = absurd (cc some)
 device_by devices name (Some entry) is some =
     let its = named_is (λ (e : Entry). e.0) devices name entry is in

@@ -9,8 +9,8 @@ ghost use Rattle.net_rules.specs.Inputs.{device_in, facts_of};
 ghost use Rattle.graph_laws.specs.Knowing.{AreFurther};
 ghost use Rattle.load_parts.specs.Further.{further_names};
 
-/// Where one device has a name, the further names are names beside those of the rows. With these they have all present devices and all
-/// ports that radios give to bridges.
+/// Where one device has a name, the further names are names beside those of the rows. With these
+/// they have all present devices and all ports that radios give to bridges.
 pub fn further_names_are_those_that_lack()
     ensures further { (inputs : Inputs) → AreDistinct (map (λ e. e.0) inputs.devices)
         → AreFurther inputs.conf (further_names inputs) }

@@ -1,4 +1,5 @@
-//! What a load brings to a graph of devices beside its rows: further names, and the ports of radios.
+//! What a load brings to a graph of devices beside its rows: further names, and the ports of
+//! radios.
 #![tactic(auto)]
 
 mod laws;

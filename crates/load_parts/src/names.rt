@@ -1,5 +1,6 @@
 //! Names for a graph of devices beside those of the rows.
-ghost use Rattle.std.specs.Prelude.{◌≡◌, ◌++◌, ◌||◌, Some, None, option_to_list, is_some, if◌then◌else◌, IfOk, OnOk};
+ghost use Rattle.std.specs.Prelude.{◌≡◌, ◌++◌, ◌||◌, Some, None, option_to_list, is_some};
+ghost use Rattle.std.specs.Prelude.{if◌then◌else◌, IfOk, OnOk};
 ghost use Rattle.std.specs.List.{filter_map};
 ghost use Rattle.net_rules.specs.Inputs.{device_in};
 ghost use Rattle.net_view.specs.Index.{IsIndexOf};

@@ -1,5 +1,6 @@
 -- The text of a prefix: its address stands before the first slash, and its length behind it.
-use Rattle.std.proofs.Common.{◌≡◌, ◌≢◌, ℕ, ◌-◌, ◌^◌, ◌<◌, ◌≤◌, ◌==◌, Bool, true, false, List, [], ◌∷◌, ◌++◌, All, Some, None, length, get_or, take, drop, decimal, position, sym, ap, subst, ◌∙◌, refl, inl, inr, append_assoc, arith, take-append-drop, length-take-le, lt-ltb, one-add, ne_eqb}
+use Rattle.std.proofs.Common.{◌≡◌, ◌≢◌, ℕ, ◌-◌, ◌^◌, ◌<◌, ◌≤◌, ◌==◌, Bool, true, false, List, [], ◌∷◌, ◌++◌, All, Some, None, length, get_or, take, drop, decimal, position, sym, ap, subst, ◌∙◌, refl, inl, inr, append_assoc, arith}
+use Rattle.std.proofs.Common.{take-append-drop, length-take-le, lt-ltb, one-add, ne_eqb}
 use Rattle.std.specs.List.{position_or_len}
 use Rattle.std.specs.Str.Parse.{AllDigits, digits_value}
 use Rattle.std.specs.Char.{digit_value}

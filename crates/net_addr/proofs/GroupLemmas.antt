@@ -26,7 +26,8 @@ pub v6_text_short : (xs groups : List ℕ) → groups ≡ segments_of xs → (lo
 unfolding hex_groups_text
 v6_text_short xs groups same short = rw (← same, le-ltb 1 (longest_zero_run groups).1 short)
 
-pub v6_text_long : (xs groups : List ℕ) → groups ≡ segments_of xs → 1 < (longest_zero_run groups).1 → (groups_text (take (longest_zero_run groups).0 groups) ++ (58 ∷ 58 ∷ [])) ++ groups_text (take (length groups - ((longest_zero_run groups).0 + (longest_zero_run groups).1)) (drop ((longest_zero_run groups).0 + (longest_zero_run groups).1) groups)) ≡ v6_text xs
+pub v6_text_long : (xs groups : List ℕ) → groups ≡ segments_of xs → 1 < (longest_zero_run groups).1 → (groups_text (take (longest_zero_run groups).0 groups) ++ (58 ∷ 58 ∷ []))
+    ++ groups_text (take (length groups - ((longest_zero_run groups).0 + (longest_zero_run groups).1)) (drop ((longest_zero_run groups).0 + (longest_zero_run groups).1) groups)) ≡ v6_text xs
 unfolding hex_groups_text
 v6_text_long xs groups same long = rw (← same, lt-ltb 1 (longest_zero_run groups).1 long, take_rest groups ((longest_zero_run groups).0 + (longest_zero_run groups).1))
 

@@ -58,7 +58,8 @@ same_octets xs ys n h k same = ext_get_or 0 xs ys (h.count ∙ sym k.count) λ i
     let place : 7 - (8 * i + (7 - p)) % 8 ≡ p = omega arith in
     sym (moved xs i p octet place) ∙ same (8 * i + (7 - p)) ∙ moved ys i p octet place
 
-pub network_from_octets : (c : Addr × ℕ) (a b : Addr) (n : ℕ) → (a, n) ≡ c → bits b ≡ bits a → length (octets b) ≡ length (octets a) → ((i : ℕ) → i < length (octets a) → slice_index (octets b) i ≡ without_low_bits (8 - (n - 8 * i)) (slice_index (octets a) i)) → IsNetworkOf c (b, n)
+pub network_from_octets : (c : Addr × ℕ) (a b : Addr) (n : ℕ) → (a, n) ≡ c → bits b ≡ bits a → length (octets b) ≡ length (octets a)
+    → ((i : ℕ) → i < length (octets a) → slice_index (octets b) i ≡ without_low_bits (8 - (n - 8 * i)) (slice_index (octets a) i)) → IsNetworkOf c (b, n)
 network_from_octets c a b n same family count each =
     let P : Addr × ℕ → Type 0 = λ d. IsNetworkOf d (b, n) in
     subst P same (record {

@@ -1,4 +1,5 @@
-ghost use Rattle.std.specs.Prelude.{◌≡◌, ◌^◌, ◌<◌, ◌≤◌, ◌==◌, ℕ, length, position, IfErr, IfOk, IfSome, Ok, Some};
+ghost use Rattle.std.specs.Prelude.{◌≡◌, ◌^◌, ◌<◌, ◌≤◌, ◌==◌, ℕ, length, position, IfErr, IfOk};
+ghost use Rattle.std.specs.Prelude.{IfSome, Ok, Some};
 ghost use Rattle.net_addr.specs.Byte.{slash};
 ghost use Rattle.net_addr.specs.CidrSpelling.{IsRefusal, SpellsCidr, SpellsLength, SpellsSuffix};
 ghost use Rattle.net_addr.specs.CidrSpelling as CidrSpelling;

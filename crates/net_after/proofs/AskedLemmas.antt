@@ -23,17 +23,21 @@ same_filter : {X : Type 0} (p q : X → Bool) → ((x : X) → p x ≡ q x) → 
 same_filter p q same [] = refl
 same_filter p q same (x ∷ xs) = λ i. cond (same x i) (x ∷ same_filter p q same xs i) (same_filter p q same xs i)
 
-pub radios_left : (inputs : Inputs) (needs : List RadioAsk) (kept : List OpenRadio) → needs ≡ filter_map radio_need (radios_of inputs.conf) → kept ≡ filter (λ o. is_same_need same_radio_ask (named (λ ask. ask.name) needs o.ask.name) o.ask) inputs.radios → record inputs { radios = kept } ≡ radios_dropped inputs
+pub radios_left : (inputs : Inputs) (needs : List RadioAsk) (kept : List OpenRadio) → needs ≡ filter_map radio_need (radios_of inputs.conf) → kept
+    ≡ filter (λ o. is_same_need same_radio_ask (named (λ ask. ask.name) needs o.ask.name) o.ask) inputs.radios → record inputs { radios = kept } ≡ radios_dropped inputs
 radios_left inputs needs kept are is =
     let found : (name : List ℕ) → named (λ ask. ask.name) needs name ≡ radio_need_of inputs.conf name = λ name. ap (λ (z : List RadioAsk). named (λ ask. ask.name) z name) are ∙ radio_needs_found inputs.conf name in
     ap (λ (z : List OpenRadio). record inputs { radios = z })
-    (is ∙ same_filter (λ o. is_same_need same_radio_ask (named (λ ask. ask.name) needs o.ask.name) o.ask) (λ o. is_same_need same_radio_ask (radio_need_of inputs.conf o.ask.name) o.ask) (λ o. ap (λ need. is_same_need same_radio_ask need o.ask) (found o.ask.name)) inputs.radios)
+    (is ∙ same_filter (λ o. is_same_need same_radio_ask (named (λ ask. ask.name) needs o.ask.name) o.ask) (λ o. is_same_need same_radio_ask (radio_need_of inputs.conf o.ask.name) o.ask)
+    (λ o. ap (λ need. is_same_need same_radio_ask need o.ask) (found o.ask.name)) inputs.radios)
 
-pub interfaces_left : (inputs : Inputs) (needs : List InterfaceAsk) (kept : List OpenInterface) → needs ≡ filter_map (interface_need (facts_of inputs)) (interfaces_of inputs.conf) → kept ≡ filter (λ o. is_same_need same_interface_ask (named (λ ask. ask.name) needs o.ask.name) o.ask) inputs.interfaces → record inputs { interfaces = kept } ≡ interfaces_dropped inputs
+pub interfaces_left : (inputs : Inputs) (needs : List InterfaceAsk) (kept : List OpenInterface) → needs ≡ filter_map (interface_need (facts_of inputs)) (interfaces_of inputs.conf) → kept
+    ≡ filter (λ o. is_same_need same_interface_ask (named (λ ask. ask.name) needs o.ask.name) o.ask) inputs.interfaces → record inputs { interfaces = kept } ≡ interfaces_dropped inputs
 interfaces_left inputs needs kept are is =
     let found : (name : List ℕ) → named (λ ask. ask.name) needs name ≡ interface_need_of (facts_of inputs) name = λ name. ap (λ (z : List InterfaceAsk). named (λ ask. ask.name) z name) are ∙ interface_needs_found (facts_of inputs) name in
     ap (λ (z : List OpenInterface). record inputs { interfaces = z })
-    (is ∙ same_filter (λ o. is_same_need same_interface_ask (named (λ ask. ask.name) needs o.ask.name) o.ask) (λ o. is_same_need same_interface_ask (interface_need_of (facts_of inputs) o.ask.name) o.ask) (λ o. ap (λ need. is_same_need same_interface_ask need o.ask) (found o.ask.name)) inputs.interfaces)
+    (is ∙ same_filter (λ o. is_same_need same_interface_ask (named (λ ask. ask.name) needs o.ask.name) o.ask) (λ o. is_same_need same_interface_ask (interface_need_of (facts_of inputs) o.ask.name) o.ask)
+    (λ o. ap (λ need. is_same_need same_interface_ask need o.ask) (found o.ask.name)) inputs.interfaces)
 
 -- dropping asks of interfaces changes no need
 pub needs_stay : (inputs : Inputs) → filter_map (interface_need (facts_of inputs)) (interfaces_of inputs.conf) ≡ filter_map (interface_need (facts_of (interfaces_dropped inputs))) (interfaces_of (interfaces_dropped inputs).conf)
@@ -52,7 +56,8 @@ number_stays inputs (event.Radio radio number ports) = refl
 pub still_countable : (inputs now : Inputs) → now.next ≡ inputs.next → AreCountable inputs → AreCountable now
 still_countable inputs now same countable = record { below = subst (λ (n : ℕ). n < 2 ^ 63) (sym same) countable.below }
 
-pub needs_now : (dropped now : Inputs) (needs : List InterfaceAsk) → now ≡ interfaces_dropped dropped → needs ≡ filter_map (interface_need (facts_of dropped)) (interfaces_of dropped.conf) → needs ≡ filter_map (interface_need (facts_of now)) (interfaces_of now.conf)
+pub needs_now : (dropped now : Inputs) (needs : List InterfaceAsk) → now ≡ interfaces_dropped dropped → needs ≡ filter_map (interface_need (facts_of dropped)) (interfaces_of dropped.conf) → needs
+    ≡ filter_map (interface_need (facts_of now)) (interfaces_of now.conf)
 needs_now dropped now needs is are = are ∙ needs_stay dropped ∙ sym (ap (λ (z : Inputs). filter_map (interface_need (facts_of z)) (interfaces_of z.conf)) is)
 
 pub conf_now : (inputs dropped now : Inputs) → dropped ≡ radios_dropped inputs → now ≡ interfaces_dropped dropped → now.conf ≡ inputs.conf

@@ -10,7 +10,8 @@ use Rattle.net_view.specs.Places.{HasPlaces, is_place}
 use Rattle.net_view.proofs.PortLemmas.{firsts_more}
 
 -- what the firsts give, with one row more
-pub given_more : {X Y : Type 0} (key : X → List ℕ) (f : X → Option Y) (xs : List X) (places : BTreeMap (List ℕ) ℕ) (i : ℕ) (x : X) (old new : List Y) → HasPlaces places (map key xs) → i < length xs → x ≡ get_or xs i x → old ≡ filter_map f (firsts key (take i xs)) → new ≡ old ++ filter_map f (cond (is_place i (get (slice_cmp nat_cmp) places (key x))) (x ∷ []) []) → new ≡ filter_map f (firsts key (take (i + 1) xs))
+pub given_more : {X Y : Type 0} (key : X → List ℕ) (f : X → Option Y) (xs : List X) (places : BTreeMap (List ℕ) ℕ) (i : ℕ) (x : X) (old new : List Y) → HasPlaces places (map key xs) → i < length xs → x ≡ get_or xs i x → old
+    ≡ filter_map f (firsts key (take i xs)) → new ≡ old ++ filter_map f (cond (is_place i (get (slice_cmp nat_cmp) places (key x))) (x ∷ []) []) → new ≡ filter_map f (firsts key (take (i + 1) xs))
 given_more {X} {Y} key f xs places i x old new has within is sofar made =
     let one : List X = cond (is_place i (get (slice_cmp nat_cmp) places (key x))) (x ∷ []) [] in
     made

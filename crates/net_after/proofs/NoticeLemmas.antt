@@ -27,7 +27,9 @@ abbrev pub lost_of : List ℕ → List ℕ → List ℕ
 lost_of current numbers = filter (λ n. not (list_any (λ m. m == n) current)) numbers
 
 -- the three parts, one behind another
-pub told : (before now : Inputs) (numbers : List ℕ) (next : ℕ) (interfaces : List OpenInterface) (radios : List OpenRadio) (one two three : List Notice) → numbers ≡ numbers_of before → next ≡ before.next → interfaces ≡ now.interfaces → radios ≡ now.radios → one ≡ map notice.Dropped (ordered nat_cmp (lost_of (numbers_of now) numbers)) → two ≡ one ++ map (interface_notice now.conf) (filter (λ o. nat_le next o.number) interfaces) → three ≡ two ++ map (radio_notice now.conf) (filter (λ o. nat_le next o.number) radios) → three ≡ notices_between before now
+pub told : (before now : Inputs) (numbers : List ℕ) (next : ℕ) (interfaces : List OpenInterface) (radios : List OpenRadio) (one two three : List Notice) → numbers ≡ numbers_of before → next ≡ before.next → interfaces ≡ now.interfaces
+    → radios ≡ now.radios → one ≡ map notice.Dropped (ordered nat_cmp (lost_of (numbers_of now) numbers)) → two ≡ one ++ map (interface_notice now.conf) (filter (λ o. nat_le next o.number) interfaces) → three ≡ two
+    ++ map (radio_notice now.conf) (filter (λ o. nat_le next o.number) radios) → three ≡ notices_between before now
 told before now numbers next interfaces radios one two three same_numbers same_next same_interfaces same_radios first second third =
     let a : List Notice = map notice.Dropped (ordered nat_cmp (lost_of (numbers_of now) numbers)) in
     let b : List Notice = map (interface_notice now.conf) (filter (λ o. nat_le next o.number) interfaces) in

@@ -41,7 +41,8 @@ one_more false true = refl
 one_more false false = refl
 
 -- the set of one number more
-pub number_more : (numbers : List ℕ) (i number : ℕ) (old new : BTreeSet ℕ) → HasNumbers (take i numbers) old → i < length numbers → number ≡ get_or numbers i number → ((q : ℕ) → contains nat_cmp new q ≡ cond (is_eq (nat_cmp number q)) true (contains nat_cmp old q)) → HasNumbers (take (i + 1) numbers) new
+pub number_more : (numbers : List ℕ) (i number : ℕ) (old new : BTreeSet ℕ) → HasNumbers (take i numbers) old → i < length numbers → number ≡ get_or numbers i number
+    → ((q : ℕ) → contains nat_cmp new q ≡ cond (is_eq (nat_cmp number q)) true (contains nat_cmp old q)) → HasNumbers (take (i + 1) numbers) new
 number_more numbers i number old new has within is updates q =
     let more : take (i + 1) numbers ≡ take i numbers ++ number ∷ [] = take_more numbers i number within ∙ ap (λ z. take i numbers ++ z ∷ []) (sym is) in
     updates q
@@ -56,7 +57,9 @@ kept_at : (there : Bool) (number : ℕ) (rest : List ℕ) → cond there (ordere
 kept_at true number rest = refl
 kept_at false number rest = refl
 
-pub lost_more : (numbers before : List ℕ) (p number : ℕ) (current : BTreeSet ℕ) (there : Bool) (old new : List ℕ) → HasNumbers numbers current → drop (p - 1) before ≡ number ∷ drop p before → there ≡ contains nat_cmp current number → old ≡ ordered nat_cmp (filter (λ n. not (list_any (λ m. m == n) numbers)) (drop p before)) → new ≡ cond there old (insert_key nat_cmp old number) → new ≡ ordered nat_cmp (filter (λ n. not (list_any (λ m. m == n) numbers)) (drop (p - 1) before))
+pub lost_more : (numbers before : List ℕ) (p number : ℕ) (current : BTreeSet ℕ) (there : Bool) (old new : List ℕ) → HasNumbers numbers current → drop (p - 1) before ≡ number ∷ drop p before → there ≡ contains nat_cmp current number → old
+    ≡ ordered nat_cmp (filter (λ n. not (list_any (λ m. m == n) numbers)) (drop p before)) → new ≡ cond there old (insert_key nat_cmp old number) → new
+    ≡ ordered nat_cmp (filter (λ n. not (list_any (λ m. m == n) numbers)) (drop (p - 1) before))
 lost_more numbers before p number current there old new has more found sofar made =
     let lost : ℕ → Bool = λ n. not (list_any (λ m. m == n) numbers) in
     let rest : List ℕ = filter lost (drop p before) in

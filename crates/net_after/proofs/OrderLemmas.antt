@@ -31,7 +31,8 @@ options_back (o ∷ os) = ap (λ (z : List Opt). o ∷ z) (options_back os)
 abbrev pub at_name : List ℕ → List ℕ → Bool
 at_name name = is_at (slice_cmp nat_cmp name)
 
-absent_at : (r : Ordering) (o x : Opt) (xs later : List Opt) (inserted : List (List ℕ × Opt)) (found : Option Opt) → cond (is_at (λ (k : List ℕ). r) x.name) (Some x) found ≡ None → (found ≡ None → inserted ≡ named_options later) → match_ordering r ((o.name, o) ∷ named_options (x ∷ xs)) ((x.name, o) ∷ named_options xs) ((x.name, x) ∷ inserted) ≡ named_options (placed r o x xs later)
+absent_at : (r : Ordering) (o x : Opt) (xs later : List Opt) (inserted : List (List ℕ × Opt)) (found : Option Opt) → cond (is_at (λ (k : List ℕ). r) x.name) (Some x) found ≡ None → (found ≡ None → inserted ≡ named_options later)
+    → match_ordering r ((o.name, o) ∷ named_options (x ∷ xs)) ((x.name, o) ∷ named_options xs) ((x.name, x) ∷ inserted) ≡ named_options (placed r o x xs later)
 absent_at Less o x xs later inserted found none rest = refl
 absent_at Equal o x xs later inserted found none rest = cc none
 absent_at Greater o x xs later inserted found none rest = ap (λ (z : List (List ℕ × Opt)). (x.name, x) ∷ z) (rest none)
@@ -40,7 +41,8 @@ absent : (o : Opt) → (xs : List Opt) → lookup (at_name o.name) (named_option
 absent o [] none = refl
 absent o (x ∷ xs) none = absent_at (slice_cmp nat_cmp o.name x.name) o x xs (put_in option_cmp o xs) (insert_entry (slice_cmp nat_cmp) (named_options xs) o.name o) (lookup (at_name o.name) (named_options xs)) none (absent o xs)
 
-present_at : (r : Ordering) (o x : Opt) (xs later : List Opt) (found : Option Opt) → is_some (cond (is_at (λ (k : List ℕ). r) x.name) (Some x) found) ≡ true → (r ≡ Less → found ≡ None) → (is_some found ≡ true → later ≡ xs) → placed r o x xs later ≡ x ∷ xs
+present_at : (r : Ordering) (o x : Opt) (xs later : List Opt) (found : Option Opt) → is_some (cond (is_at (λ (k : List ℕ). r) x.name) (Some x) found) ≡ true → (r ≡ Less → found ≡ None) → (is_some found ≡ true → later ≡ xs)
+    → placed r o x xs later ≡ x ∷ xs
 present_at Less o x xs later found some below rest = let bad : false ≡ true = ap is_some (sym (below refl)) ∙ some in cc bad
 present_at Equal o x xs later found some below rest = refl
 present_at Greater o x xs later found some below rest = ap (λ (z : List Opt). x ∷ z) (rest some)
@@ -53,9 +55,11 @@ present o (x ∷ xs) sorted some =
     (present o xs (sorted_tail (slice_cmp nat_cmp) x.name (keys_of (named_options xs)) sorted))
 
 -- an option goes to its place among the later ones, or stays out where one of its name is there
-pub put_absent : (o : Opt) (later : List Opt) (old new : BTreeMap (List ℕ) Opt) (name : List ℕ) (copy : Opt) (there : Bool) → name ≡ o.name → copy ≡ o → IsByName later old → there ≡ is_some (get (slice_cmp nat_cmp) old o.name) → there ≡ false → new.entries ≡ insert_entry (slice_cmp nat_cmp) old.entries name copy → IsOrdered (slice_cmp nat_cmp) new → IsByName (put_in option_cmp o later) new
+pub put_absent : (o : Opt) (later : List Opt) (old new : BTreeMap (List ℕ) Opt) (name : List ℕ) (copy : Opt) (there : Bool) → name ≡ o.name → copy ≡ o → IsByName later old → there ≡ is_some (get (slice_cmp nat_cmp) old o.name) → there
+    ≡ false → new.entries ≡ insert_entry (slice_cmp nat_cmp) old.entries name copy → IsOrdered (slice_cmp nat_cmp) new → IsByName (put_in option_cmp o later) new
 put_absent o later old new name copy there named same is found away made ordered = record {
-  entries = made ∙ (λ i. insert_entry (slice_cmp nat_cmp) (is.entries i) (named i) (same i)) ∙ absent o later (none_of (lookup (at_name o.name) (named_options later)) (ap (λ (z : List (List ℕ × Opt)). is_some (lookup (at_name o.name) z)) (sym is.entries) ∙ sym found ∙ away));
+  entries = made ∙ (λ i. insert_entry (slice_cmp nat_cmp) (is.entries i) (named i) (same i))
+      ∙ absent o later (none_of (lookup (at_name o.name) (named_options later)) (ap (λ (z : List (List ℕ × Opt)). is_some (lookup (at_name o.name) z)) (sym is.entries) ∙ sym found ∙ away));
   ordered = ordered;
 }
   where

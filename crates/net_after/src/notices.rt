@@ -1,4 +1,5 @@
-ghost use Rattle.std.specs.Prelude.{◌≡◌, ◌++◌, ◌==◌, ℕ, List, map, filter, not, nat_le, if◌then◌else◌, unwrap_or, IfOk, OnOk};
+ghost use Rattle.std.specs.Prelude.{◌≡◌, ◌++◌, ◌==◌, ℕ, List, map, filter, not, nat_le};
+ghost use Rattle.std.specs.Prelude.{if◌then◌else◌, unwrap_or, IfOk, OnOk};
 ghost use Rattle.std.specs.List.{list_any};
 ghost use Rattle.std.specs.Ordering.{nat_cmp};
 ghost use Rattle.std.specs.BTreeSet.{contains, insert_key};
@@ -44,7 +45,8 @@ fn add_radio_numbers(numbers: &mut Items<u64>, current: &[OpenRadio]) -> Result<
     Ok(())
 }
 
-/// What is told of asks between two moments. Of the first one the numbers of its open asks are given, and its next number.
+/// What is told of asks between two moments. Of the first one the numbers of its open asks are
+/// given, and its next number.
 pub fn notices_between(
     alloc: Global,
     numbers: &[u64],

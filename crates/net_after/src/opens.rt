@@ -1,4 +1,5 @@
-ghost use Rattle.std.specs.Prelude.{◌≡◌, ◌+◌, ◌++◌, ◌^◌, ◌<◌, ◌≤◌, map, length, filter, is_none, IfOk};
+ghost use Rattle.std.specs.Prelude.{◌≡◌, ◌+◌, ◌++◌, ◌^◌, ◌<◌, ◌≤◌, map, length, filter, is_none};
+ghost use Rattle.std.specs.Prelude.{IfOk};
 ghost use Rattle.std.specs.List.{filter_map};
 ghost use Rattle.net_rules.specs.Rows.{interfaces_of, radios_of};
 ghost use Rattle.net_rules.specs.Need as need;
@@ -13,7 +14,8 @@ use plane_io::{Items, Memory, Text};
 use std::alloc::Global;
 use std::collections::BTreeMap;
 
-/// The inputs where each of these needs has an ask: one that had none gets the next number, interfaces first.
+/// The inputs where each of these needs has an ask: one that had none gets the next number,
+/// interfaces first.
 pub fn asks_opened(
     alloc: Global,
     inputs: Inputs,

@@ -26,7 +26,8 @@ pub fn same_radio_ask(a: &RadioAsk, b: &RadioAsk) -> bool
 }
 
 fn same_rows(rows: &[WifiAsk], others: &[WifiAsk]) -> bool
-    ensures { result ≡ pointwise (λ x y. spec.same_options x.options y.options) rows.now others.now }
+    ensures { result ≡ pointwise (λ x y. spec.same_options x.options y.options) rows.now
+        others.now }
 {
     if rows.len() != others.len() {
         return false;

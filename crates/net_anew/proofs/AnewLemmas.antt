@@ -60,8 +60,10 @@ module _ (f : Follower) (event : Event) (made : Anew) (now : Inputs) (known : ma
   of_known : (P : Inputs → Type 0) → P now → P made.inputs.inputs
   of_known P p = subst P (sym known) p
 
-  pub is_anew : made.notices.items ≡ notices_between (inputs_of f) now → IsTied now made.states → AreIdle made.states.list.items → gift.held_of made.gifts ≡ gift.held_of f.settling.gifts → ((o : Object) → givers_of made.gifts o ≡ 0) → HasGiftRoom now made.gifts
-      → made.plain.items ≡ further_names now → map port_of made.ports.items ≡ radio_ports (facts_of now) → now.next ≤ 2 ^ 63 → length now.conf.interfaces ≤ vec_capacity made.touched → 2 * length now.conf.interfaces ≤ deque_capacity made.notices → AreFewRows now.conf → IsAnewOf f event made
+  pub is_anew : made.notices.items ≡ notices_between (inputs_of f) now → IsTied now made.states → AreIdle made.states.list.items → gift.held_of made.gifts ≡ gift.held_of f.settling.gifts → ((o : Object) → givers_of made.gifts o ≡ 0)
+      → HasGiftRoom now made.gifts
+      → made.plain.items ≡ further_names now → map port_of made.ports.items ≡ radio_ports (facts_of now) → now.next ≤ 2 ^ 63 → length now.conf.interfaces ≤ vec_capacity made.touched
+      → 2 * length now.conf.interfaces ≤ deque_capacity made.notices → AreFewRows now.conf → IsAnewOf f event made
   is_anew told tied idle held none places further ports next touched room few = record {
     inputs = known ∙ is;
     told = told ∙ ap (notices_between (inputs_of f)) is;

@@ -1,5 +1,6 @@
 -- What a row gives, as it is listed, and room for it.
-use Rattle.std.proofs.Common.{arith, ◌≡◌, ◌≤◌, ◌<◌, ◌+◌, ◌++◌, ◌^◌, inl, inr, ℕ, List, [], ◌∷◌, map, filter, length, take, get_or, slice_get, Contains, Bool, true, false, cond, Option, Some, None, Result, Ok, Err, OnOk, refl, ap, sym, subst, ◌∙◌}
+use Rattle.std.proofs.Common.{arith, ◌≡◌, ◌≤◌, ◌<◌, ◌+◌, ◌++◌, ◌^◌, inl, inr, ℕ, List, [], ◌∷◌, map, filter, length, take, get_or, slice_get, Contains, Bool, true, false, cond, Option, Some, None, Result, Ok, Err, OnOk, refl, ap, sym}
+use Rattle.std.proofs.Common.{subst, ◌∙◌}
 use Rattle.std.specs.List.{filter_map}
 use Rattle.std.specs.Prelude.{if◌then◌else◌, nat_le, ◌&&◌}
 use Rattle.std.proofs.lemmas.Bool.Decides.{nat_tests}
@@ -89,7 +90,8 @@ no_row_room inputs rows gs none = record {
   more = none_more gs gs refl;
 }
 
-pub row_room_more : (inputs : Inputs) (rows : List InterfaceRow) (start before now : Gifts) (i : ℕ) (row : InterfaceRow) → i < length rows → row ≡ get_or rows i row → HaveRoom inputs (take i rows) start before → HasRowRoom inputs row now → HasMorePlaces before now → HaveRoom inputs (take (i + 1) rows) start now
+pub row_room_more : (inputs : Inputs) (rows : List InterfaceRow) (start before now : Gifts) (i : ℕ) (row : InterfaceRow) → i < length rows → row ≡ get_or rows i row → HaveRoom inputs (take i rows) start before → HasRowRoom inputs row now
+    → HasMorePlaces before now → HaveRoom inputs (take (i + 1) rows) start now
 row_room_more inputs rows start before now i row within read so_far room more = record {
   each = λ other member. elim (Contains-append_cases (take i rows) (row ∷ []) other (subst (λ (xs : List InterfaceRow). Contains xs other) (more_is rows i row within read) member)) as (λ _. HasRowRoom inputs other now) [
     | inl old ↦ room_stays inputs other before now more (so_far.each other old)
@@ -135,7 +137,8 @@ none_expected gs alone made is more o =
 
 -- ---- few, as it was computed
 
-pub few_by : (row : InterfaceRow) (answer : Option Answer) (a b : Bool) → ((dev : List ℕ) → a ≡ nat_le (length (of_options row dev)) (2 ^ 49)) → ((dev : List ℕ) → b ≡ nat_le (length (of_answer dev answer)) (2 ^ 49)) → (a && b) ≡ true → GivesFew row answer
+pub few_by : (row : InterfaceRow) (answer : Option Answer) (a b : Bool) → ((dev : List ℕ) → a ≡ nat_le (length (of_options row dev)) (2 ^ 49)) → ((dev : List ℕ) → b ≡ nat_le (length (of_answer dev answer)) (2 ^ 49)) → (a && b) ≡ true
+    → GivesFew row answer
 few_by row answer true true first second both = record {
   options = λ dev. let is : nat_le (length (of_options row dev)) (2 ^ 49) ≡ true = sym (first dev) in grind (arith, nat_tests, is);
   answered = λ dev. let is : nat_le (length (of_answer dev answer)) (2 ^ 49) ≡ true = sym (second dev) in grind (arith, nat_tests, is);

@@ -38,7 +38,8 @@ idle_gives facts (row ∷ rows) (st ∷ sts) idle =
     ∙ idle_gives facts rows sts (λ place other at. idle (suc place) other at)
 
 -- nothing is claimed and given, as is counted over them
-pub counted_idle : (inputs : Inputs) (states : List InterfaceState) (c : Course) → AgreesWith inputs c.graph.known → ((name : List ℕ) → claims_in c.graph.known name ≡ 0) → ((o : Object) → givers_of c.gifts o ≡ 0) → HasGiftRoom inputs c.gifts → AreIdle states → IsCountedBy inputs states c
+pub counted_idle : (inputs : Inputs) (states : List InterfaceState) (c : Course) → AgreesWith inputs c.graph.known → ((name : List ℕ) → claims_in c.graph.known name ≡ 0) → ((o : Object) → givers_of c.gifts o ≡ 0)
+    → HasGiftRoom inputs c.gifts → AreIdle states → IsCountedBy inputs states c
 counted_idle inputs states c agrees claims givers room idle = record {
   agrees = agrees;
   counted = record {

@@ -52,7 +52,8 @@ module _ (f : Follower) (made : Anew) (step : IsInStep f) (anew : IsAnewOf f (ev
       (IsHistory.came (record { inputs = inputs_of f; held = held_of f.settling }) (event.Load made.inputs.inputs.conf) step.history sound)
 
   -- one load more
-  pub has_loaded : (now : Follower) → inputs_of now ≡ made.inputs.inputs → now.notices.items ≡ made.notices.items → held_of now.settling ≡ held_of f.settling → now.settling.graph.loads ≡ loaded.loads → HasBegun (event.Load made.inputs.inputs.conf) 1 f now
+  pub has_loaded : (now : Follower) → inputs_of now ≡ made.inputs.inputs → now.notices.items ≡ made.notices.items → held_of now.settling ≡ held_of f.settling → now.settling.graph.loads ≡ loaded.loads
+      → HasBegun (event.Load made.inputs.inputs.conf) 1 f now
   has_loaded now inputs told held loads = record {
     inputs = inputs ∙ anew.inputs;
     held = held;

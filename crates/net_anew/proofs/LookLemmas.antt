@@ -44,7 +44,8 @@ module _ (s : State) where
   looked_givers [] o = refl
   looked_givers (x ∷ xs) o = by (is_of o x) (looked_givers xs o)
     where
-      by : (b : Bool) → givers_of (all_looked_at s xs) o ≡ givers_of xs o → option_map_or (λ (g : Gift). g.givers) (cond b (Some (looked_at s x)) (gift_of (all_looked_at s xs) o)) 0 ≡ option_map_or (λ (g : Gift). g.givers) (cond b (Some x) (gift_of xs o)) 0
+      by : (b : Bool) → givers_of (all_looked_at s xs) o ≡ givers_of xs o → option_map_or (λ (g : Gift). g.givers) (cond b (Some (looked_at s x)) (gift_of (all_looked_at s xs) o)) 0
+          ≡ option_map_or (λ (g : Gift). g.givers) (cond b (Some x) (gift_of xs o)) 0
       by true rest = refl
       by false rest = rest
 

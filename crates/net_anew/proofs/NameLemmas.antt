@@ -80,7 +80,8 @@ none_joined s names none = record {
   known = λ name member. absurd (none_in_nil name (subst (λ (xs : List (List ℕ)). Contains xs name) none member));
 }
 
-pub one_joined : (before between now : State) (names : List (List ℕ)) (i : ℕ) (name : List ℕ) → i < length names → name ≡ get_or names i name → KnowsAll before (take i names) between → HasMoreNames between now → Contains (names_in now.known) name → KnowsAll before (take (i + 1) names) now
+pub one_joined : (before between now : State) (names : List (List ℕ)) (i : ℕ) (name : List ℕ) → i < length names → name ≡ get_or names i name → KnowsAll before (take i names) between → HasMoreNames between now
+    → Contains (names_in now.known) name → KnowsAll before (take (i + 1) names) now
 one_joined before between now names i name within read joined more known = record {
   more = more_joins before between now joined.more more;
   known = λ q member. elim (Contains-append_cases (take i names) (name ∷ []) q (subst (λ (xs : List (List ℕ)). Contains xs q) (more_is names i name within read) member)) as (λ _. Contains (names_in now.known) q) [
@@ -101,7 +102,8 @@ all_known before now names taken all knows name member = knows.known name (subst
 
 -- ---- and then ports
 
-pub joined_ok : {X E : Type 0} (r : Result X E) (before named now : State) (names : List (List ℕ)) (ports told : List RadioPort) → KnowsAll before names named → told ≡ ports → OnOk r (now ≡ ports_after named told) → OnOk r (HasJoined before names ports now)
+pub joined_ok : {X E : Type 0} (r : Result X E) (before named now : State) (names : List (List ℕ)) (ports told : List RadioPort) → KnowsAll before names named → told ≡ ports → OnOk r (now ≡ ports_after named told)
+    → OnOk r (HasJoined before names ports now)
 joined_ok (Ok x) before named now names ports told knows same is = record { named = named; knows = knows; is = is ∙ ap (ports_after named) same }
 joined_ok (Err e) before named now names ports told knows same is = tt
 

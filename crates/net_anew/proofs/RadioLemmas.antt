@@ -146,7 +146,8 @@ module _ (f : Follower) (now : State) (step : IsInStep f) (whole : IsWhole f.set
         (IsHistory.came (record { inputs = inputs_of f; held = held_of named.settling }) (event.Radio radio number ports) step_named.history tt)
 
     -- no load more
-    pub has_joined : (next : Follower) → inputs_of next ≡ made.inputs.inputs → next.notices.items ≡ made.notices.items → held_of next.settling ≡ held_of named.settling → next.settling.graph.loads ≡ now.loads → HasBegun (event.Radio radio number ports) 0 f next
+    pub has_joined : (next : Follower) → inputs_of next ≡ made.inputs.inputs → next.notices.items ≡ made.notices.items → held_of next.settling ≡ held_of named.settling → next.settling.graph.loads ≡ now.loads
+        → HasBegun (event.Radio radio number ports) 0 f next
     has_joined next inputs told held loads = record {
       inputs = inputs ∙ anew.inputs;
       held = held ∙ held_named;

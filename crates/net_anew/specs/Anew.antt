@@ -24,9 +24,9 @@ pub record AreFewRows (conf : Conf) : Type 0 where
   pub interfaces : length conf.interfaces ≤ 1024
   pub routes : length conf.routes ≤ 2 ^ 49
 
--- The inputs are those after an event, and what is to be told of it is. Interfaces neither claim nor give anything yet; the same is held,
--- and there is a place for what each may come to give. The names and ports are those that the graph gets beside the rows. There is room
--- for the next event.
+-- The inputs are those after an event, and what is to be told of it is. Interfaces neither claim nor give anything yet;
+-- the same is held, and there is a place for what each may come to give. The names and ports are those that the graph
+-- gets beside the rows. There is room for the next event.
 pub record IsAnewOf (f : Follower) (event : Event) (made : Anew) : Type 0 where
   pub inputs : made.inputs.inputs ≡ after (inputs_of f) event
   pub told : made.notices.items ≡ notices (inputs_of f) event

@@ -7,7 +7,8 @@ use Rattle.net_follow.specs.Course.{held_of}
 use Rattle.net_follow.specs.declared.follower.Follower.{Follower}
 use Rattle.net_follow.specs.InStep.{inputs_of}
 
--- An event that leaves what is held: the inputs are those after it, what is to be told of it is, and there were so many loads more.
+-- An event that leaves what is held: the inputs are those after it, what is to be told of it is, and there were so many
+-- loads more.
 pub record HasBegun (event : Event) (more : ℕ) (before now : Follower) : Type 0 where
   pub inputs : inputs_of now ≡ after (inputs_of before) event
   pub held : held_of now.settling ≡ held_of before.settling

@@ -15,7 +15,8 @@ pub record GivesFew (row : InterfaceRow) (answer : Option Answer) : Type 0 where
   pub options : (dev : List ℕ) → length (of_options row dev) ≤ 2 ^ 49
   pub answered : (dev : List ℕ) → length (of_answer dev answer) ≤ 2 ^ 49
 
--- There is a place for what a row gives on its layer-3 device, where it needs no further answer for that. What it gives is few.
+-- There is a place for what a row gives on its layer-3 device, where it needs no further answer for that. What it gives
+-- is few.
 pub record HasRowRoom (inputs : Inputs) (row : InterfaceRow) (gs : Gifts) : Type 0 where
   pub places : needs_no_answer (facts_of inputs) row ≡ true
       → HavePlaces gs (given_by (facts_of inputs) row (layer_of (facts_of inputs) row))

@@ -20,8 +20,8 @@ use plane_io::Memory;
 use std::alloc::Global;
 use std::collections::VecDeque;
 
-/// What is kept beside the graph after an event: nobody gives anything, no interface is claimed or up, and there is room for all that
-/// follows.
+/// What is kept beside the graph after an event: nobody gives anything, no interface is claimed or
+/// up, and there is room for all that follows.
 #[derive(Drop)]
 pub struct Anew {
     pub inputs: KnownInputs,
@@ -40,8 +40,8 @@ impl Anew {
     ///
     /// # Errors
     ///
-    /// `Memory` where there is not enough of it, where numbers of asks run out, or where an interface gives more than 2^49 objects by its
-    /// options or by its answer.
+    /// `Memory` where there is not enough of it, where numbers of asks run out, or where an
+    /// interface gives more than 2^49 objects by its options or by its answer.
     pub fn of(alloc: Global, follower: &Follower, event: Event) -> Result<Anew, Memory>
         requires step { IsInStep follower.now }
         requires free { refusal (record {

@@ -20,8 +20,9 @@ use net_follow::{Follower, GraphSettling, forget_claims};
 use std::sync::ledger::{Blank, Ledger};
 use use_counts::Steps;
 
-/// What was made anew takes the place of what was kept, beside a graph that has its rows, ports and devices already. Then all interfaces
-/// become what they are, and each gift is told whether its name falls. It takes no memory.
+/// What was made anew takes the place of what was kept, beside a graph that has its rows, ports and
+/// devices already. Then all interfaces become what they are, and each gift is told whether its
+/// name falls. It takes no memory.
 pub(crate) fn begin<L: Ledger>(follower: &mut Follower, made: Anew, blank: Blank)
     requires name { blank.name ≡ L.name }
     requires parts { blank.parts ≡ L.parts }
@@ -80,8 +81,8 @@ fn replace(follower: &mut Follower, made: Anew)
     follower.notices = notices;
 }
 
-// Each gift is told whether its name falls. So what is held and wanted is ready to be settled, where it is counted over what interfaces
-// are.
+// Each gift is told whether its name falls. So what is held and wanted is ready to be settled,
+// where it is counted over what interfaces are.
 fn look(settling: &mut GraphSettling)
     requires { HoldsLower settling.old.graph }
     ensures graph { settling.new.graph ≡ settling.old.graph }

@@ -26,7 +26,8 @@ use net_view::{Levels, asks_nothing};
 use plane_io::Memory;
 use std::alloc::Global;
 
-/// What is held of gifts, and nobody gives it, with a place for all that interfaces may come to give.
+/// What is held of gifts, and nobody gives it, with a place for all that interfaces may come to
+/// give.
 pub(crate) fn expected(
     alloc: Global,
     gifts: &GivenObjects,
@@ -68,7 +69,8 @@ fn expect_all(
     Ok(())
 }
 
-// Places for what the interface of a row gives once it is up, where it needs no further answer for that.
+// Places for what the interface of a row gives once it is up, where it needs no further answer for
+// that.
 fn expect_row(
     gifts: &mut GivenObjects,
     inputs: &Inputs,
@@ -113,7 +115,8 @@ fn tells_few(answer: Option<&Answer>) -> bool
 
 // Whether an interface may come to be up without a further answer.
 fn needs_no_answer(row: &InterfaceRow, answer: Option<&Answer>) -> bool
-    ensures { (inputs : Inputs) → option_copied answer.entry ≡ interfaces.answer_of (facts_of inputs) row.now
+    ensures { (inputs : Inputs) → option_copied answer.entry
+        ≡ interfaces.answer_of (facts_of inputs) row.now
         → result ≡ counted.needs_no_answer (facts_of inputs) row.now }
 {
     asks_nothing(&row.proto) | answer.is_some()

@@ -1,5 +1,5 @@
-//! Loads and answers of radios: all but the graph of devices is made anew, all memory is taken before, and then interfaces become what they
-//! are in one round.
+//! Loads and answers of radios: all but the graph of devices is made anew, all memory is taken
+//! before, and then interfaces become what they are in one round.
 #![tactic(auto)]
 
 mod anew;

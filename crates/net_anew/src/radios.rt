@@ -18,11 +18,13 @@ use std::alloc::Global;
 use std::marker::Brand;
 use std::sync::ledger::{Blank, Ledger};
 
-/// A radio answered, and all but the graph was made anew. Names that the graph does not know join it, and then it has the ports.
+/// A radio answered, and all but the graph was made anew. Names that the graph does not know join
+/// it, and then it has the ports.
 ///
 /// # Errors
 ///
-/// `Memory` where there is not enough of it for the graph. Then that may know some plain names more, which changes nothing.
+/// `Memory` where there is not enough of it for the graph. Then that may know some plain names
+/// more, which changes nothing.
 pub fn join_ports(alloc: Global, follower: &mut Follower, made: Anew) -> Result<(), Memory>
     requires step { IsInStep follower.old }
     requires anew { (radio : List ℕ) × (number : ℕ) × (ports : List (Option (List ℕ)))

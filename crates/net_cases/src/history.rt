@@ -42,7 +42,8 @@ fn write_end(out: &mut String, ended: Result<(), NetError>) -> anyhow::Result<()
     Ok(())
 }
 
-/// Carries an event out and settles: the lines of the calls, those of the notices, and how it ended.
+/// Carries an event out and settles: the lines of the calls, those of the notices, and how it
+/// ended.
 fn event<K: Kernel>(
     alloc: Global,
     bench: &Bench,

@@ -90,8 +90,8 @@ fn has_same_objects(one: &[Object], other: &[Object]) -> bool {
     one.len() == other.len() && one.iter().all(|object| is_among(other, object))
 }
 
-/// In how many of the runs up to this number, each with the call or the event of its number failing once, the kernel holds the same
-/// in the end as without a failure.
+/// In how many of the runs up to this number, each with the call or the event of its number failing
+/// once, the kernel holds the same in the end as without a failure.
 pub(crate) fn sweep(
     alloc: Global,
     bench: &Bench,

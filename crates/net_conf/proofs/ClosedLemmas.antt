@@ -32,7 +32,8 @@ read_is name Absent h = cc h
 read_is name Unread h = cc h
 read_is name (Read other) h = ap Read (bytes_same other name h)
 
-in_front : (b : Bool) (first section : DeviceSection) (others : List Said) (name : List ℕ) → is_read name first.name ≡ b → (section_of others name ≡ Some section → IsSectionOf others name section) → cond {A = Option DeviceSection} b (Some first) (section_of others name) ≡ Some section → IsSectionOf (Device first ∷ others) name section
+in_front : (b : Bool) (first section : DeviceSection) (others : List Said) (name : List ℕ) → is_read name first.name ≡ b → (section_of others name ≡ Some section → IsSectionOf others name section)
+    → cond {A = Option DeviceSection} b (Some first) (section_of others name) ≡ Some section → IsSectionOf (Device first ∷ others) name section
 in_front true first section others name is rest h =
     let same : first ≡ section = cc h in
     record { member = subst (λ (z : DeviceSection). Contains (Device first ∷ others) (Device z)) same (here (Device first) others); named = ap (λ (z : DeviceSection). z.name) (sym same) ∙ read_is name first.name is }

@@ -36,18 +36,21 @@ count_of_names network wireless = length-rows_behind (all_said (modern network).
 pub interfaces_over : (network wireless : Package) (interfaces : List InterfaceRow) → interfaces ≡ interface_rows (modern network).sections → MOST_INTERFACES < length interfaces → passed_limit (conf network wireless) ≡ Some MOST_INTERFACES
 interfaces_over network wireless interfaces are passed = over MOST_INTERFACES (length (interface_rows (modern network).sections)) _ (subst (λ (z : List InterfaceRow). MOST_INTERFACES < length z) are passed)
 
-past_interfaces : (network wireless : Package) (interfaces : List InterfaceRow) → interfaces ≡ interface_rows (modern network).sections → length interfaces ≤ MOST_INTERFACES → passed_limit (conf network wireless) ≡ over_or MOST_NAMES (length (conf network wireless).names) (later_limit (conf network wireless))
+past_interfaces : (network wireless : Package) (interfaces : List InterfaceRow) → interfaces ≡ interface_rows (modern network).sections → length interfaces ≤ MOST_INTERFACES → passed_limit (conf network wireless)
+    ≡ over_or MOST_NAMES (length (conf network wireless).names) (later_limit (conf network wireless))
 past_interfaces network wireless interfaces are small = within MOST_INTERFACES (length (interface_rows (modern network).sections)) _ (subst (λ (z : List InterfaceRow). length z ≤ MOST_INTERFACES) are small)
 
 -- too many names
-pub names_over : (network wireless : Package) (interfaces : List InterfaceRow) (number : ℕ) → interfaces ≡ interface_rows (modern network).sections → length interfaces ≤ MOST_INTERFACES → IsOverLimit (modern network).sections number → passed_limit (conf network wireless) ≡ Some number
+pub names_over : (network wireless : Package) (interfaces : List InterfaceRow) (number : ℕ) → interfaces ≡ interface_rows (modern network).sections → length interfaces ≤ MOST_INTERFACES → IsOverLimit (modern network).sections number
+    → passed_limit (conf network wireless) ≡ Some number
 names_over network wireless interfaces number are small passed =
     past_interfaces network wireless interfaces are small
     ∙ over MOST_NAMES (length (conf network wireless).names) _ (subst (λ (z : ℕ). MOST_NAMES < z) (sym (count_of_names network wireless)) passed.over)
     ∙ ap (λ n. Some n) (sym passed.limit)
 
 -- neither
-pub later : (network wireless : Package) (interfaces : List InterfaceRow) → interfaces ≡ interface_rows (modern network).sections → length interfaces ≤ MOST_INTERFACES → length (all_names (modern network).sections) ≤ MOST_NAMES → passed_limit (conf network wireless) ≡ later_limit (conf network wireless)
+pub later : (network wireless : Package) (interfaces : List InterfaceRow) → interfaces ≡ interface_rows (modern network).sections → length interfaces ≤ MOST_INTERFACES → length (all_names (modern network).sections) ≤ MOST_NAMES
+    → passed_limit (conf network wireless) ≡ later_limit (conf network wireless)
 later network wireless interfaces are small few =
     past_interfaces network wireless interfaces are small
     ∙ within MOST_NAMES (length (conf network wireless).names) _ (subst (λ (z : ℕ). z ≤ MOST_NAMES) (sym (count_of_names network wireless)) few)
@@ -64,7 +67,8 @@ rows_by interfaces found routes radios = record {
   vlans = found.vlans;
 }
 
-pub are_all : (network wireless : Package) (interfaces : List InterfaceRow) (found : DeviceConf) (routes : List RouteRow) (radios : List RadioRow) → interfaces ≡ interface_rows (modern network).sections → found ≡ device_conf (modern network).sections → routes ≡ route_rows interfaces (modern network).sections → radios ≡ radio_rows wireless.sections → rows_by interfaces found routes radios ≡ conf network wireless
+pub are_all : (network wireless : Package) (interfaces : List InterfaceRow) (found : DeviceConf) (routes : List RouteRow) (radios : List RadioRow) → interfaces ≡ interface_rows (modern network).sections → found
+    ≡ device_conf (modern network).sections → routes ≡ route_rows interfaces (modern network).sections → radios ≡ radio_rows wireless.sections → rows_by interfaces found routes radios ≡ conf network wireless
 are_all network wireless interfaces found routes radios is_i is_f is_o is_r =
     ap (λ (z : List RouteRow). rows_by interfaces found z radios) is_o
     ∙ ap (λ (z : List InterfaceRow). rows_by z found (route_rows z (modern network).sections) radios) is_i

@@ -68,12 +68,14 @@ module _ (said : List Said) (reads : AreRead said) where
       (subst (λ (b : Bool). Contains (if_so (not b) fault.BadVid ++ if_so (not (is_read lower)) fault.BadLower) (bare fault.BadVid)) (sym none) (here (bare fault.BadVid) (if_so (not (is_read lower)) fault.BadLower)))))
       refl
 
-  stated_id : (same high : Bool) (section : DeviceSection) (lower : Stated (List ℕ)) (id : Stated ℕ) → section.kind ≡ Vlan lower id → is_broken (name_faults said same high (Some section)) ≡ false → ((n : ℕ) → id ≡ Read n → IsId n) → IsId (id_or_zero id)
+  stated_id : (same high : Bool) (section : DeviceSection) (lower : Stated (List ℕ)) (id : Stated ℕ) → section.kind ≡ Vlan lower id → is_broken (name_faults said same high (Some section)) ≡ false → ((n : ℕ) → id ≡ Read n → IsId n)
+      → IsId (id_or_zero id)
   stated_id same high section lower Absent kind sound h = absurd (no_both (is_broken (name_faults said same high (Some section))) (bad_id same high section lower Absent kind refl) sound)
   stated_id same high section lower Unread kind sound h = absurd (no_both (is_broken (name_faults said same high (Some section))) (bad_id same high section lower Unread kind refl) sound)
   stated_id same high section lower (Read n) kind sound h = h n refl
 
-  kind_id : (same high : Bool) (name lower : List ℕ) (id : ℕ) (section : DeviceSection) (kind : StatedKind) → section.kind ≡ kind → IsReadKind kind → is_broken (name_faults said same high (Some section)) ≡ false → kind_by said name kind ≡ is.Vlan (Some lower) id → IsId id
+  kind_id : (same high : Bool) (name lower : List ℕ) (id : ℕ) (section : DeviceSection) (kind : StatedKind) → section.kind ≡ kind → IsReadKind kind → is_broken (name_faults said same high (Some section)) ≡ false → kind_by said name kind
+      ≡ is.Vlan (Some lower) id → IsId id
   kind_id same high name lower id section Untyped e read sound h = untyped_id name lower id (vlan_parts name) refl h
   kind_id same high name lower id section Wrong e read sound h = cc h
   kind_id same high name lower id section (Bridge empty ports bad) e read sound h = cc h
@@ -81,7 +83,8 @@ module _ (said : List Said) (reads : AreRead said) where
       let equal : id_or_zero number ≡ id = cc h in
       subst IsId equal (stated_id same high section other number e sound read.1)
 
-  section_id : (same high : Bool) (name lower : List ℕ) (id : ℕ) (section : Option DeviceSection) → section_of said name ≡ section → is_broken (name_faults said same high section) ≡ false → kind_in said name section ≡ is.Vlan (Some lower) id → IsId id
+  section_id : (same high : Bool) (name lower : List ℕ) (id : ℕ) (section : Option DeviceSection) → section_of said name ≡ section → is_broken (name_faults said same high section) ≡ false → kind_in said name section
+      ≡ is.Vlan (Some lower) id → IsId id
   section_id same high name lower id None e sound h = untyped_id name lower id (vlan_parts name) refl h
   section_id same high name lower id (Some section) e sound h =
       let of : IsSectionOf said name section = of_section said name section e in
@@ -104,7 +107,8 @@ vlan_is kind lower id e within =
     let least : LEAST_VLAN_ID ≤ id = within.least in
     ap vlan_of e ∙ told lower id (id == 0) refl (ne_eqb id 0 (λ (zero : id ≡ 0). let k : 1 ≤ id = least in omega (arith, k, zero)))
 
-same_vlan : (said : List Said) (earlier : List (List ℕ)) (other : List ℕ) (kind : NameKind) (lower : List ℕ) (id : ℕ) → Contains earlier other → vlan_of (kind_of said other) ≡ Some (record { lower = lower; id = id }) → vlan_of kind ≡ Some (record { lower = lower; id = id }) → has_same_vlan said earlier kind ≡ true
+same_vlan : (said : List Said) (earlier : List (List ℕ)) (other : List ℕ) (kind : NameKind) (lower : List ℕ) (id : ℕ) → Contains earlier other → vlan_of (kind_of said other) ≡ Some (record { lower = lower; id = id }) → vlan_of kind
+    ≡ Some (record { lower = lower; id = id }) → has_same_vlan said earlier kind ≡ true
 same_vlan said earlier other kind lower id member first second =
     ap (is_vlan_of_some said earlier) second
     ∙ of_any (λ (name : List ℕ). is_vlan_at lower id (vlan_of (kind_of said name))) earlier other member
@@ -167,7 +171,8 @@ module _ (conf : Conf) (said : List Said) (are : conf.names ≡ name_rows said (
   not_behind : (first second lower : List ℕ) (id : ℕ) → IsVlanOf first lower id → IsVlanOf second lower id → Contains (before names second) first → ⊥
   not_behind first second lower id a b in_front =
       let within : IsId id = id_of_row first lower id a in
-      let same : has_same_vlan said (before names second) (kind_of said second) ≡ true = same_vlan said (before names second) first (kind_of said second) lower id in_front (vlan_is (kind_of said first) lower id a.made within) (vlan_is (kind_of said second) lower id b.made within) in
+      let same : has_same_vlan said (before names second) (kind_of said second) ≡ true =
+      same_vlan said (before names second) first (kind_of said second) lower id in_front (vlan_is (kind_of said first) lower id a.made within) (vlan_is (kind_of said second) lower id b.made within) in
       no_both (is_broken (faults_of said (has_same_vlan said (before names second) (kind_of said second)) second)) (same_breaks said (has_same_vlan said (before names second) (kind_of said second)) second same) b.sound
 
   one_vlan : (name other lower : List ℕ) (id : ℕ) → row_standing conf name ≡ Over lower id → row_standing conf other ≡ Over lower id → name ≡ other

@@ -85,7 +85,8 @@ of_interface Absent saying h = cc h
 of_interface Unread saying h = cc h
 of_interface (Read device) saying h = let same : Interface device ≡ saying = cc h in subst IsOnce same tt
 
-of_saying : (device interface : Bool) (options : List Opt) (saying : Said) → cond {A = Option Said} device (Some (Device (device_section options))) (cond {A = Option Said} interface (interface_said options) None) ≡ Some saying → IsOnce saying
+of_saying : (device interface : Bool) (options : List Opt) (saying : Said) → cond {A = Option Said} device (Some (Device (device_section options))) (cond {A = Option Said} interface (interface_said options) None) ≡ Some saying
+    → IsOnce saying
 of_saying true interface options saying h = let same : Device (device_section options) ≡ saying = cc h in subst IsOnce same (of_value options (value_of (codes "type") options))
 of_saying false true options saying h = of_interface (stated name_of (value_of (codes "device") options)) saying h
 of_saying false false options saying h = cc h

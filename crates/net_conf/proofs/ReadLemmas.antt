@@ -170,7 +170,8 @@ of_interface Absent saying h k = cc k
 of_interface Unread saying h k = cc k
 of_interface (Read device) saying h k = let same : Interface device ≡ saying = cc k in subst IsRead same (h device refl)
 
-of_section : (device interface : Bool) (options : List Opt) (saying : Said) → cond {A = Option Said} device (Some (Device (device_section options))) (cond {A = Option Said} interface (interface_said options) None) ≡ Some saying → IsRead saying
+of_section : (device interface : Bool) (options : List Opt) (saying : Said) → cond {A = Option Said} device (Some (Device (device_section options))) (cond {A = Option Said} interface (interface_said options) None) ≡ Some saying
+    → IsRead saying
 of_section true interface options saying h = let same : Device (device_section options) ≡ saying = cc h in subst IsRead same (of_value options (value_of (codes "type") options))
 of_section false true options saying h =
     of_interface (stated name_of (value_of (codes "device") options)) saying

@@ -28,7 +28,8 @@ module _ (said : List Said) where
   found_behind [] earlier name h = absurd (none_in_nil name h)
   found_behind (other ∷ others) earlier name h = go (bytes_eq other name) refl (found_behind others (earlier ++ other ∷ []) name)
     where
-      go : (b : Bool) → bytes_eq other name ≡ b → (Contains others name → row_at (rows_behind said (earlier ++ other ∷ []) others) name ≡ name_row said ((earlier ++ other ∷ []) ++ before others name) name) → cond {A = NameRow} b (name_row said earlier other) (row_at (rows_behind said (earlier ++ other ∷ []) others) name) ≡ name_row said (earlier ++ cond {A = List (List ℕ)} b [] (other ∷ before others name)) name
+      go : (b : Bool) → bytes_eq other name ≡ b → (Contains others name → row_at (rows_behind said (earlier ++ other ∷ []) others) name ≡ name_row said ((earlier ++ other ∷ []) ++ before others name) name)
+          → cond {A = NameRow} b (name_row said earlier other) (row_at (rows_behind said (earlier ++ other ∷ []) others) name) ≡ name_row said (earlier ++ cond {A = List (List ℕ)} b [] (other ∷ before others name)) name
       go true is rest = ap (name_row said earlier) (bytes_same other name is) ∙ ap (λ (z : List (List ℕ)). name_row said z name) (sym (append-nil earlier))
       go false is rest = elim (first_or_later other others name h) as (λ _. row_at (rows_behind said (earlier ++ other ∷ []) others) name ≡ name_row said (earlier ++ other ∷ before others name) name) [
         | inl same ↦ absurd (no_both (bytes_eq other name) (same_bytes other name same) is)
@@ -39,7 +40,8 @@ module _ (said : List Said) where
   none_behind [] earlier name h = refl
   none_behind (other ∷ others) earlier name h = go (bytes_eq other name) refl (none_behind others (earlier ++ other ∷ []) name (λ later. h (there other others name later)))
     where
-      go : (b : Bool) → bytes_eq other name ≡ b → row_at (rows_behind said (earlier ++ other ∷ []) others) name ≡ rowless name → cond {A = NameRow} b (name_row said earlier other) (row_at (rows_behind said (earlier ++ other ∷ []) others) name) ≡ rowless name
+      go : (b : Bool) → bytes_eq other name ≡ b → row_at (rows_behind said (earlier ++ other ∷ []) others) name ≡ rowless name
+          → cond {A = NameRow} b (name_row said earlier other) (row_at (rows_behind said (earlier ++ other ∷ []) others) name) ≡ rowless name
       go true is rest = absurd (h (subst (Contains (other ∷ others)) (bytes_same other name is) (here other others)))
       go false is rest = rest
 
@@ -55,7 +57,8 @@ in_order (other ∷ others) a b h k = go (bytes_eq other a) (bytes_eq other b) r
       | inr found ↦ found
     ]
 
-    go : (p q : Bool) → bytes_eq other a ≡ p → bytes_eq other b ≡ q → (Contains others a → Contains others b → (a ≡ b) ⊎ (Contains (before others a) b ⊎ Contains (before others b) a)) → (a ≡ b) ⊎ (Contains (cond {A = List (List ℕ)} p [] (other ∷ before others a)) b ⊎ Contains (cond {A = List (List ℕ)} q [] (other ∷ before others b)) a)
+    go : (p q : Bool) → bytes_eq other a ≡ p → bytes_eq other b ≡ q → (Contains others a → Contains others b → (a ≡ b) ⊎ (Contains (before others a) b ⊎ Contains (before others b) a))
+        → (a ≡ b) ⊎ (Contains (cond {A = List (List ℕ)} p [] (other ∷ before others a)) b ⊎ Contains (cond {A = List (List ℕ)} q [] (other ∷ before others b)) a)
     go true true is it rest = inl (sym (bytes_same other a is) ∙ bytes_same other b it)
     go true false is it rest = inr (inr (subst (Contains (other ∷ before others b)) (bytes_same other a is) (here other (before others b))))
     go false true is it rest = inr (inl (subst (Contains (other ∷ before others a)) (bytes_same other b it) (here other (before others a))))

@@ -154,7 +154,9 @@ module _ (said : List Said) (earlier : List VlanRow) (vlan : VlanSaid) where
       let gives : (is_second earlier (if_read vlan.bridge) e ≡ false) × (e.pvid ≡ true) = pvid_by (is_second earlier (if_read vlan.bridge) e) e (ap (λ (z : VlanEntry). z.pvid) from.same ∙ second) in
       let none : has_pvid earlier (if_read vlan.bridge) e.port ≡ false = second_of e.pvid (has_pvid earlier (if_read vlan.bridge) e.port) gives.1 gives.0 in
       let port : x.port ≡ e.port = same ∙ sym (ap (λ (z : VlanEntry). z.port) from.same) ∙ same_port e in
-      let given : row_gives_pvid bridge e.port before ≡ true = of_both (is_counted bridge (counted_bridge before)) (list_any (gives_pvid e.port) before.entries) (counts bridge before on) (of_any (gives_pvid e.port) before.entries x h (of_both x.pvid (bytes_eq x.port e.port) first (same_bytes x.port e.port port))) in
+      let given : row_gives_pvid bridge e.port before ≡ true =
+      of_both (is_counted bridge (counted_bridge before)) (list_any (gives_pvid e.port) before.entries) (counts bridge before on)
+      (of_any (gives_pvid e.port) before.entries x h (of_both x.pvid (bytes_eq x.port e.port) first (same_bytes x.port e.port port))) in
       let had : has_pvid earlier (Some bridge) e.port ≡ true = of_any (row_gives_pvid bridge e.port) earlier before member given in
       let stated : if_read vlan.bridge ≡ Some bridge = new.named in
       no_both (has_pvid earlier (if_read vlan.bridge) e.port) (ap (λ (o : Option (List ℕ)). has_pvid earlier o e.port) stated ∙ had) none
@@ -163,7 +165,8 @@ module _ (said : List Said) (earlier : List VlanRow) (vlan : VlanSaid) where
 pub record AreSound (rows : List VlanRow) : Type 0 where
   pub one_row : (bridge : List ℕ) (a b : VlanRow) → Contains rows a → Contains rows b → IsOn bridge a → IsOn bridge b → a.id ≡ b.id → a ≡ b
   pub one_entry : (row : VlanRow) → Contains rows row → (x y : VlanEntry) → Contains row.entries x → Contains row.entries y → x.port ≡ y.port → x ≡ y
-  pub one_pvid : (bridge : List ℕ) (a b : VlanRow) → Contains rows a → Contains rows b → IsOn bridge a → IsOn bridge b → (x y : VlanEntry) → Contains a.entries x → Contains b.entries y → x.port ≡ y.port → x.pvid ≡ true → y.pvid ≡ true → a ≡ b
+  pub one_pvid : (bridge : List ℕ) (a b : VlanRow) → Contains rows a → Contains rows b → IsOn bridge a → IsOn bridge b → (x y : VlanEntry) → Contains a.entries x → Contains b.entries y → x.port ≡ y.port → x.pvid ≡ true → y.pvid ≡ true → a
+      ≡ b
 
 none_sound : AreSound []
 none_sound = record {
@@ -194,7 +197,8 @@ module _ (said : List Said) (rows : List VlanRow) (vlan : VlanSaid) (are : AreSo
     | inr is ↦ one_entry_here said rows vlan x y (subst (λ (z : VlanRow). Contains z.entries x) (sym is) in_x) (subst (λ (z : VlanRow). Contains z.entries y) (sym is) in_y) same
   ]
 
-  more_pvids : (bridge : List ℕ) (a b : VlanRow) → Contains (rows ++ last ∷ []) a → Contains (rows ++ last ∷ []) b → IsOn bridge a → IsOn bridge b → (x y : VlanEntry) → Contains a.entries x → Contains b.entries y → x.port ≡ y.port → x.pvid ≡ true → y.pvid ≡ true → a ≡ b
+  more_pvids : (bridge : List ℕ) (a b : VlanRow) → Contains (rows ++ last ∷ []) a → Contains (rows ++ last ∷ []) b → IsOn bridge a → IsOn bridge b → (x y : VlanEntry) → Contains a.entries x → Contains b.entries y → x.port ≡ y.port → x.pvid
+      ≡ true → y.pvid ≡ true → a ≡ b
   more_pvids bridge a b h k on too x y in_x in_y same p q = elim (Contains-push_cases rows last a h) as (λ _. a ≡ b) [
     | inl a_before ↦ elim (Contains-push_cases rows last b k) as (λ _. a ≡ b) [
       | inl b_before ↦ are.one_pvid bridge a b a_before b_before on too x y in_x in_y same p q

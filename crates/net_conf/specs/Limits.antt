@@ -26,7 +26,8 @@ later_limit conf =
     (over_or MOST_RADIOS (length conf.radios)
     (over_or MOST_WIFI_ROWS (wifi_count conf.radios) (vlan_limit conf)))
 
--- the limit that is passed: of several the first, in the order of interfaces, names, routes, radios, their rows of interfaces,
--- rows of VLANs of bridges, and their entries
+-- the limit that is passed: of several the first, in the order of interfaces, names, routes, radios, their rows of
+-- interfaces, rows of VLANs of bridges, and their entries
 abbrev pub passed_limit : Conf → Option ℕ
-passed_limit conf = over_or MOST_INTERFACES (length conf.interfaces) (over_or MOST_NAMES (length conf.names) (later_limit conf))
+passed_limit conf = over_or MOST_INTERFACES (length conf.interfaces)
+    (over_or MOST_NAMES (length conf.names) (later_limit conf))

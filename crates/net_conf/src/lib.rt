@@ -1,5 +1,5 @@
-//! The rows of a `network` and a `wireless` package, the limits of lists, and the laws of rows that are read: they are sound, each name
-//! stands once, and within limits they are few.
+//! The rows of a `network` and a `wireless` package, the limits of lists, and the laws of rows that
+//! are read: they are sound, each name stands once, and within limits they are few.
 #![tactic(auto)]
 
 mod limits;

@@ -9,8 +9,8 @@ ghost use Rattle.net_rules.specs.Rows.{names_of, ports_of_kind};
 ghost use Rattle.net_conf.specs.Conf.{conf};
 ghost use Rattle.net_conf.specs.Limits.{passed_limit, wifi_count};
 
-/// Whatever a `network` package and a `wireless` one say, of the rows that are read no two have one name, and no port stands twice in
-/// the row of a bridge.
+/// Whatever a `network` package and a `wireless` one say, of the rows that are read no two have one
+/// name, and no port stands twice in the row of a bridge.
 pub fn names_that_are_read_stand_once()
     ensures names { (network wireless : Package) → AreDistinct (names_of (conf network wireless)) }
     ensures ports { (network wireless : Package) (row : NameRow)

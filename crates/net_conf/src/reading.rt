@@ -11,13 +11,14 @@ use net_rows::{Conf, ConfError};
 use std::alloc::Global;
 use uci_tree::Package;
 
-/// The rows of a `network` package, which may be in the syntax from before OpenWrt 21.02, and of a `wireless` package. Each row
-/// has its faults beside it.
+/// The rows of a `network` package, which may be in the syntax from before OpenWrt 21.02, and of a
+/// `wireless` package. Each row has its faults beside it.
 ///
 /// # Errors
 ///
-/// `Limit` where a list is longer than it may be. Of several the first is told: 1,024 interfaces, 4,096 names of devices, 4,096
-/// routes, 64 radios, 256 interfaces of radios, 1,024 rows of VLANs of bridges, and 16,384 entries of these.
+/// `Limit` where a list is longer than it may be. Of several the first is told: 1,024 interfaces,
+/// 4,096 names of devices, 4,096 routes, 64 radios, 256 interfaces of radios, 1,024 rows of VLANs
+/// of bridges, and 16,384 entries of these.
 pub fn read_conf(alloc: Global, network: &Package, wireless: &Package) -> Result<Conf, ConfError>
     ensures rows { IfOk result (λ rows. rows ≡ spec.conf network.now wireless.now) }
     ensures within { OnOk result (passed_limit (spec.conf network.now wireless.now) ≡ None) }

@@ -1,11 +1,13 @@
 // Laws of the constants that definitions cite. Each body is empty, and the contract is the law.
 ghost use Rattle.std.specs.Prelude.{◌≡◌, codes};
 ghost use Rattle.net_interfaces.specs.declared.kinds.TheConstants as kinds;
-ghost use Rattle.net_devices.specs.declared.bridge_vlans.TheConstants.{MOST_VLAN_ROWS, MOST_VLAN_ENTRIES};
+ghost use Rattle.net_devices.specs.declared.bridge_vlans.TheConstants.{MOST_VLAN_ROWS};
+ghost use Rattle.net_devices.specs.declared.bridge_vlans.TheConstants.{MOST_VLAN_ENTRIES};
 ghost use Rattle.net_devices.specs.declared.devices.TheConstants.{MOST_NAMES};
 ghost use Rattle.net_devices.specs.declared.levels.TheConstants.{MOST_LEVELS};
 ghost use Rattle.net_devices.specs.declared.said.TheConstants.{LEAST_MTU, MOST_MTU};
-ghost use Rattle.net_conf.specs.declared.limits.TheConstants.{MOST_INTERFACES, MOST_ROUTES, MOST_RADIOS, MOST_WIFI_ROWS};
+ghost use Rattle.net_conf.specs.declared.limits.TheConstants.{MOST_INTERFACES, MOST_ROUTES};
+ghost use Rattle.net_conf.specs.declared.limits.TheConstants.{MOST_RADIOS, MOST_WIFI_ROWS};
 ghost use Rattle.net_rules.specs.declared.refusal.TheConstants.{MOST_DEVICES, MOST_IN_ANSWER};
 
 /// The types of sections and the words of options that rows are read by.

@@ -25,7 +25,8 @@ behind : (saying : Said) (said : List Said) (place : Option ℕ) → section_at 
 behind saying said None = refl
 behind saying said (Some place) = refl
 
-at_front : (b : Bool) (section : DeviceSection) (said : List Said) (place : Option ℕ) (rest : Option DeviceSection) → section_at said place ≡ rest → section_at (Device section ∷ said) (cond {A = Option ℕ} b (Some 0) (option_map (λ k. suc k) place)) ≡ cond {A = Option DeviceSection} b (Some section) rest
+at_front : (b : Bool) (section : DeviceSection) (said : List Said) (place : Option ℕ) (rest : Option DeviceSection) → section_at said place ≡ rest
+    → section_at (Device section ∷ said) (cond {A = Option ℕ} b (Some 0) (option_map (λ k. suc k) place)) ≡ cond {A = Option DeviceSection} b (Some section) rest
 at_front true section said place rest h = refl
 at_front false section said place rest h = behind (Device section) said place ∙ h
 
@@ -36,7 +37,9 @@ same_test (Read other) name = refl
 
 pub section_found : (said : List Said) (name : List ℕ) → section_at said (position (is_of name) said) ≡ section_of said name
 section_found [] name = refl
-section_found (Device section ∷ said) name = ap (section_at (Device section ∷ said)) (position-cons (is_of name) (Device section) said) ∙ at_front (is_of name (Device section)) section said (position (is_of name) said) (section_of said name) (section_found said name) ∙ ap (λ (z : Bool). cond {A = Option DeviceSection} z (Some section) (section_of said name)) (same_test section.name name)
+section_found (Device section ∷ said) name = ap (section_at (Device section ∷ said)) (position-cons (is_of name) (Device section) said)
+    ∙ at_front (is_of name (Device section)) section said (position (is_of name) said) (section_of said name) (section_found said name)
+    ∙ ap (λ (z : Bool). cond {A = Option DeviceSection} z (Some section) (section_of said name)) (same_test section.name name)
 section_found (Interface device ∷ said) name = ap (section_at (Interface device ∷ said)) (position-cons (is_of name) (Interface device) said) ∙ behind (Interface device) said (position (is_of name) said) ∙ section_found said name
 
 -- one section more
@@ -59,7 +62,8 @@ owner_push : (said : List Said) (saying : Said) (port : List ℕ) → owner (sai
 owner_push [] saying port = or_none (owner_in port saying)
 owner_push (other ∷ said) saying port = ap (owner_or (owner_in port other)) (owner_push said saying port) ∙ sym (or_more (owner_in port other) (owner said port) (owner_in port saying))
 
-pub owners_more : (old new : BTreeMap (List ℕ) (List ℕ)) (said : List Said) (saying : Said) → HasOwners old said → ((port : List ℕ) → get (slice_cmp nat_cmp) new port ≡ owner_or (get (slice_cmp nat_cmp) old port) (owner_in port saying)) → HasOwners new (said ++ saying ∷ [])
+pub owners_more : (old new : BTreeMap (List ℕ) (List ℕ)) (said : List Said) (saying : Said) → HasOwners old said → ((port : List ℕ) → get (slice_cmp nat_cmp) new port ≡ owner_or (get (slice_cmp nat_cmp) old port) (owner_in port saying))
+    → HasOwners new (said ++ saying ∷ [])
 owners_more old new said saying h k port = k port ∙ ap (λ (z : Option (List ℕ)). owner_or z (owner_in port saying)) (h port) ∙ sym (owner_push said saying port)
 
 -- one port more
@@ -75,13 +79,15 @@ has_push (x ∷ ports) port other = ap (λ (z : Bool). bytes_eq x other || z) (h
     or_or true b c = refl
     or_or false b c = refl
 
-either_port : (old : Option (List ℕ)) (bridge : List ℕ) (a b : Bool) → owner_or (owner_or old (cond {A = Option (List ℕ)} a (Some bridge) None)) (cond {A = Option (List ℕ)} (b || false) (Some bridge) None) ≡ owner_or old (cond {A = Option (List ℕ)} (a || b) (Some bridge) None)
+either_port : (old : Option (List ℕ)) (bridge : List ℕ) (a b : Bool) → owner_or (owner_or old (cond {A = Option (List ℕ)} a (Some bridge) None)) (cond {A = Option (List ℕ)} (b || false) (Some bridge) None)
+    ≡ owner_or old (cond {A = Option (List ℕ)} (a || b) (Some bridge) None)
 either_port (Some x) bridge a b = refl
 either_port None bridge true b = refl
 either_port None bridge false true = refl
 either_port None bridge false false = refl
 
-pub ports_more : (first old new : BTreeMap (List ℕ) (List ℕ)) (bridge : List ℕ) (ports : List (List ℕ)) (port : List ℕ) → HasPortsToo first old bridge ports → HasPortsToo old new bridge (port ∷ []) → HasPortsToo first new bridge (ports ++ port ∷ [])
+pub ports_more : (first old new : BTreeMap (List ℕ) (List ℕ)) (bridge : List ℕ) (ports : List (List ℕ)) (port : List ℕ) → HasPortsToo first old bridge ports → HasPortsToo old new bridge (port ∷ [])
+    → HasPortsToo first new bridge (ports ++ port ∷ [])
 ports_more first old new bridge ports port h k other =
     k other
     ∙ ap (λ (z : Option (List ℕ)). owner_or z (cond {A = Option (List ℕ)} (bytes_eq port other || false) (Some bridge) None)) (h other)
@@ -95,7 +101,8 @@ kept_or None bridge true h = absurd (let k : false ≡ true = h refl in cc)
 kept_or None bridge false h = refl
 
 pub port_kept : (owners : BTreeMap (List ℕ) (List ℕ)) (bridge port : List ℕ) → is_some (get (slice_cmp nat_cmp) owners port) ≡ true → HasPortsToo owners owners bridge (port ∷ [])
-port_kept owners bridge port there other = kept_or (get (slice_cmp nat_cmp) owners other) bridge (bytes_eq port other) (λ (e : bytes_eq port other ≡ true). ap (λ (z : List ℕ). is_some (get (slice_cmp nat_cmp) owners z)) (sym ((bytes_eq-Decides port other).0 e)) ∙ there)
+port_kept owners bridge port there other = kept_or (get (slice_cmp nat_cmp) owners other) bridge (bytes_eq port other)
+    (λ (e : bytes_eq port other ≡ true). ap (λ (z : List ℕ). is_some (get (slice_cmp nat_cmp) owners z)) (sym ((bytes_eq-Decides port other).0 e)) ∙ there)
 
 put_or : (was : Option (List ℕ)) (bridge : List ℕ) (b : Bool) → (b ≡ true → was ≡ None) → cond {A = Option (List ℕ)} b (Some bridge) was ≡ owner_or was (cond {A = Option (List ℕ)} (b || false) (Some bridge) None)
 put_or was bridge true h = sym (ap (λ (z : Option (List ℕ)). owner_or z (Some bridge)) (h refl))
@@ -106,8 +113,10 @@ absent_from : (was : Option (List ℕ)) → is_some was ≡ false → was ≡ No
 absent_from None h = refl
 absent_from (Some x) h = absurd (let k : true ≡ false = h in cc)
 
-pub port_put : (old new : BTreeMap (List ℕ) (List ℕ)) (bridge port : List ℕ) → is_some (get (slice_cmp nat_cmp) old port) ≡ false → ((q : List ℕ) → get (slice_cmp nat_cmp) new q ≡ cond {A = Option (List ℕ)} (is_at (slice_cmp nat_cmp port) q) (Some bridge) (get (slice_cmp nat_cmp) old q)) → HasPortsToo old new bridge (port ∷ [])
+pub port_put : (old new : BTreeMap (List ℕ) (List ℕ)) (bridge port : List ℕ) → is_some (get (slice_cmp nat_cmp) old port) ≡ false
+    → ((q : List ℕ) → get (slice_cmp nat_cmp) new q ≡ cond {A = Option (List ℕ)} (is_at (slice_cmp nat_cmp port) q) (Some bridge) (get (slice_cmp nat_cmp) old q)) → HasPortsToo old new bridge (port ∷ [])
 port_put old new bridge port absent put other =
     put other
     ∙ ap (λ (z : Bool). cond {A = Option (List ℕ)} z (Some bridge) (get (slice_cmp nat_cmp) old other)) (name_key port other)
-    ∙ put_or (get (slice_cmp nat_cmp) old other) bridge (bytes_eq port other) (λ (e : bytes_eq port other ≡ true). ap (λ (z : List ℕ). get (slice_cmp nat_cmp) old z) (sym ((bytes_eq-Decides port other).0 e)) ∙ absent_from (get (slice_cmp nat_cmp) old port) absent)
+    ∙ put_or (get (slice_cmp nat_cmp) old other) bridge (bytes_eq port other)
+    (λ (e : bytes_eq port other ≡ true). ap (λ (z : List ℕ). get (slice_cmp nat_cmp) old z) (sym ((bytes_eq-Decides port other).0 e)) ∙ absent_from (get (slice_cmp nat_cmp) old port) absent)

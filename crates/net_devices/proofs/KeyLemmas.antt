@@ -36,7 +36,8 @@ pub any_push : {X : Type 0} (p : X → Bool) (xs : List X) (x : X) → list_any 
 any_push p xs x = list_any-append p xs (x ∷ []) ∙ ap (λ (z : Bool). list_any p xs || z) (or_none (p x))
 
 -- a set with the names of a list has those of the list with one more, once that is put in
-pub knows_one_more : (old new : BTreeSet (List ℕ)) (names : List (List ℕ)) (name : List ℕ) → ((q : List ℕ) → contains (slice_cmp nat_cmp) old q ≡ has names q) → ((q : List ℕ) → contains (slice_cmp nat_cmp) new q ≡ cond (is_at (slice_cmp nat_cmp name) q) true (contains (slice_cmp nat_cmp) old q)) → (q : List ℕ) → contains (slice_cmp nat_cmp) new q ≡ has (names ++ name ∷ []) q
+pub knows_one_more : (old new : BTreeSet (List ℕ)) (names : List (List ℕ)) (name : List ℕ) → ((q : List ℕ) → contains (slice_cmp nat_cmp) old q ≡ has names q)
+    → ((q : List ℕ) → contains (slice_cmp nat_cmp) new q ≡ cond (is_at (slice_cmp nat_cmp name) q) true (contains (slice_cmp nat_cmp) old q)) → (q : List ℕ) → contains (slice_cmp nat_cmp) new q ≡ has (names ++ name ∷ []) q
 knows_one_more old new names name known put q =
     put q
     ∙ there_or (is_at (slice_cmp nat_cmp name) q) (contains (slice_cmp nat_cmp) old q)

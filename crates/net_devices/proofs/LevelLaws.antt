@@ -40,10 +40,12 @@ all_within said more (name ∷ names) h = all_at_most (max 0 (level_within said 
 
 pub within_bound : (said : List Said) (more : ℕ) (name : List ℕ) → level_within said more name ≤ more + 1
 within_bound said zero name = omega arith
-within_bound said (suc more) name = let a : level_over (is_bridge said name) (highest (map (level_within said more) (below said name))) ≤ (more + 1) + 1 = not_above (is_bridge said name) (highest (map (level_within said more) (below said name))) (more + 1) (all_within said more (below said name) (within_bound said more)) (omega arith) in omega (arith, a)
+within_bound said (suc more) name = let a : level_over (is_bridge said name) (highest (map (level_within said more) (below said name))) ≤ (more + 1) + 1 =
+    not_above (is_bridge said name) (highest (map (level_within said more) (below said name))) (more + 1) (all_within said more (below said name) (within_bound said more)) (omega arith) in omega (arith, a)
 
 -- a level that was found is one that the name is on
-all_found : (said : List Said) (more : ℕ) (names : List (List ℕ)) → ((name : List ℕ) → level_within said more name ≤ more → IsOnLevel said name (level_within said more name)) → highest (map (level_within said more) names) ≤ more → AreOnLevels said names (map (level_within said more) names)
+all_found : (said : List Said) (more : ℕ) (names : List (List ℕ)) → ((name : List ℕ) → level_within said more name ≤ more → IsOnLevel said name (level_within said more name)) → highest (map (level_within said more) names) ≤ more
+    → AreOnLevels said names (map (level_within said more) names)
 all_found said more [] h k = none [] [] refl refl
 all_found said more (name ∷ names) h k =
     let levels : List ℕ = map (level_within said more) names in
@@ -63,7 +65,8 @@ found said (suc more) name h =
 cons_same : (x y : ℕ) (xs ys : List ℕ) → x ≡ y → xs ≡ ys → x ∷ xs ≡ y ∷ ys
 cons_same x y xs ys e f = cc
 
-all_kept : (said : List Said) (more : ℕ) (names : List (List ℕ)) (levels : List ℕ) → ((name : List ℕ) (n : ℕ) → IsOnLevel said name n → n ≤ more → level_within said more name ≡ n) → AreOnLevels said names levels → highest levels ≤ more → map (level_within said more) names ≡ levels
+all_kept : (said : List Said) (more : ℕ) (names : List (List ℕ)) (levels : List ℕ) → ((name : List ℕ) (n : ℕ) → IsOnLevel said name n → n ≤ more → level_within said more name ≡ n) → AreOnLevels said names levels → highest levels ≤ more
+    → map (level_within said more) names ≡ levels
 all_kept said more names levels h (none _ _ e f) k = ap (map (level_within said more)) e ∙ sym f
 all_kept said more names levels h (next name n others _ lower _ e f on rest) k =
     let k' : highest (n ∷ lower) ≤ more = subst (λ (z : List ℕ). highest z ≤ more) f k in
@@ -92,5 +95,6 @@ too_high said name is n on = lt_of_not-le (λ (low : n ≤ MOST_LEVELS). let sam
 pub on_none : (said : List Said) (name : List ℕ) → ((n : ℕ) → IsOnLevel said name n → MOST_LEVELS < n) → level said name ≡ MOST_LEVELS + 1
 on_none said name h =
     let bound : level said name ≤ MOST_LEVELS + 1 = within_bound said MOST_LEVELS name in
-    let high : MOST_LEVELS < level said name = lt_of_not-le (λ (low : level said name ≤ MOST_LEVELS). let a : MOST_LEVELS < level said name = h (level said name) (level_found said name (level said name) refl low) in omega (arith, a, low)) in
+    let high : MOST_LEVELS < level said name = lt_of_not-le (λ (low : level said name ≤ MOST_LEVELS). let a : MOST_LEVELS < level said name = h (level said name) (level_found said name (level said name) refl low) in omega (arith, a, low))
+    in
     omega (arith, bound, high)

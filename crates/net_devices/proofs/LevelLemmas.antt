@@ -17,7 +17,8 @@ level_at said (suc more) name some =
     ap (λ (z : ℕ). level_over (is_bridge said name) (highest (map (level_within said z) (below said name)))) (sym less)
 
 -- the highest level of all that a name stands on gives its level
-pub level_is : (said : List Said) (more : ℕ) (name : List ℕ) (lowers : List (List ℕ)) (index top : ℕ) → 0 < more → lowers ≡ below said name → length lowers ≤ index → fold max top (map (level_within said (more - 1)) (drop index lowers)) ≡ highest (map (level_within said (more - 1)) lowers) → level_over (is_bridge said name) top ≡ level_within said more name
+pub level_is : (said : List Said) (more : ℕ) (name : List ℕ) (lowers : List (List ℕ)) (index top : ℕ) → 0 < more → lowers ≡ below said name → length lowers ≤ index → fold max top (map (level_within said (more - 1)) (drop index lowers))
+    ≡ highest (map (level_within said (more - 1)) lowers) → level_over (is_bridge said name) top ≡ level_within said more name
 level_is said more name lowers index top some is all sofar =
     let step : List (List ℕ) → ℕ = λ z. fold max top (map (level_within said (more - 1)) z) in
     let here : top ≡ highest (map (level_within said (more - 1)) lowers) = sym (ap step (drop_all index lowers all)) ∙ sofar in
@@ -33,7 +34,9 @@ picked : (is : Bool) (level found : ℕ) (was : Option ℕ) (P : ℕ → Type 0)
 picked true level found was P h k e = subst P (let same : level ≡ found = cc in same) (h refl)
 picked false level found was P h k e = k found e
 
-pub levels_more : (said : List Said) (old new : BTreeMap (List ℕ × ℕ) ℕ) (name : List ℕ) (more level : ℕ) → ((key : List ℕ × ℕ) (n : ℕ) → get vlan_cmp old key ≡ Some n → n ≡ level_within said key.1 key.0) → level ≡ level_within said more name → ((q : List ℕ × ℕ) → get vlan_cmp new q ≡ cond {A = Option ℕ} (is_at (vlan_cmp (name, more)) q) (Some level) (get vlan_cmp old q)) → (key : List ℕ × ℕ) (n : ℕ) → get vlan_cmp new key ≡ Some n → n ≡ level_within said key.1 key.0
+pub levels_more : (said : List Said) (old new : BTreeMap (List ℕ × ℕ) ℕ) (name : List ℕ) (more level : ℕ) → ((key : List ℕ × ℕ) (n : ℕ) → get vlan_cmp old key ≡ Some n → n ≡ level_within said key.1 key.0) → level
+    ≡ level_within said more name → ((q : List ℕ × ℕ) → get vlan_cmp new q ≡ cond {A = Option ℕ} (is_at (vlan_cmp (name, more)) q) (Some level) (get vlan_cmp old q)) → (key : List ℕ × ℕ) (n : ℕ) → get vlan_cmp new key ≡ Some n → n
+    ≡ level_within said key.1 key.0
 levels_more said old new name more level are is put key n e =
     picked (is_at (vlan_cmp (name, more)) key) level n (get vlan_cmp old key) (λ (z : ℕ). z ≡ level_within said key.1 key.0)
     (λ (at : is_at (vlan_cmp (name, more)) key ≡ true).

@@ -66,7 +66,8 @@ none_left : (f g : List ℕ → List (List ℕ)) (parts : Option VlanParts) → 
 none_left f g None h = refl
 none_left f g (Some parts) h = absurd (let a : length parts.lower < 0 = h in omega (arith, a))
 
-same_under : (said : List Said) (more : ℕ) (parts : Option VlanParts) → ((lower : List ℕ) → length lower ≤ more → with_lowers said more lower ≡ with_lowers said (suc more) lower) → IfSome parts (λ (p : VlanParts). length p.lower ≤ more) → under (with_lowers said more) parts ≡ under (with_lowers said (suc more)) parts
+same_under : (said : List Said) (more : ℕ) (parts : Option VlanParts) → ((lower : List ℕ) → length lower ≤ more → with_lowers said more lower ≡ with_lowers said (suc more) lower) → IfSome parts (λ (p : VlanParts). length p.lower ≤ more)
+    → under (with_lowers said more) parts ≡ under (with_lowers said (suc more)) parts
 same_under said more None h k = refl
 same_under said more (Some parts) h k = h parts.lower k
 

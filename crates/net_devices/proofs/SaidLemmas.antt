@@ -30,7 +30,8 @@ stated_among names later Absent are = refl
 stated_among names later Unread are = refl
 stated_among names later (Read name) are = sym (are name)
 
-overridden_by : (device : Bool) (names : List (List ℕ)) (later : List Section) (stated : Stated (List ℕ)) → AreNamesOf names later → cond {A = Bool} device (is_named_in later stated) false ≡ is_among names (cond {A = Option (List ℕ)} device (if_read stated) None)
+overridden_by : (device : Bool) (names : List (List ℕ)) (later : List Section) (stated : Stated (List ℕ)) → AreNamesOf names later → cond {A = Bool} device (is_named_in later stated) false
+    ≡ is_among names (cond {A = Option (List ℕ)} device (if_read stated) None)
 overridden_by true names later stated are = stated_among names later stated are
 overridden_by false names later stated are = refl
 
@@ -46,7 +47,8 @@ few_reversed true section = refl
 few_reversed false section = one_reversed (said_in section)
 
 -- what one section more in front says
-pub said_before : (names : List (List ℕ)) (section : Section) (later : List Section) (said : List Said) → AreNamesOf names later → reverse said ≡ all_said later → reverse (said ++ said_by (unless_named names section)) ≡ all_said (section ∷ later)
+pub said_before : (names : List (List ℕ)) (section : Section) (later : List Section) (said : List Said) → AreNamesOf names later → reverse said ≡ all_said later → reverse (said ++ said_by (unless_named names section))
+    ≡ all_said (section ∷ later)
 said_before names section later said are is =
     reverse-append said (said_by (unless_named names section))
     ∙ (ap (λ (z : List Said). z ++ reverse said) (few_reversed (is_among names (own_name section)) section)

@@ -21,7 +21,8 @@ no_pvid set bridge entry none q = sym (rw none (none_of (contains port_cmp set q
     none_of false true = refl
     none_of false false = refl
 
-pub one_pvid : (old new : BTreeSet (List ℕ × List ℕ)) (bridge : List ℕ) (entry : VlanEntry) → entry.pvid ≡ true → ((q : List ℕ × List ℕ) → contains port_cmp new q ≡ cond (is_at (port_cmp (bridge, entry.port)) q) true (contains port_cmp old q)) → HasPvidsToo old new bridge (entry ∷ [])
+pub one_pvid : (old new : BTreeSet (List ℕ × List ℕ)) (bridge : List ℕ) (entry : VlanEntry) → entry.pvid ≡ true
+    → ((q : List ℕ × List ℕ) → contains port_cmp new q ≡ cond (is_at (port_cmp (bridge, entry.port)) q) true (contains port_cmp old q)) → HasPvidsToo old new bridge (entry ∷ [])
 one_pvid old new bridge entry some put q =
     put q
     ∙ there_or (is_at (port_cmp (bridge, entry.port)) q) (contains port_cmp old q)
@@ -40,7 +41,8 @@ pub no_pvids : (set : BTreeSet (List ℕ × List ℕ)) (bridge : List ℕ) (entr
 no_pvids set bridge entries none = rw none (no_more set bridge)
 
 -- those of some entries, and then those of one more
-pub more_pvids : (old middle new : BTreeSet (List ℕ × List ℕ)) (bridge : List ℕ) (entries more : List VlanEntry) (entry : VlanEntry) → HasPvidsToo old middle bridge entries → HasPvidsToo middle new bridge (entry ∷ []) → ((q : List ℕ × List ℕ) → list_any (gives_pvid q.1) more ≡ (list_any (gives_pvid q.1) entries || gives_pvid q.1 entry)) → HasPvidsToo old new bridge more
+pub more_pvids : (old middle new : BTreeSet (List ℕ × List ℕ)) (bridge : List ℕ) (entries more : List VlanEntry) (entry : VlanEntry) → HasPvidsToo old middle bridge entries → HasPvidsToo middle new bridge (entry ∷ [])
+    → ((q : List ℕ × List ℕ) → list_any (gives_pvid q.1) more ≡ (list_any (gives_pvid q.1) entries || gives_pvid q.1 entry)) → HasPvidsToo old new bridge more
 more_pvids old middle new bridge entries more entry before then one q =
     then q
     ∙ ap (λ (z : Bool). z || (bytes_eq bridge q.0 && (gives_pvid q.1 entry || false))) (before q)
@@ -58,13 +60,21 @@ more_pvids old middle new bridge entries more entry before then one q =
 -- a row that does not count
 pub table_same : (table : VlanTable) (rows : List VlanRow) (row : VlanRow) → IsTable table → rows ≡ table.rows ++ row ∷ [] → counted_bridge row ≡ None → IsTable (record table { rows = rows })
 table_same table rows row is more none = record {
-  vlans = λ vlan. is.vlans vlan ∙ sym (ap (list_any (is_vlan vlan.0 vlan.1)) more ∙ any_push (is_vlan vlan.0 vlan.1) table.rows row ∙ ap (λ (z : Option (List ℕ)). list_any (is_vlan vlan.0 vlan.1) table.rows || (is_name vlan.0 z && (row.id == vlan.1))) none ∙ or_none (list_any (is_vlan vlan.0 vlan.1) table.rows));
-  pvids = λ port. is.pvids port ∙ sym (ap (list_any (row_gives_pvid port.0 port.1)) more ∙ any_push (row_gives_pvid port.0 port.1) table.rows row ∙ ap (λ (z : Option (List ℕ)). list_any (row_gives_pvid port.0 port.1) table.rows || (is_name port.0 z && list_any (gives_pvid port.1) row.entries)) none ∙ or_none (list_any (row_gives_pvid port.0 port.1) table.rows));
+  vlans = λ vlan. is.vlans vlan ∙ sym (ap (list_any (is_vlan vlan.0 vlan.1)) more ∙ any_push (is_vlan vlan.0 vlan.1) table.rows row
+      ∙ ap (λ (z : Option (List ℕ)). list_any (is_vlan vlan.0 vlan.1) table.rows || (is_name vlan.0 z && (row.id == vlan.1))) none ∙ or_none (list_any (is_vlan vlan.0 vlan.1) table.rows));
+  pvids = λ port. is.pvids port ∙ sym (ap (list_any (row_gives_pvid port.0 port.1)) more ∙ any_push (row_gives_pvid port.0 port.1) table.rows row
+      ∙ ap (λ (z : Option (List ℕ)). list_any (row_gives_pvid port.0 port.1) table.rows || (is_name port.0 z && list_any (gives_pvid port.1) row.entries)) none ∙ or_none (list_any (row_gives_pvid port.0 port.1) table.rows));
 }
 
 -- a row that counts, of this bridge
-pub table_with : (table : VlanTable) (rows : List VlanRow) (row : VlanRow) (bridge : List ℕ) (vlans : BTreeSet (List ℕ × ℕ)) (pvids : BTreeSet (List ℕ × List ℕ)) → IsTable table → rows ≡ table.rows ++ row ∷ [] → counted_bridge row ≡ Some bridge → ((q : List ℕ × ℕ) → contains vlan_cmp vlans q ≡ cond (is_at (vlan_cmp (bridge, row.id)) q) true (contains vlan_cmp table.vlans q)) → HasPvidsToo table.pvids pvids bridge row.entries → IsTable (record { rows = rows; vlans = vlans; pvids = pvids })
+pub table_with : (table : VlanTable) (rows : List VlanRow) (row : VlanRow) (bridge : List ℕ) (vlans : BTreeSet (List ℕ × ℕ)) (pvids : BTreeSet (List ℕ × List ℕ)) → IsTable table → rows ≡ table.rows ++ row ∷ [] → counted_bridge row
+    ≡ Some bridge → ((q : List ℕ × ℕ) → contains vlan_cmp vlans q ≡ cond (is_at (vlan_cmp (bridge, row.id)) q) true (contains vlan_cmp table.vlans q)) → HasPvidsToo table.pvids pvids bridge row.entries
+    → IsTable (record { rows = rows; vlans = vlans; pvids = pvids })
 table_with table rows row bridge vlans pvids is more some put too = record {
-  vlans = λ vlan. put vlan ∙ there_or (is_at (vlan_cmp (bridge, row.id)) vlan) (contains vlan_cmp table.vlans vlan) ∙ ap (λ (z : Bool). contains vlan_cmp table.vlans vlan || z) (vlan_key (bridge, row.id) vlan) ∙ ap (λ (z : Bool). z || (bytes_eq bridge vlan.0 && (row.id == vlan.1))) (is.vlans vlan) ∙ sym (ap (list_any (is_vlan vlan.0 vlan.1)) more ∙ any_push (is_vlan vlan.0 vlan.1) table.rows row ∙ ap (λ (z : Option (List ℕ)). list_any (is_vlan vlan.0 vlan.1) table.rows || (is_name vlan.0 z && (row.id == vlan.1))) some);
-  pvids = λ port. too port ∙ ap (λ (z : Bool). z || (bytes_eq bridge port.0 && list_any (gives_pvid port.1) row.entries)) (is.pvids port) ∙ sym (ap (list_any (row_gives_pvid port.0 port.1)) more ∙ any_push (row_gives_pvid port.0 port.1) table.rows row ∙ ap (λ (z : Option (List ℕ)). list_any (row_gives_pvid port.0 port.1) table.rows || (is_name port.0 z && list_any (gives_pvid port.1) row.entries)) some);
+  vlans = λ vlan. put vlan ∙ there_or (is_at (vlan_cmp (bridge, row.id)) vlan) (contains vlan_cmp table.vlans vlan) ∙ ap (λ (z : Bool). contains vlan_cmp table.vlans vlan || z) (vlan_key (bridge, row.id) vlan)
+      ∙ ap (λ (z : Bool). z || (bytes_eq bridge vlan.0 && (row.id == vlan.1))) (is.vlans vlan)
+      ∙ sym (ap (list_any (is_vlan vlan.0 vlan.1)) more ∙ any_push (is_vlan vlan.0 vlan.1) table.rows row ∙ ap (λ (z : Option (List ℕ)). list_any (is_vlan vlan.0 vlan.1) table.rows || (is_name vlan.0 z && (row.id == vlan.1))) some);
+  pvids = λ port. too port ∙ ap (λ (z : Bool). z || (bytes_eq bridge port.0 && list_any (gives_pvid port.1) row.entries)) (is.pvids port)
+      ∙ sym (ap (list_any (row_gives_pvid port.0 port.1)) more ∙ any_push (row_gives_pvid port.0 port.1) table.rows row
+      ∙ ap (λ (z : Option (List ℕ)). list_any (row_gives_pvid port.0 port.1) table.rows || (is_name port.0 z && list_any (gives_pvid port.1) row.entries)) some);
 }

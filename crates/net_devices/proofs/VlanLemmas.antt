@@ -27,7 +27,8 @@ vlan_none vlans vlan none q = sym (ap (λ (z : Option VlanParts). contains vlan_
     same true = refl
     same false = refl
 
-pub vlans_more : (said : List Said) (old new : BTreeSet (List ℕ × ℕ)) (names more : List (List ℕ)) (name : List ℕ) (vlan : Option VlanParts) → vlan ≡ vlan_of (kind_of said name) → more ≡ names ++ name ∷ [] → HasVlansOf said old names → HasVlanToo old new vlan → HasVlansOf said new more
+pub vlans_more : (said : List Said) (old new : BTreeSet (List ℕ × ℕ)) (names more : List (List ℕ)) (name : List ℕ) (vlan : Option VlanParts) → vlan ≡ vlan_of (kind_of said name) → more ≡ names ++ name ∷ [] → HasVlansOf said old names
+    → HasVlanToo old new vlan → HasVlansOf said new more
 vlans_more said old new names more name vlan is m are too q =
     too q
     ∙ ap (λ (z : Bool). z || is_vlan_at q.0 q.1 vlan) (are q)
@@ -41,7 +42,8 @@ found_same said vlans names None are = refl
 found_same said vlans names (Some vlan) are = are (vlan.lower, vlan.id)
 
 -- the rows so far, with one more
-pub rows_more : (said : List Said) (rows all : List NameRow) (names : List (List ℕ)) (index : ℕ) (name : List ℕ) (row : NameRow) → index < length names → name ≡ get_or names index name → row ≡ name_row said (take index names) name → rows ++ rows_behind said (take index names) (drop index names) ≡ all → (rows ++ row ∷ []) ++ rows_behind said (take (index + 1) names) (drop (index + 1) names) ≡ all
+pub rows_more : (said : List Said) (rows all : List NameRow) (names : List (List ℕ)) (index : ℕ) (name : List ℕ) (row : NameRow) → index < length names → name ≡ get_or names index name → row ≡ name_row said (take index names) name → rows
+    ++ rows_behind said (take index names) (drop index names) ≡ all → (rows ++ row ∷ []) ++ rows_behind said (take (index + 1) names) (drop (index + 1) names) ≡ all
 rows_more said rows all names index name row h e r is =
     append_assoc rows (row ∷ []) (rows_behind said (take (index + 1) names) (drop (index + 1) names))
     ∙ ap (λ (z : List NameRow). rows ++ z) (

@@ -1,5 +1,6 @@
 -- VLANs of bridges (`bridge-vlan` sections of OpenWrt's network configuration).
-use Rattle.std.specs.Prelude.{ℕ, ◌==◌, Bool, true, false, not, ◌&&◌, sum_by, length, List, [], ◌∷◌, ◌++◌, map, filter, Option, Some, None, if◌then◌else◌, codes, bytes_eq, fold}
+use Rattle.std.specs.Prelude.{ℕ, ◌==◌, Bool, true, false, not, ◌&&◌, sum_by, length, List, [], ◌∷◌, ◌++◌, map, filter}
+use Rattle.std.specs.Prelude.{Option, Some, None, if◌then◌else◌, codes, bytes_eq, fold}
 use Rattle.std.specs.List.{list_any}
 use Rattle.uci_tree.specs.declared.package.Opt.{Opt}
 use Rattle.uci_tree.specs.declared.package.Section.{Section}
@@ -79,7 +80,8 @@ abbrev pub entry_faults : List VlanRow → VlanSaid → List RowFault
 entry_faults earlier vlan =
     map (about fault.BadPort) (bad_words vlan.words)
     ++ map (about fault.DoublePort) (repeated_ports (entries_of vlan.words))
-    ++ map (λ entry. about fault.SecondPvid entry.port) (filter (is_second earlier (if_read vlan.bridge)) (first_entries (entries_of vlan.words)))
+    ++ map (λ entry. about fault.SecondPvid entry.port)
+    (filter (is_second earlier (if_read vlan.bridge)) (first_entries (entries_of vlan.words)))
 
 -- the row of a `bridge-vlan` section behind these
 abbrev pub vlan_row : List Said → List VlanRow → VlanSaid → VlanRow
@@ -97,7 +99,8 @@ is_vlan_section section = bytes_eq section.kind (codes "bridge-vlan")
 
 -- the rows with one more, of a section
 abbrev pub with_vlan : List Said → List VlanRow → Section → List VlanRow
-with_vlan said earlier section = if is_vlan_section section then earlier ++ vlan_row said earlier (vlan_said section.options) ∷ [] else earlier
+with_vlan said earlier section = if is_vlan_section section then earlier
+    ++ vlan_row said earlier (vlan_said section.options) ∷ [] else earlier
 
 -- the rows of the `bridge-vlan` sections, in file order
 abbrev pub vlan_rows : List Said → List Section → List VlanRow

@@ -1,5 +1,7 @@
--- The words of `ports` in `bridge-vlan` sections (OpenWrt's network configuration). How the suffixes read is a rule of our own.
-use Rattle.std.specs.Prelude.{ℕ, Bool, true, false, not, List, [], ◌∷◌, ◌++◌, filter, Option, Some, None, is_some, if◌then◌else◌, codes, bytes_eq}
+-- The words of `ports` in `bridge-vlan` sections (OpenWrt's network configuration). How the suffixes read is a rule of
+-- our own.
+use Rattle.std.specs.Prelude.{ℕ, Bool, true, false, not, List, [], ◌∷◌, ◌++◌, filter, Option, Some, None, is_some}
+use Rattle.std.specs.Prelude.{if◌then◌else◌, codes, bytes_eq}
 use Rattle.std.specs.List.{filter_map}
 use Rattle.net_addr.specs.Byte.{colon}
 use Rattle.net_rows.specs.Cut.{first_cut}
@@ -10,7 +12,8 @@ use Rattle.net_devices.specs.EachOnce.{has, each_once}
 abbrev pub entry : List ℕ → Bool → Bool → Option VlanEntry
 entry port pvid untagged = Some (record { port = port; pvid = pvid; untagged = untagged })
 
--- a port behind whose name stands this suffix: `u*` is untagged and PVID, `u` untagged, `t` tagged, `t*` tagged and PVID
+-- a port behind whose name stands this suffix: `u*` is untagged and PVID, `u` untagged, `t` tagged, `t*` tagged and
+-- PVID
 abbrev pub with_suffix : List ℕ → List ℕ → Option VlanEntry
 with_suffix port suffix =
     if bytes_eq suffix (codes "u*") then entry port true true
@@ -47,7 +50,8 @@ bad_words words = each_once (filter (λ word. not (is_entry word)) words)
 -- the entries of ports that are none of these, the first one of each port
 abbrev pub first_behind : List (List ℕ) → List VlanEntry → List VlanEntry
 first_behind ports [] = []
-first_behind ports (entry ∷ entries) = if has ports entry.port then first_behind ports entries else entry ∷ first_behind (ports ++ entry.port ∷ []) entries
+first_behind ports (entry ∷ entries) = if has ports entry.port then first_behind ports entries else entry
+    ∷ first_behind (ports ++ entry.port ∷ []) entries
 
 -- of several entries of one port only the first counts
 abbrev pub first_entries : List VlanEntry → List VlanEntry
@@ -56,7 +60,8 @@ first_entries entries = first_behind [] entries
 -- the ports of entries that are among these ports or have an earlier entry
 abbrev pub repeated_behind : List (List ℕ) → List VlanEntry → List (List ℕ)
 repeated_behind ports [] = []
-repeated_behind ports (entry ∷ entries) = if has ports entry.port then entry.port ∷ repeated_behind ports entries else repeated_behind (ports ++ entry.port ∷ []) entries
+repeated_behind ports (entry ∷ entries) = if has ports entry.port then entry.port ∷ repeated_behind ports entries
+    else repeated_behind (ports ++ entry.port ∷ []) entries
 
 -- the ports that have several entries
 abbrev pub repeated_ports : List VlanEntry → List (List ℕ)

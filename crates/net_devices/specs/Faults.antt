@@ -1,5 +1,5 @@
--- What is wrong with `device` sections, in the order in which a row tells it (OpenWrt's network configuration; the names of the
--- faults are our own).
+-- What is wrong with `device` sections, in the order in which a row tells it (OpenWrt's network configuration; the
+-- names of the faults are our own).
 use Rattle.std.specs.Prelude.{ℕ, Bool, true, false, not, List, [], ◌∷◌, ◌++◌, map, filter, Some, None, if◌then◌else◌}
 use Rattle.net_rows.specs.declared.stated.Stated.{Stated}
 use Rattle.net_rows.specs.declared.stated.Stated.TheVariants.{Absent, Unread, Read}
@@ -47,7 +47,8 @@ vlan_faults lower id = if_so (not (is_read id)) fault.BadVid ++ if_so (not (is_r
 abbrev pub kind_faults : List Said → StatedKind → List RowFault
 kind_faults said Untyped = []
 kind_faults said Wrong = bare fault.WrongType ∷ []
-kind_faults said (Bridge empty ports bad_ports) = map (about fault.BadPort) bad_ports ++ map (about fault.BridgePort) (filter (is_bridge said) ports)
+kind_faults said (Bridge empty ports bad_ports) = map (about fault.BadPort) bad_ports
+    ++ map (about fault.BridgePort) (filter (is_bridge said) ports)
 kind_faults said (Vlan lower id) = vlan_faults lower id
 
 -- options that are passed over since they do not read

@@ -36,7 +36,8 @@ HasPlaces places said = (name : List ℕ) → get (slice_cmp nat_cmp) places nam
 
 -- the map has the place of this section too, where its name had none
 abbrev pub HasPlaceToo : BTreeMap (List ℕ) ℕ → BTreeMap (List ℕ) ℕ → Said → ℕ → Type 0
-HasPlaceToo old new saying place = (name : List ℕ) → get (slice_cmp nat_cmp) new name ≡ first_place (get (slice_cmp nat_cmp) old name) (if is_of name saying then Some place else None)
+HasPlaceToo old new saying place = (name : List ℕ) → get (slice_cmp nat_cmp) new name
+    ≡ first_place (get (slice_cmp nat_cmp) old name) (if is_of name saying then Some place else None)
 
 -- the map has the first bridge that names each port
 abbrev pub HasOwners : BTreeMap (List ℕ) (List ℕ) → List Said → Type 0
@@ -44,11 +45,15 @@ HasOwners owners said = (port : List ℕ) → get (slice_cmp nat_cmp) owners por
 
 -- the map has the ports of this section too, of this kind and bridge, where they had no bridge
 abbrev pub HasOwnedToo : BTreeMap (List ℕ) (List ℕ) → BTreeMap (List ℕ) (List ℕ) → Said → Type 0
-HasOwnedToo old new saying = (port : List ℕ) → get (slice_cmp nat_cmp) new port ≡ owner_or (get (slice_cmp nat_cmp) old port) (owner_in port saying)
+HasOwnedToo old new saying = (port : List ℕ) → get (slice_cmp nat_cmp) new port
+    ≡ owner_or (get (slice_cmp nat_cmp) old port) (owner_in port saying)
 
-abbrev pub HasOwnedByKind : BTreeMap (List ℕ) (List ℕ) → BTreeMap (List ℕ) (List ℕ) → StatedKind → Option (List ℕ) → Type 0
-HasOwnedByKind old new kind bridge = (port : List ℕ) → get (slice_cmp nat_cmp) new port ≡ owner_or (get (slice_cmp nat_cmp) old port) (if names_port port kind then bridge else None)
+abbrev pub HasOwnedByKind : BTreeMap (List ℕ) (List ℕ) → BTreeMap (List ℕ) (List ℕ) → StatedKind → Option (List ℕ)
+    → Type 0
+HasOwnedByKind old new kind bridge = (port : List ℕ) → get (slice_cmp nat_cmp) new port
+    ≡ owner_or (get (slice_cmp nat_cmp) old port) (if names_port port kind then bridge else None)
 
 -- the map has these ports too, of this bridge, where they had none
 abbrev pub HasPortsToo : BTreeMap (List ℕ) (List ℕ) → BTreeMap (List ℕ) (List ℕ) → List ℕ → List (List ℕ) → Type 0
-HasPortsToo old new bridge ports = (port : List ℕ) → get (slice_cmp nat_cmp) new port ≡ owner_or (get (slice_cmp nat_cmp) old port) (if has ports port then Some bridge else None)
+HasPortsToo old new bridge ports = (port : List ℕ) → get (slice_cmp nat_cmp) new port
+    ≡ owner_or (get (slice_cmp nat_cmp) old port) (if has ports port then Some bridge else None)

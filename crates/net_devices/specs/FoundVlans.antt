@@ -15,8 +15,10 @@ has_vlan vlans (Some vlan) = contains vlan_cmp vlans (vlan.lower, vlan.id)
 
 -- the set has this VLAN too, where there is one
 abbrev pub HasVlanToo : BTreeSet (List ℕ × ℕ) → BTreeSet (List ℕ × ℕ) → Option VlanParts → Type 0
-HasVlanToo old new vlan = (at : List ℕ × ℕ) → contains vlan_cmp new at ≡ (contains vlan_cmp old at || is_vlan_at at.0 at.1 vlan)
+HasVlanToo old new vlan = (at : List ℕ × ℕ) → contains vlan_cmp new at
+    ≡ (contains vlan_cmp old at || is_vlan_at at.0 at.1 vlan)
 
 -- the set has the VLANs that these names are
 abbrev pub HasVlansOf : List Said → BTreeSet (List ℕ × ℕ) → List (List ℕ) → Type 0
-HasVlansOf said vlans names = (at : List ℕ × ℕ) → contains vlan_cmp vlans at ≡ list_any (λ name. is_vlan_at at.0 at.1 (vlan_of (kind_of said name))) names
+HasVlansOf said vlans names = (at : List ℕ × ℕ) → contains vlan_cmp vlans at
+    ≡ list_any (λ name. is_vlan_at at.0 at.1 (vlan_of (kind_of said name))) names

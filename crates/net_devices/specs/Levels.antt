@@ -1,6 +1,7 @@
--- Which names stand on which, and how high (OpenWrt's network configuration; that no name is higher than 8 levels is a rule of
--- our own).
-use Rattle.std.specs.Prelude.{ℕ, zero, suc, ◌≡◌, ◌+◌, Bool, true, false, not, max, List, [], ◌∷◌, map, filter, fold, Option, Some, None, if◌then◌else◌}
+-- Which names stand on which, and how high (OpenWrt's network configuration; that no name is higher than 8 levels is a
+-- rule of our own).
+use Rattle.std.specs.Prelude.{ℕ, zero, suc, ◌≡◌, ◌+◌, Bool, true, false, not, max, List, [], ◌∷◌, map, filter, fold}
+use Rattle.std.specs.Prelude.{Option, Some, None, if◌then◌else◌}
 use Rattle.net_rows.specs.declared.stated.Stated.{Stated}
 use Rattle.net_rows.specs.declared.stated.Stated.TheVariants.{Absent, Unread, Read}
 use Rattle.net_rows.specs.declared.dotted.VlanParts.{VlanParts}
@@ -62,8 +63,8 @@ abbrev pub level_over : Bool → ℕ → ℕ
 level_over bridge highest = (if bridge then max highest 1 else highest) + 1
 
 mutual
-  -- The name is on this level: each name that it stands on is on a level, and it is one above the highest of these, a bridge
-  -- at least on the second. A name that stands on itself is on none.
+  -- The name is on this level: each name that it stands on is on a level, and it is one above the highest of these, a
+  -- bridge at least on the second. A name that stands on itself is on none.
   pub data IsOnLevel (said : List Said) : List ℕ → ℕ → Type 0 where
     over : (name : List ℕ) (level : ℕ) (levels : List ℕ) → AreOnLevels said (below said name) levels
         → level ≡ level_over (is_bridge said name) (highest levels) → IsOnLevel said name level
@@ -75,11 +76,12 @@ mutual
         → levels ≡ level ∷ lower → IsOnLevel said name level → AreOnLevels said others lower
         → AreOnLevels said names levels
 
--- The level of a name, looked for so many levels down. It is exact where it is not above that number, and one more than the
--- number for a name that is higher, or that stands on itself or on such a name.
+-- The level of a name, looked for so many levels down. It is exact where it is not above that number, and one more than
+-- the number for a name that is higher, or that stands on itself or on such a name.
 abbrev pub level_within : List Said → ℕ → List ℕ → ℕ
 level_within said zero name = 1
-level_within said (suc more) name = level_over (is_bridge said name) (highest (map (level_within said more) (below said name)))
+level_within said (suc more) name =
+    level_over (is_bridge said name) (highest (map (level_within said more) (below said name)))
 
 -- the level of a name, and 9 where it is on no level up to 8
 abbrev pub level : List Said → List ℕ → ℕ

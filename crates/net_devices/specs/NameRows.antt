@@ -1,5 +1,6 @@
 -- The rows of `device` sections and of names (OpenWrt's network configuration).
-use Rattle.std.specs.Prelude.{ℕ, Bool, true, false, ◌==◌, ◌&&◌, nat_lt, List, [], ◌∷◌, ◌++◌, map, filter, Option, Some, None, if◌then◌else◌, bytes_eq}
+use Rattle.std.specs.Prelude.{ℕ, Bool, true, false, ◌==◌, ◌&&◌, nat_lt, List, [], ◌∷◌, ◌++◌, map, filter, Option, Some}
+use Rattle.std.specs.Prelude.{None, if◌then◌else◌, bytes_eq}
 use Rattle.std.specs.List.{list_any}
 use Rattle.uci_tree.specs.declared.package.Section.{Section}
 use Rattle.kern_model.specs.declared.object.Mac.{Mac}
@@ -30,7 +31,8 @@ device_row said section = record {
 
 -- the rows of all `device` sections, also of those that do not count
 abbrev pub device_rows : List Said → List Section → List DeviceRow
-device_rows said sections = map (λ section. device_row said (device_section section.options)) (filter is_device sections)
+device_rows said sections = map (λ section. device_row said (device_section section.options))
+    (filter is_device sections)
 
 -- a VLAN whose identifier and lower name are told
 abbrev pub told_vlan : Option (List ℕ) → ℕ → Option VlanParts
@@ -50,7 +52,8 @@ is_vlan_at lower id (Some vlan) = bytes_eq vlan.lower lower && (vlan.id == id)
 -- one of these names is the same VLAN
 abbrev pub is_vlan_of_some : List Said → List (List ℕ) → Option VlanParts → Bool
 is_vlan_of_some said names None = false
-is_vlan_of_some said names (Some vlan) = list_any (λ name. is_vlan_at vlan.lower vlan.id (vlan_of (kind_of said name))) names
+is_vlan_of_some said names (Some vlan) =
+    list_any (λ name. is_vlan_at vlan.lower vlan.id (vlan_of (kind_of said name))) names
 
 -- an earlier name is the same VLAN as a name of this kind
 abbrev pub has_same_vlan : List Said → List (List ℕ) → NameKind → Bool
@@ -59,10 +62,12 @@ has_same_vlan said earlier kind = is_vlan_of_some said earlier (vlan_of kind)
 abbrev pub is_too_high : List Said → List ℕ → Bool
 is_too_high said name = nat_lt MOST_LEVELS (level said name)
 
--- the faults of a name: of its section's kind, those found at the name itself, and of the options that its section gives
+-- the faults of a name: of its section's kind, those found at the name itself, and of the options that its section
+-- gives
 abbrev pub name_faults : List Said → Bool → Bool → Option DeviceSection → List RowFault
 name_faults said is_same is_too_high None = if_so is_same fault.SameVlan ++ if_so is_too_high fault.TooHigh
-name_faults said is_same is_too_high (Some section) = kind_faults said section.kind ++ if_so is_same fault.SameVlan ++ if_so is_too_high fault.TooHigh ++ value_faults section
+name_faults said is_same is_too_high (Some section) = kind_faults said section.kind ++ if_so is_same fault.SameVlan
+    ++ if_so is_too_high fault.TooHigh ++ value_faults section
 
 -- the faults of a name, where an earlier one is the same VLAN or not
 abbrev pub faults_of : List Said → Bool → List ℕ → List RowFault

@@ -1,6 +1,7 @@
--- The names of network devices that a configuration speaks of (OpenWrt's network configuration; the order of the list is a rule
--- of our own).
-use Rattle.std.specs.Prelude.{ℕ, zero, suc, Bool, false, List, [], ◌∷◌, ◌++◌, Option, Some, None, if◌then◌else◌, bytes_eq}
+-- The names of network devices that a configuration speaks of (OpenWrt's network configuration; the order of the list
+-- is a rule of our own).
+use Rattle.std.specs.Prelude.{ℕ, zero, suc, Bool, false, List, [], ◌∷◌, ◌++◌, Option, Some, None, if◌then◌else◌}
+use Rattle.std.specs.Prelude.{bytes_eq}
 use Rattle.std.specs.List.{flat_map}
 use Rattle.net_rows.specs.declared.stated.Stated.{Stated}
 use Rattle.net_rows.specs.declared.stated.Stated.TheVariants.{Absent, Unread, Read}

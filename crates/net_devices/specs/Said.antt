@@ -40,10 +40,12 @@ bad_ports words = each_once (filter (λ word. not (is_name word)) words)
 
 -- `bridge_empty` is false unless it is given
 abbrev pub bridge_kind : List Opt → StatedKind
-bridge_kind options = kind.Bridge (truth false (text_of (codes "bridge_empty") options)) (port_names (port_words options)) (bad_ports (port_words options))
+bridge_kind options = kind.Bridge (truth false (text_of (codes "bridge_empty") options))
+    (port_names (port_words options)) (bad_ports (port_words options))
 
 abbrev pub vlan_kind : List Opt → StatedKind
-vlan_kind options = kind.Vlan (stated name_of (value_of (codes "ifname") options)) (stated (number_within LEAST_VLAN_ID MOST_VLAN_ID) (value_of (codes "vid") options))
+vlan_kind options = kind.Vlan (stated name_of (value_of (codes "ifname") options))
+    (stated (number_within LEAST_VLAN_ID MOST_VLAN_ID) (value_of (codes "vid") options))
 
 abbrev pub kind_of_type : List Opt → List ℕ → StatedKind
 kind_of_type options text =

@@ -13,5 +13,6 @@ said_view index = index.said
 
 -- the section of each name and the bridge of each port are found
 pub record IsIndexed (index : Inside) : Type 0 where
-  pub sections : (name : List ℕ) → section_at index.said (get (slice_cmp nat_cmp) index.places name) ≡ section_of index.said name
+  pub sections : (name : List ℕ) → section_at index.said (get (slice_cmp nat_cmp) index.places name)
+      ≡ section_of index.said name
   pub owners : HasOwners index.owners index.said

@@ -17,7 +17,8 @@ port_cmp port other = ordering_then (slice_cmp nat_cmp port.0 other.0) (slice_cm
 
 -- a bridge's ports with a PVID, with those of these entries
 abbrev pub HasPvidsToo : BTreeSet (List ℕ × List ℕ) → BTreeSet (List ℕ × List ℕ) → List ℕ → List VlanEntry → Type 0
-HasPvidsToo old new bridge entries = (port : List ℕ × List ℕ) → contains port_cmp new port ≡ (contains port_cmp old port || (bytes_eq bridge port.0 && list_any (gives_pvid port.1) entries))
+HasPvidsToo old new bridge entries = (port : List ℕ × List ℕ) → contains port_cmp new port
+    ≡ (contains port_cmp old port || (bytes_eq bridge port.0 && list_any (gives_pvid port.1) entries))
 
 -- the sets have the VLANs and the ports with a PVID of the rows that count
 pub record IsTable (table : VlanTable) : Type 0 where

@@ -35,7 +35,8 @@ pub struct VlanSaid {
     pub words: Items<Text>,
 }
 
-/// The rows of the `bridge-vlan` sections, in file order. `said` is what the sections that count say.
+/// The rows of the `bridge-vlan` sections, in file order. `said` is what the sections that count
+/// say.
 pub fn vlan_rows(
     alloc: Global,
     said: &SaidIndex,

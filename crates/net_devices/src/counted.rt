@@ -13,8 +13,8 @@ use plane_io::{Items, Memory};
 use std::alloc::Global;
 use uci_tree::Section;
 
-/// What the sections that count say about the names of network devices, in file order. Of several `device` sections of one
-/// name the last one counts.
+/// What the sections that count say about the names of network devices, in file order. Of several
+/// `device` sections of one name the last one counts.
 pub fn all_said(alloc: Global, sections: &[Section]) -> Result<Items<Said>, Memory>
     ensures { IfOk result (λ said. said ≡ spec.all_said sections.now) }
 {

@@ -16,8 +16,8 @@ use uci_tree::Package;
 /// How many names of network devices a configuration may have.
 pub const MOST_NAMES: usize = 4096;
 
-/// What a `network` package says about devices: the rows of its `device` sections, of the names that it speaks of, and of its
-/// `bridge-vlan` sections.
+/// What a `network` package says about devices: the rows of its `device` sections, of the names
+/// that it speaks of, and of its `bridge-vlan` sections.
 #[derive(Drop)]
 pub struct DeviceConf {
     pub devices: Items<DeviceRow>,
@@ -25,10 +25,12 @@ pub struct DeviceConf {
     pub vlans: Items<VlanRow>,
 }
 
-/// The rows of a `network` package about devices, each with its faults. `Limit` where there are more than 4,096 names.
+/// The rows of a `network` package about devices, each with its faults. `Limit` where there are
+/// more than 4,096 names.
 pub fn read_devices(alloc: Global, network: &Package) -> Result<DeviceConf, ConfError>
     ensures rows { IfOk result (λ conf. conf ≡ spec.device_conf network.now.sections) }
-    ensures within { IfOk result (λ conf. length (spec.all_names network.now.sections) ≤ MOST_NAMES) }
+    ensures within { IfOk result
+        (λ conf. length (spec.all_names network.now.sections) ≤ MOST_NAMES) }
     ensures limit { (number : ℕ) → result ≡ Err (Limit number) →
         spec.IsOverLimit network.now.sections number }
 {

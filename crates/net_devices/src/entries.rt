@@ -8,7 +8,8 @@ use net_rows::{VlanEntry, cut_first};
 use plane_io::{Items, Memory, Text};
 use std::alloc::Global;
 
-/// The port that a word is: a device name, and perhaps `:` and a suffix. Without one it is untagged and PVID.
+/// The port that a word is: a device name, and perhaps `:` and a suffix. Without one it is untagged
+/// and PVID.
 pub fn entry_of(word: &[u8]) -> Option<VlanEntry>
     ensures { result ≡ spec.entry_of word.now }
 {

@@ -6,8 +6,9 @@ ghost use Rattle.net_devices.specs.declared.said.Said.{Said};
 ghost use Rattle.net_devices.specs.Levels.{IsOnLevel, level};
 ghost use Rattle.net_devices.specs.Names.{mentioned, implied, lower_of};
 
-/// The level of a name that a row tells is the level that the name is on. It is one more than the most levels exactly where
-/// the name is on no level up to these: it is higher, stands on itself, or stands on such a name.
+/// The level of a name that a row tells is the level that the name is on. It is one more than the
+/// most levels exactly where the name is on no level up to these: it is higher, stands on itself,
+/// or stands on such a name.
 pub fn levels_are_exact()
     ensures found { (said : List Said) (name : List ℕ) (number : ℕ) →
         level said name ≡ number → number ≤ MOST_LEVELS → IsOnLevel said name number }
@@ -18,7 +19,8 @@ pub fn levels_are_exact()
         ↔ ((number : ℕ) → IsOnLevel said name number → MOST_LEVELS < number) }
 {}
 
-/// Each lower that is implied is listed behind its VLAN, however many are implied one under another.
+/// Each lower that is implied is listed behind its VLAN, however many are implied one under
+/// another.
 pub fn lowers_are_all_listed()
     ensures { (said : List Said) (name : List ℕ) → is_name name ≡ true →
         mentioned said name ≡ name ∷ lower_of said (implied said name) }

@@ -99,7 +99,8 @@ fn stated_lower(alloc: Global, stated: &Stated<DevName>) -> Result<Items<DevName
     Ok(names)
 }
 
-/// The levels that were found, each with how many levels down it was looked for. So each is looked for once.
+/// The levels that were found, each with how many levels down it was looked for. So each is looked
+/// for once.
 #[derive(Drop)]
 pub struct FoundLevels {
     found: BTreeMap<(DevName, u8), u8>,

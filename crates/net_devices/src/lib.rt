@@ -1,5 +1,5 @@
-//! The rows of network configuration files: `device` sections, and the names of network devices with their kinds, levels and
-//! faults (OpenWrt's network configuration).
+//! The rows of network configuration files: `device` sections, and the names of network devices
+//! with their kinds, levels and faults (OpenWrt's network configuration).
 #![tactic(auto)]
 
 mod bridge_vlans;

@@ -35,7 +35,8 @@ fn implied_by_kind(name: &DevName, kind: &StatedKind) -> Option<VlanParts>
     }
 }
 
-/// The names of the sections in file order, then all that are mentioned, section by section, each at its first place.
+/// The names of the sections in file order, then all that are mentioned, section by section, each
+/// at its first place.
 pub fn all_names(alloc: Global, said: &SaidIndex) -> Result<Items<DevName>, Memory>
     ensures { IfOk result (λ names. names ≡ spec.names said.now) }
 {
@@ -62,7 +63,8 @@ fn add_own_name(names: &mut NamesOnce, saying: &Said) -> Result<(), Memory>
 }
 
 fn add_mentioned_by(names: &mut NamesOnce, said: &SaidIndex, saying: &Said) -> Result<(), Memory>
-    ensures { OnOk result (names.new ≡ with_names names.old (spec.mentioned_by said.now saying.now)) }
+    ensures { OnOk result (names.new
+        ≡ with_names names.old (spec.mentioned_by said.now saying.now)) }
 {
     match saying {
         Said::Interface(device) => add_mentioned(names, said, device, MOST_LOWERS),

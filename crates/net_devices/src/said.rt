@@ -39,7 +39,8 @@ pub struct DeviceSection {
     pub mac: Stated<Mac>,
 }
 
-/// What a section says about the names of network devices: a `device` section, or the device of an `interface` section.
+/// What a section says about the names of network devices: a `device` section, or the device of an
+/// `interface` section.
 #[derive(Drop)]
 pub enum Said {
     Device(DeviceSection),

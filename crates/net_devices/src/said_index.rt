@@ -14,8 +14,8 @@ use std::alloc::Global;
 use std::collections::BTreeMap;
 use std::marker::Model;
 
-/// What the sections that count say about the names of network devices, in file order. The section of a name and the bridge
-/// of a port are found through maps. Contracts see the list.
+/// What the sections that count say about the names of network devices, in file order. The section
+/// of a name and the bridge of a port are found through maps. Contracts see the list.
 #[derive(Drop)]
 pub struct SaidIndex {
     said: Items<Said>,

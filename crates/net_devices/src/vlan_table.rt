@@ -9,8 +9,8 @@ use plane_io::{Items, Memory};
 use std::alloc::Global;
 use std::collections::BTreeSet;
 
-/// The rows of `bridge-vlan` sections so far, with the VLANs and the ports with a PVID of those that count, each behind its
-/// bridge.
+/// The rows of `bridge-vlan` sections so far, with the VLANs and the ports with a PVID of those
+/// that count, each behind its bridge.
 #[derive(Drop)]
 pub struct VlanTable {
     rows: Items<VlanRow>,

@@ -196,7 +196,8 @@ module _ (inputs : Inputs) (interface : List ℕ) (number : ℕ) (answer : Answe
   }
 
   -- the layer-3 device that it tells
-  pub layer_tells : StandOnce inputs → (o : OpenInterface) → IsOpen o → (was : Option (List ℕ)) → was ≡ option_and_then (λ (x : OpenInterface). option_and_then (λ (a : Answer). a.device) x.answer) (ask_of inputs number) → TellsLayer inputs now interface was answer.device
+  pub layer_tells : StandOnce inputs → (o : OpenInterface) → IsOpen o → (was : Option (List ℕ)) → was ≡ option_and_then (λ (x : OpenInterface). option_and_then (λ (a : Answer). a.device) x.answer) (ask_of inputs number)
+      → TellsLayer inputs now interface was answer.device
   layer_tells once o open_is was is =
       let by_number : ask_of inputs number ≡ Some o = ap (ask_of inputs) (sym open_is.number_is) ∙ found_numbered inputs o once (found_inside (λ (x : OpenInterface). bytes_eq x.ask.name interface) inputs.interfaces o open_is.found) in
       let same : was ≡ told_layer inputs interface = is ∙ ap (λ (x : Option OpenInterface). option_and_then (λ (y : OpenInterface). option_and_then (λ (a : Answer). a.device) y.answer) x) (by_number ∙ sym open_is.found) in
@@ -284,12 +285,14 @@ module _ (inputs : Inputs) (interface : List ℕ) (number : ℕ) (answer : Answe
       other_name q r at first apart = false_of_not (bytes_eq r.name interface) (λ h.
           apart (some_is q place (sym (place_of_first inputs.conf.interfaces q r at first) ∙ ap (place_of (names_of_rows inputs.conf.interfaces)) (bytes_same r.name interface h) ∙ own)))
 
-      state_by : (q : ℕ) (r : InterfaceRow) (st : InterfaceState) → slice_get inputs.conf.interfaces q ≡ Some r → (q ≡ place → ⊥) → (b : Bool) → is_first inputs.conf.interfaces q r.name ≡ b → IsStateAs b (facts_of inputs) r st → IsStateAs b (facts_of now) r st
+      state_by : (q : ℕ) (r : InterfaceRow) (st : InterfaceState) → slice_get inputs.conf.interfaces q ≡ Some r → (q ≡ place → ⊥) → (b : Bool) → is_first inputs.conf.interfaces q r.name ≡ b → IsStateAs b (facts_of inputs) r st
+          → IsStateAs b (facts_of now) r st
       state_by q r st at apart true is state = state_same (facts_of inputs) (facts_of now).answer r (answer_other r.name (other_name q r at is apart)) st state
       state_by q r st at apart false is state = state
 
       pub follow_told : (before list : List InterfaceState) → ((q : ℕ) → (q ≡ place → ⊥) → slice_get list q ≡ slice_get before q)
-          → ((q : ℕ) (r : InterfaceRow) (st : InterfaceState) → slice_get inputs.conf.interfaces q ≡ Some r → slice_get before q ≡ Some st → IsStateAs (is_first inputs.conf.interfaces q r.name) (facts_of inputs) r st) → FollowBut now (place ∷ []) list
+          → ((q : ℕ) (r : InterfaceRow) (st : InterfaceState) → slice_get inputs.conf.interfaces q ≡ Some r → slice_get before q ≡ Some st → IsStateAs (is_first inputs.conf.interfaces q r.name) (facts_of inputs) r st)
+          → FollowBut now (place ∷ []) list
       follow_told before list same each = λ q r st at here_is untouched.
           let apart : q ≡ place → ⊥ = λ e. let yes : has (place ∷ []) q ≡ true = ap (has (place ∷ [])) e ∙ has_member (place ∷ []) place (here place []) in cc (yes, untouched) in
           state_by q r st at apart (is_first inputs.conf.interfaces q r.name) refl (each q r st at (sym (same q apart) ∙ here_is))
@@ -319,10 +322,12 @@ module _ (inputs : Inputs) (interface : List ℕ) (number : ℕ) (answer : Answe
         givers_told : (gs : Gifts) → HasGivers (facts_of inputs) inputs.conf.interfaces states.list.items gs → HasGivers (facts_of now) inputs.conf.interfaces states.list.items gs
         givers_told gs was = λ ob.
             was ob
-            ∙ sym (ap (times_in ob) (gives_agree (λ (e : InterfaceRow × InterfaceState). gives (facts_of now) e.0 e.1) (λ (e : InterfaceRow × InterfaceState). gives (facts_of inputs) e.0 e.1) inputs.conf.interfaces states.list.items (λ q r s r_at s_at. gives_same r s (quiet q r s r_at s_at))))
+            ∙ sym (ap (times_in ob) (gives_agree (λ (e : InterfaceRow × InterfaceState). gives (facts_of now) e.0 e.1) (λ (e : InterfaceRow × InterfaceState). gives (facts_of inputs) e.0 e.1) inputs.conf.interfaces states.list.items
+            (λ q r s r_at s_at. gives_same r s (quiet q r s r_at s_at))))
 
         module _ (gs : Gifts) (answered : (r : InterfaceRow) → slice_get inputs.conf.interfaces place ≡ Some r → HavePlaces gs (given_by (facts_of now) r (layer_of (facts_of now) r))) (room : HasGiftRoom inputs gs) where
-          places_told : (q : ℕ) (r : InterfaceRow) → slice_get inputs.conf.interfaces q ≡ Some r → is_first inputs.conf.interfaces q r.name ≡ true → needs_no_answer (facts_of now) r ≡ true → (b : Bool) → (q == place) ≡ b → HavePlaces gs (given_by (facts_of now) r (layer_of (facts_of now) r))
+          places_told : (q : ℕ) (r : InterfaceRow) → slice_get inputs.conf.interfaces q ≡ Some r → is_first inputs.conf.interfaces q r.name ≡ true → needs_no_answer (facts_of now) r ≡ true → (b : Bool) → (q == place) ≡ b
+              → HavePlaces gs (given_by (facts_of now) r (layer_of (facts_of now) r))
           places_told q r at first needs true is = answered r (ap (slice_get inputs.conf.interfaces) (sym ((Decides-eqb q place).0 is)) ∙ at)
           places_told q r at first needs false is =
               let other : bytes_eq r.name interface ≡ false = other_name q r at first (λ e. let yes = (Decides-eqb q place).1 e in cc (is, yes)) in
@@ -336,7 +341,8 @@ module _ (inputs : Inputs) (interface : List ℕ) (number : ℕ) (answer : Answe
             rows = room.rows;
           }
 
-        pub counted_told : (c : Course) → ((r : InterfaceRow) → slice_get inputs.conf.interfaces place ≡ Some r → HavePlaces c.gifts (given_by (facts_of now) r (layer_of (facts_of now) r))) → IsCountedBy inputs states.list.items c → IsCountedBy now states.list.items c
+        pub counted_told : (c : Course) → ((r : InterfaceRow) → slice_get inputs.conf.interfaces place ≡ Some r → HavePlaces c.gifts (given_by (facts_of now) r (layer_of (facts_of now) r))) → IsCountedBy inputs states.list.items c
+            → IsCountedBy now states.list.items c
         counted_told c answered counted = record {
           agrees = record {
             below = record { rows = counted.agrees.below.rows; vlans = counted.agrees.below.vlans; radio = counted.agrees.below.radio; devices = counted.agrees.below.devices };

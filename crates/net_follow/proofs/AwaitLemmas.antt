@@ -39,7 +39,8 @@ named_at conf name place own row at =
     let first = first_at_place conf.interfaces name place own in
     ap (λ (x : InterfaceRow). x.name) (some_is row first.row (sym at ∙ first.at)) ∙ first.named
 
-pub first_there : (inputs : Inputs) (states : States) (name : List ℕ) (place : ℕ) → IsTied inputs states → interface_place inputs.conf name ≡ Some place → (st : InterfaceState) → slice_get states.list.items place ≡ Some st → st.is_first ≡ true
+pub first_there : (inputs : Inputs) (states : States) (name : List ℕ) (place : ℕ) → IsTied inputs states → interface_place inputs.conf name ≡ Some place → (st : InterfaceState) → slice_get states.list.items place ≡ Some st → st.is_first
+    ≡ true
 first_there inputs states name place tied own st here_is =
     let at = first_at_place inputs.conf.interfaces name place own in
     tied.noted.first place at.row st at.at here_is ∙ ap (is_first inputs.conf.interfaces place) at.named ∙ at.first
@@ -47,7 +48,8 @@ first_there inputs states name place tied own st here_is =
 module _ (f : Follower) (place : ℕ) (interface : List ℕ) (number : ℕ) (answer : Answer) (own : interface_place (inputs_of f).conf interface ≡ Some place)
     (free : refusal (moment_of (inputs_of f) (held_of f.settling)) (event.Answer interface number answer) ≡ None) where
   -- there is room
-  pub room_for : (gs : Gifts) (reach : Reach) → ((row : InterfaceRow) → slice_get (inputs_of f).conf.interfaces place ≡ Some row → HavePlaces gs (given_hearing (facts_of (inputs_of f)) row answer (layer_by (facts_of (inputs_of f)) row answer)))
+  pub room_for : (gs : Gifts) (reach : Reach) → ((row : InterfaceRow) → slice_get (inputs_of f).conf.interfaces place ≡ Some row
+      → HavePlaces gs (given_hearing (facts_of (inputs_of f)) row answer (layer_by (facts_of (inputs_of f)) row answer)))
       → IfSome answer.device (HasRoomAt reach.at_layer) → (row : InterfaceRow) → slice_get (inputs_of f).conf.interfaces place ≡ Some row
       → HasAnswerRoom (record f { settling = record f.settling { gifts = gs }; states = record f.states { reach = reach } }) row number answer
   room_for gs reach places layer row at =

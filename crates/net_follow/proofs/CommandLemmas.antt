@@ -40,11 +40,13 @@ module _ (inputs : Inputs) (interface : List ℕ) (up : Bool) (place : ℕ) (own
   abbrev now : Inputs
   now = changed inputs (event.Operator interface up)
 
-  state_by : (q : ℕ) (row : InterfaceRow) (st : InterfaceState) → slice_get inputs.conf.interfaces q ≡ Some row → (Contains (place ∷ []) q → ⊥) → (b : Bool) → is_first inputs.conf.interfaces q row.name ≡ b → IsStateAs b (facts_of inputs) row st → IsStateAs b (facts_of now) row st
+  state_by : (q : ℕ) (row : InterfaceRow) (st : InterfaceState) → slice_get inputs.conf.interfaces q ≡ Some row → (Contains (place ∷ []) q → ⊥) → (b : Bool) → is_first inputs.conf.interfaces q row.name ≡ b
+      → IsStateAs b (facts_of inputs) row st → IsStateAs b (facts_of now) row st
   state_by q row st at outside true is state = behind_command inputs interface up place q row st own at is outside state
   state_by q row st at outside false is state = state
 
-  follow_but : (list : List InterfaceState) → ((q : ℕ) (row : InterfaceRow) (st : InterfaceState) → slice_get inputs.conf.interfaces q ≡ Some row → slice_get list q ≡ Some st → IsStateAs (is_first inputs.conf.interfaces q row.name) (facts_of inputs) row st) → FollowBut now (place ∷ []) list
+  follow_but : (list : List InterfaceState) → ((q : ℕ) (row : InterfaceRow) (st : InterfaceState) → slice_get inputs.conf.interfaces q ≡ Some row → slice_get list q ≡ Some st
+      → IsStateAs (is_first inputs.conf.interfaces q row.name) (facts_of inputs) row st) → FollowBut now (place ∷ []) list
   follow_but list each = λ q row st at here apart.
       let outside : Contains (place ∷ []) q → ⊥ = λ member. let among = has_member (place ∷ []) q member in cc (among, apart) in
       state_by q row st at outside (is_first inputs.conf.interfaces q row.name) refl (each q row st at here)

@@ -34,7 +34,8 @@ module _ (inputs : Inputs) (ds : List (List ℕ × Device)) (cs : List Command) 
   pub givers_other : (states : List InterfaceState) (gs : Gifts) → HasGivers (facts_of inputs) inputs.conf.interfaces states gs → HasGivers (facts_of other) inputs.conf.interfaces states gs
   givers_other states gs was = λ o.
       was o
-      ∙ sym (ap (times_in o) (gives_agree (λ (e : InterfaceRow × InterfaceState). gives (facts_of other) e.0 e.1) (λ (e : InterfaceRow × InterfaceState). gives (facts_of inputs) e.0 e.1) inputs.conf.interfaces states (λ i row st row_at st_at. gives_same row st)))
+      ∙ sym (ap (times_in o) (gives_agree (λ (e : InterfaceRow × InterfaceState). gives (facts_of other) e.0 e.1) (λ (e : InterfaceRow × InterfaceState). gives (facts_of inputs) e.0 e.1) inputs.conf.interfaces states
+      (λ i row st row_at st_at. gives_same row st)))
 
   pub room_other : (gs : Gifts) → HasGiftRoom inputs gs → HasGiftRoom other gs
   room_other gs room = record {
@@ -46,7 +47,8 @@ module _ (inputs : Inputs) (ds : List (List ℕ × Device)) (cs : List Command) 
   }
 
   -- counted beside another graph and other gifts, which agree
-  pub counted_other : (states : List InterfaceState) (now : Course) → AgreesWith other now.graph.known → HasClaims states now.graph.known → HasGivers (facts_of inputs) inputs.conf.interfaces states now.gifts → HasGiftRoom inputs now.gifts → IsCountedBy other states now
+  pub counted_other : (states : List InterfaceState) (now : Course) → AgreesWith other now.graph.known → HasClaims states now.graph.known → HasGivers (facts_of inputs) inputs.conf.interfaces states now.gifts → HasGiftRoom inputs now.gifts
+      → IsCountedBy other states now
   counted_other states now agrees claims givers room = record {
     agrees = agrees;
     counted = record { claims = claims; givers = givers_other states now.gifts givers };

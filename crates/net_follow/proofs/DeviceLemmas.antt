@@ -44,16 +44,19 @@ module _ (inputs : Inputs) (what : DevEvent) (places : List ℕ) where
     rising : AreRising 0 (length inputs.conf.interfaces) places
     rising = rising_below (length inputs.conf.interfaces) places are.rising (λ place member. let at = are.only place member in within_of inputs.conf.interfaces place at.row at.found)
 
-    state_by : (q : ℕ) (row : InterfaceRow) (st : InterfaceState) → slice_get inputs.conf.interfaces q ≡ Some row → (Contains places q → ⊥) → (b : Bool) → is_first inputs.conf.interfaces q row.name ≡ b → IsStateAs b (facts_of inputs) row st → IsStateAs b (facts_of now) row st
+    state_by : (q : ℕ) (row : InterfaceRow) (st : InterfaceState) → slice_get inputs.conf.interfaces q ≡ Some row → (Contains places q → ⊥) → (b : Bool) → is_first inputs.conf.interfaces q row.name ≡ b → IsStateAs b (facts_of inputs) row st
+        → IsStateAs b (facts_of now) row st
     state_by q row st at outside true is state = behind_device inputs what places q row st are at is outside state
     state_by q row st at outside false is state = state
 
-    follow_but : (list : List InterfaceState) → ((q : ℕ) (row : InterfaceRow) (st : InterfaceState) → slice_get inputs.conf.interfaces q ≡ Some row → slice_get list q ≡ Some st → IsStateAs (is_first inputs.conf.interfaces q row.name) (facts_of inputs) row st) → FollowBut now places list
+    follow_but : (list : List InterfaceState) → ((q : ℕ) (row : InterfaceRow) (st : InterfaceState) → slice_get inputs.conf.interfaces q ≡ Some row → slice_get list q ≡ Some st
+        → IsStateAs (is_first inputs.conf.interfaces q row.name) (facts_of inputs) row st) → FollowBut now places list
     follow_but list each = λ q row st at here apart_from.
         let outside : Contains places q → ⊥ = λ member. let among = has_member places q member in cc (among, apart_from) in
         state_by q row st at outside (is_first inputs.conf.interfaces q row.name) refl (each q row st at here)
 
-    pub device_moves : (states : States) (reach : Reach) (c : Course) → AreStatesOf inputs states → IsReachOf now reach → IsCountedBy now states.list.items c → IsCalm c → inputs.next + 1024 ≤ 2 ^ 63 → Moves now places (record states { reach = reach }) c
+    pub device_moves : (states : States) (reach : Reach) (c : Course) → AreStatesOf inputs states → IsReachOf now reach → IsCountedBy now states.list.items c → IsCalm c → inputs.next + 1024 ≤ 2 ^ 63
+        → Moves now places (record states { reach = reach }) c
     device_moves states reach c states_are reaches counted calm next =
         let few : length places ≤ length inputs.conf.interfaces = rising_few (length inputs.conf.interfaces) places rising in
         let rows : length inputs.conf.interfaces ≤ 1024 = counted.room.rows in

@@ -50,7 +50,8 @@ looked_objects s [] = refl
 looked_objects s (g ∷ gs) = by g.held (looked_objects s gs)
   where
     by : (b : Bool) → map (λ (g : Gift). g.object) (filter (λ g. g.held) (map (looked_at s) gs)) ≡ map (λ (g : Gift). g.object) (filter (λ g. g.held) gs)
-        → map (λ (g : Gift). g.object) (cond b (looked_at s g ∷ filter (λ g. g.held) (map (looked_at s) gs)) (filter (λ g. g.held) (map (looked_at s) gs))) ≡ map (λ (g : Gift). g.object) (cond b (g ∷ filter (λ g. g.held) gs) (filter (λ g. g.held) gs))
+        → map (λ (g : Gift). g.object) (cond b (looked_at s g ∷ filter (λ g. g.held) (map (looked_at s) gs)) (filter (λ g. g.held) (map (looked_at s) gs)))
+        ≡ map (λ (g : Gift). g.object) (cond b (g ∷ filter (λ g. g.held) gs) (filter (λ g. g.held) gs))
     by true rest = ap (λ os. g.object ∷ os) rest
     by false rest = rest
 

@@ -36,7 +36,8 @@ name_there : (ns : List Named) (name : List ℕ) (id : ℕ) → place_among ns n
 name_there [] name id place = cc place
 name_there (n ∷ ns) name id place = by (bytes_eq name n.name) refl (place_among ns name) refl (sym (position-cons (bytes_eq name) n.name (name_list ns)) ∙ place) (name_there ns name)
   where
-    by : (b : Bool) → bytes_eq name n.name ≡ b → (o : Option ℕ) → place_among ns name ≡ o → cond {A = Option ℕ} b (Some 0) (option_map (λ k. suc k) o) ≡ Some id → ((k : ℕ) → place_among ns name ≡ Some k → (name_at ns k).name ≡ name) → (name_at (n ∷ ns) id).name ≡ name
+    by : (b : Bool) → bytes_eq name n.name ≡ b → (o : Option ℕ) → place_among ns name ≡ o → cond {A = Option ℕ} b (Some 0) (option_map (λ k. suc k) o) ≡ Some id → ((k : ℕ) → place_among ns name ≡ Some k → (name_at ns k).name ≡ name)
+        → (name_at (n ∷ ns) id).name ≡ name
     by true is o there e rest = subst (λ k. (name_at (n ∷ ns) k).name ≡ name) (some_is 0 id e) (sym (bytes_same name n.name is))
     by false is None there e rest = cc e
     by false is (Some k) there e rest = subst (λ j. (name_at (n ∷ ns) j).name ≡ name) (some_is (suc k) id e) (rest k there)
@@ -64,7 +65,8 @@ place_added (n ∷ ns) name none =
     ∙ ap (λ b. cond {A = Option ℕ} b (Some 0) (option_map (λ k. suc k) (place_among (with_name ns name) name))) apart.0
     ∙ ap (option_map (λ k. suc k)) (place_added ns name apart.1)
 
-pub known_added : {E : Type 0} (result : Result DevId E) (old new : State) (name : List ℕ) → place_among old.known.names name ≡ None → OnOk result (new ≡ added_after old name) → IfOk result (λ id. id.0 ≡ length old.known.names) → IfOk result (λ id. place_among new.known.names name ≡ Some id.0)
+pub known_added : {E : Type 0} (result : Result DevId E) (old new : State) (name : List ℕ) → place_among old.known.names name ≡ None → OnOk result (new ≡ added_after old name) → IfOk result (λ id. id.0 ≡ length old.known.names)
+    → IfOk result (λ id. place_among new.known.names name ≡ Some id.0)
 known_added (Ok id) old new name none ok is = ap (λ (s : State). place_among s.known.names name) ok ∙ place_added old.known.names name none ∙ ap Some (sym is)
 known_added (Err e) old new name none ok is = tt
 
@@ -74,7 +76,8 @@ claims_here : (m : Named) (found : Option Named) (d : Option Device) (b : Bool) 
 claims_here m found d true = refl
 claims_here m found d false = refl
 
-claims_later : (m : Named) (now before : Option Named) (b : Bool) → option_map_or (λ (n : Named). n.claims) now 0 ≡ option_map_or (λ (n : Named). n.claims) before 0 → option_map_or (λ (n : Named). n.claims) (cond b (Some m) now) 0 ≡ option_map_or (λ (n : Named). n.claims) (cond b (Some m) before) 0
+claims_later : (m : Named) (now before : Option Named) (b : Bool) → option_map_or (λ (n : Named). n.claims) now 0 ≡ option_map_or (λ (n : Named). n.claims) before 0 → option_map_or (λ (n : Named). n.claims) (cond b (Some m) now) 0
+    ≡ option_map_or (λ (n : Named). n.claims) (cond b (Some m) before) 0
 claims_later m now before true rest = refl
 claims_later m now before false rest = rest
 
@@ -126,7 +129,8 @@ left_is None name held there = cc there
 left_is (Some d) name held there = refl
 
 -- all that stands on a present device goes with it
-pub held_left : (inputs : Inputs) (s : Known) (name : List ℕ) (id : ℕ) (held : Objects) → AgreesBelow (facts_of inputs) s → place_among s.names name ≡ Some id → is_some (device_in inputs.devices name) ≡ true → left_by (name_at s.names id).device (name_at s.names id).name held ≡ gone held name
+pub held_left : (inputs : Inputs) (s : Known) (name : List ℕ) (id : ℕ) (held : Objects) → AgreesBelow (facts_of inputs) s → place_among s.names name ≡ Some id → is_some (device_in inputs.devices name) ≡ true
+    → left_by (name_at s.names id).device (name_at s.names id).name held ≡ gone held name
 held_left inputs s name id held below place there =
     let device : (name_at s.names id).device ≡ device_in inputs.devices name = sym (at_place s.names name id place) ∙ below.devices name in
     ap (λ (x : List ℕ). left_by (name_at s.names id).device x held) (name_there s.names name id place)

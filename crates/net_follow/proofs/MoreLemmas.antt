@@ -99,11 +99,13 @@ none_given facts row answer gs layer none = subst (λ (l : Option (List ℕ)). H
 
 -- else what is listed
 pub all_given : (facts : Facts) (row : InterfaceRow) (answer : Answer) (before gs : Gifts) (layer : Option (List ℕ)) (dev : List ℕ) (told : Option Answer) (places : List ℕ) → layer ≡ Some dev → told ≡ heard row answer
-    → map (slice_get facts.conf.routes) places ≡ map Some (filter (is_route_named facts.conf row.name) facts.conf.routes) → gs ≡ with_places before (listed_given row told facts.conf.routes places dev) → HavePlaces gs (given_hearing facts row answer layer)
+    → map (slice_get facts.conf.routes) places ≡ map Some (filter (is_route_named facts.conf row.name) facts.conf.routes) → gs ≡ with_places before (listed_given row told facts.conf.routes places dev)
+    → HavePlaces gs (given_hearing facts row answer layer)
 all_given facts row answer before gs layer dev told places at hears routes is =
     let listed : filter_map (slice_get facts.conf.routes) places ≡ filter (is_route_named facts.conf row.name) facts.conf.routes = items_are facts.conf.routes places (filter (is_route_named facts.conf row.name) facts.conf.routes) routes in
     let same : listed_given row told facts.conf.routes places dev ≡ given_hearing facts row answer (Some dev) =
     ap (λ (a : Option Answer). cond {A = List Object} (is_static row.proto) (of_options row dev) (of_answer dev a) ++ map (route_on dev) (filter_map (slice_get facts.conf.routes) places)) hears
     ∙ ap (λ (rs : List RouteRow). cond {A = List Object} (is_static row.proto) (of_options row dev) (of_answer dev (heard row answer)) ++ map (route_on dev) rs) listed in
-    let has : HavePlaces gs (listed_given row told facts.conf.routes places dev) = subst (λ (xs : Gifts). HavePlaces xs (listed_given row told facts.conf.routes places dev)) (sym is) (all_places before (listed_given row told facts.conf.routes places dev)) in
+    let has : HavePlaces gs (listed_given row told facts.conf.routes places dev) =
+    subst (λ (xs : Gifts). HavePlaces xs (listed_given row told facts.conf.routes places dev)) (sym is) (all_places before (listed_given row told facts.conf.routes places dev)) in
     subst (λ (l : Option (List ℕ)). HavePlaces gs (given_hearing facts row answer l)) (sym at) (subst (HavePlaces gs) same has)

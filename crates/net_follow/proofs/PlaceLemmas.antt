@@ -32,7 +32,8 @@ no_place : (es : List (List ℕ × Device)) (name : List ℕ) → is_some (devic
 no_place [] name none = refl
 no_place (e ∷ es) name none = by (bytes_eq e.0 name) refl none (no_place es name)
   where
-    by : (b : Bool) → bytes_eq e.0 name ≡ b → is_some (option_map (λ (x : List ℕ × Device). x.1) (cond b (Some e) (find (λ x. bytes_eq x.0 name) es))) ≡ false → (is_some (device_in es name) ≡ false → place_of (map (λ e. e.0) es) name ≡ None) → place_of (map (λ e. e.0) (e ∷ es)) name ≡ None
+    by : (b : Bool) → bytes_eq e.0 name ≡ b → is_some (option_map (λ (x : List ℕ × Device). x.1) (cond b (Some e) (find (λ x. bytes_eq x.0 name) es))) ≡ false
+        → (is_some (device_in es name) ≡ false → place_of (map (λ e. e.0) es) name ≡ None) → place_of (map (λ e. e.0) (e ∷ es)) name ≡ None
     by true is h rest = cc h
     by false is h rest =
         position-cons (λ other. bytes_eq other name) e.0 (map (λ e. e.0) es)
@@ -60,7 +61,8 @@ module _ (inputs : Inputs) (held : Objects) (name : List ℕ) where
     add_reached reach is = subst (λ (x : Inputs). IsReachOf x reach) (sym (comes_behind inputs name carrier mtu mac had_none)) is
 
     -- and has none again where it is taken back
-    pub add_forgotten : (old new : Reach) → StandOnce inputs → IsReachOf (with_device inputs name come) old → ((i : Inputs) → IsReachOf i old → AreDistinct (map (λ (e : List ℕ × Device). e.0) i.devices) → IsReachOf (record i { devices = without_device name i.devices }) new) → IsReachOf inputs new
+    pub add_forgotten : (old new : Reach) → StandOnce inputs → IsReachOf (with_device inputs name come) old
+        → ((i : Inputs) → IsReachOf i old → AreDistinct (map (λ (e : List ℕ × Device). e.0) i.devices) → IsReachOf (record i { devices = without_device name i.devices }) new) → IsReachOf inputs new
     add_forgotten old new once is gone =
         subst (λ (x : Inputs). IsReachOf x new) (gone_again inputs name come had_none)
         (gone (with_device inputs name come) is (still_once inputs name come once.devices had_none))
@@ -79,9 +81,11 @@ module _ (what : DevEvent) (name : List ℕ) (carrier : Bool) (mtu : ℕ) (mac :
   come_had_none = subst (λ (w : DevEvent). refusal (moment_of inputs held) (event.Device w) ≡ None → place_of (device_names inputs) (name_of w) ≡ None) (sym is) (had_none inputs held name carrier mtu mac)
 
   pub come_reached : (reach : Reach) → refusal (moment_of inputs held) (event.Device what) ≡ None → IsPlaced inputs what reach → IsReachOf (changed inputs (event.Device what)) reach
-  come_reached reach = subst (λ (w : DevEvent). refusal (moment_of inputs held) (event.Device w) ≡ None → IsPlaced inputs w reach → IsReachOf (changed inputs (event.Device w)) reach) (sym is) (λ free. add_reached inputs held name carrier mtu mac free reach)
+  come_reached reach = subst (λ (w : DevEvent). refusal (moment_of inputs held) (event.Device w) ≡ None → IsPlaced inputs w reach → IsReachOf (changed inputs (event.Device w)) reach) (sym is)
+      (λ free. add_reached inputs held name carrier mtu mac free reach)
 
-  pub come_forgotten : (old new : Reach) → StandOnce inputs → refusal (moment_of inputs held) (event.Device what) ≡ None → IsPlaced inputs what old → ((i : Inputs) → IsReachOf i old → AreDistinct (map (λ (e : List ℕ × Device). e.0) i.devices) → IsReachOf (record i { devices = without_device name i.devices }) new) → IsReachOf inputs new
+  pub come_forgotten : (old new : Reach) → StandOnce inputs → refusal (moment_of inputs held) (event.Device what) ≡ None → IsPlaced inputs what old
+      → ((i : Inputs) → IsReachOf i old → AreDistinct (map (λ (e : List ℕ × Device). e.0) i.devices) → IsReachOf (record i { devices = without_device name i.devices }) new) → IsReachOf inputs new
   come_forgotten old new once free placed gone =
       subst (λ (w : DevEvent). refusal (moment_of inputs held) (event.Device w) ≡ None → IsPlaced inputs w old → IsReachOf inputs new) (sym is)
       (λ none at. add_forgotten inputs held name carrier mtu mac none old new once at gone) free placed

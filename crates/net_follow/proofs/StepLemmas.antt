@@ -26,7 +26,8 @@ pub same_moment : {i j : Inputs} {h k : Objects} → i ≡ j → h ≡ k → mom
 same_moment {i} {j} {h} {k} inputs held = ap (moment_with h) inputs ∙ ap (moment_of j) held
 
 -- a history leads to the next moment
-pub history_next : (inputs : Inputs) (held : Objects) (event : Event) (now : Inputs) (next : Objects) → IsHistory (moment_of inputs held) → MayCome (moment_of inputs held) event → now ≡ after inputs event → next ≡ held_after held event → IsHistory (moment_of now next)
+pub history_next : (inputs : Inputs) (held : Objects) (event : Event) (now : Inputs) (next : Objects) → IsHistory (moment_of inputs held) → MayCome (moment_of inputs held) event → now ≡ after inputs event → next ≡ held_after held event
+    → IsHistory (moment_of now next)
 history_next inputs held event now next history may is left =
     let there : moment_of now next ≡ moment_after (moment_of inputs held) event = same_moment is left in
     subst IsHistory (sym there) (IsHistory.came (moment_of inputs held) event history may)
@@ -74,7 +75,8 @@ module _ (inputs : Inputs) (event : Event) (places : List ℕ) (middle : Followe
 -- and all that holds then
 module _ (event : Event) (before middle last : Follower) (places : List ℕ) (is : inputs_of middle ≡ changed (inputs_of before) event) (are : middle.touched.items ≡ places)
     (follows : FollowTouched (inputs_of before) event (is_touched (changed (inputs_of before) event).conf.interfaces places)) where
-  pub come_by : last.inputs ≡ record middle.inputs { inputs = asked_of (touched_by middle) (inputs_of middle) } → last.notices.items ≡ told_of (touched_by middle) (inputs_of middle) → AreStatesOf (inputs_of last) last.states → IsCountedBy (inputs_of last) last.states.list.items last.settling
+  pub come_by : last.inputs ≡ record middle.inputs { inputs = asked_of (touched_by middle) (inputs_of middle) } → last.notices.items ≡ told_of (touched_by middle) (inputs_of middle) → AreStatesOf (inputs_of last) last.states
+      → IsCountedBy (inputs_of last) last.states.list.items last.settling
       → held_of last.settling ≡ held_of middle.settling → last.settling.graph.loads ≡ middle.settling.graph.loads → (IsHistory (moment_of (inputs_of last) (held_of last.settling)) → IsReady last.settling) → HasRoom last
       → held_of middle.settling ≡ held_after (held_of before.settling) event → middle.settling.graph.loads ≡ before.settling.graph.loads → HasCome event before last
   come_by inputs told states counted held loads ready room was_held were_loads = record {

@@ -40,7 +40,8 @@ module _ (c : Course) (id : ℕ) (d : Option Device) (now : State) (is : now ≡
   abbrev then : State → Course
   then s = record { graph = s; gifts = c.gifts; may_fall = c.may_fall }
 
-  pub told_counted : (what : DevEvent) → ((inputs : Inputs) → AgreesBelow (facts_of inputs) c.graph.known → AgreesBelow (facts_of (changed inputs (event.Device what))) told.known) → (inputs : Inputs) (list : List InterfaceState) → IsCountedBy inputs list c → IsCountedBy (changed inputs (event.Device what)) list (then now)
+  pub told_counted : (what : DevEvent) → ((inputs : Inputs) → AgreesBelow (facts_of inputs) c.graph.known → AgreesBelow (facts_of (changed inputs (event.Device what))) told.known) → (inputs : Inputs) (list : List InterfaceState)
+      → IsCountedBy inputs list c → IsCountedBy (changed inputs (event.Device what)) list (then now)
   told_counted what below inputs list counted =
       subst (λ (s : State). IsCountedBy (changed inputs (event.Device what)) list (then s)) (sym is)
       (counted_other inputs (devices_after inputs.devices what) inputs.commands list (then told)
@@ -57,9 +58,11 @@ module _ (c : Course) (id : ℕ) (d : Option Device) (now : State) (is : now ≡
   told_loads = ap (λ (s : State). s.loads) is
 
 module _ (what : DevEvent) (s : State) (id : ℕ) (place : place_among s.known.names (name_of what) ≡ Some id) where
-  pub come_below : (name : List ℕ) (carrier : Bool) (mtu : ℕ) (mac : Mac) → what ≡ device.Add name carrier mtu mac → (inputs : Inputs) → AgreesBelow (facts_of inputs) s.known → AgreesBelow (facts_of (changed inputs (event.Device what))) (present_after s id (record { carrier = carrier; mtu = mtu; mac = mac })).known
+  pub come_below : (name : List ℕ) (carrier : Bool) (mtu : ℕ) (mac : Mac) → what ≡ device.Add name carrier mtu mac → (inputs : Inputs) → AgreesBelow (facts_of inputs) s.known
+      → AgreesBelow (facts_of (changed inputs (event.Device what))) (present_after s id (record { carrier = carrier; mtu = mtu; mac = mac })).known
   come_below name carrier mtu mac is =
-      subst (λ (w : DevEvent). place_among s.known.names (name_of w) ≡ Some id → (inputs : Inputs) → AgreesBelow (facts_of inputs) s.known → AgreesBelow (facts_of (changed inputs (event.Device w))) (present_after s id (record { carrier = carrier; mtu = mtu; mac = mac })).known) (sym is)
+      subst (λ (w : DevEvent). place_among s.known.names (name_of w) ≡ Some id → (inputs : Inputs) → AgreesBelow (facts_of inputs) s.known
+      → AgreesBelow (facts_of (changed inputs (event.Device w))) (present_after s id (record { carrier = carrier; mtu = mtu; mac = mac })).known) (sym is)
       (λ at inputs agrees. comes_below inputs s agrees name id at carrier mtu mac) place
 
   pub set_below : (name : List ℕ) (on : Bool) → what ≡ device.Carrier name on → (inputs : Inputs) → AgreesBelow (facts_of inputs) s.known → AgreesBelow (facts_of (changed inputs (event.Device what))) (carrier_after s id on).known
@@ -97,7 +100,8 @@ module _ (c now : Course) (id : ℕ) (what : DevEvent) (name : List ℕ) (is : w
       }) in
       counted_other inputs (devices_after inputs.devices what) inputs.commands list now agrees claims givers room
 
-  pub gone_held : let named = name_at c.graph.known.names id in held_of now ≡ left_by named.device named.name (held_of c) → (inputs : Inputs) → AgreesBelow (facts_of inputs) c.graph.known → refusal (moment_of inputs (held_of c)) (event.Device what) ≡ None → held_of now ≡ held_after (held_of c) (event.Device what)
+  pub gone_held : let named = name_at c.graph.known.names id in held_of now ≡ left_by named.device named.name (held_of c) → (inputs : Inputs) → AgreesBelow (facts_of inputs) c.graph.known
+      → refusal (moment_of inputs (held_of c)) (event.Device what) ≡ None → held_of now ≡ held_after (held_of c) (event.Device what)
   gone_held held inputs below free =
       subst (λ (w : DevEvent). place_among c.graph.known.names (name_of w) ≡ Some id → refusal (moment_of inputs (held_of c)) (event.Device w) ≡ None → held_of now ≡ held_after (held_of c) (event.Device w)) (sym is)
       (λ at none. held ∙ held_left inputs c.graph.known name id (held_of c) below at (was_present inputs (held_of c) name none)) place free

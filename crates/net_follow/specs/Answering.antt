@@ -38,8 +38,8 @@ abbrev pub facts_answered : Follower → List ℕ → ℕ → Answer → Facts
 facts_answered f interface number answer =
     facts_of (changed (inputs_of f) (event.Answer interface number answer))
 
--- There is a place for each address and each route that a row gives with the answer, and room for one more interface at its layer-3
--- device.
+-- There is a place for each address and each route that a row gives with the answer, and room for one more interface at
+-- its layer-3 device.
 pub record HasAnswerRoom (f : Follower) (row : InterfaceRow) (number : ℕ) (answer : Answer) : Type 0 where
   pub places : let facts = facts_answered f row.name number answer in
       HavePlaces f.settling.gifts (given_by facts row (layer_of facts row))

@@ -22,7 +22,8 @@ IsPlaced inputs (device.Add name carrier mtu mac) reach =
 IsPlaced inputs (device.Remove name) reach = IsReachOf inputs reach
 IsPlaced inputs (device.Carrier name on) reach = IsReachOf inputs reach
 
--- All is in step but that the place of a device that comes is noted. The graph knows its name by this id, and there is room for it.
+-- All is in step but that the place of a device that comes is noted. The graph knows its name by this id, and there is
+-- room for it.
 pub record IsAwaiting (event : DevEvent) (id : ℕ) (f : Follower) : Type 0 where
   pub before : Reach
   pub step : IsInStep (record f { states = record f.states { reach = before } })

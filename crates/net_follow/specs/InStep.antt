@@ -19,15 +19,15 @@ use Rattle.net_follow.specs.declared.follower.Follower.{Follower}
 abbrev pub inputs_of : Follower → Inputs
 inputs_of f = f.inputs.inputs
 
--- There is room for the places of all interfaces, and for what one event tells of their asks: each may be lost, and opened. Routes are
--- few.
+-- There is room for the places of all interfaces, and for what one event tells of their asks: each may be lost, and
+-- opened. Routes are few.
 pub record HasRoom (f : Follower) : Type 0 where
   pub touched : length (inputs_of f).conf.interfaces ≤ vec_capacity f.touched
   pub notices : 2 * length (inputs_of f).conf.interfaces ≤ deque_capacity f.notices
   pub routes : length (inputs_of f).conf.routes ≤ 2 ^ 49
 
--- A history led here. Interfaces are what they are by the inputs; what the graph and the gifts count is counted over them; and all is
--- ready to be settled.
+-- A history led here. Interfaces are what they are by the inputs; what the graph and the gifts count is counted over
+-- them; and all is ready to be settled.
 pub record IsInStep (f : Follower) : Type 0 where
   pub history : IsHistory (record { inputs = inputs_of f; held = held_of f.settling })
   pub states : AreStatesOf (inputs_of f) f.states
@@ -52,8 +52,8 @@ pub record IsCalm (c : Course) : Type 0 where
 abbrev pub touched_by : Follower → List ℕ → Bool
 touched_by f name = is_touched (inputs_of f).conf.interfaces f.touched.items name
 
--- The inputs and the graph know what happened. The interfaces at the touched places are counted as what they were, and all others are
--- what they are. Nothing is told yet.
+-- The inputs and the graph know what happened. The interfaces at the touched places are counted as what they were, and
+-- all others are what they are. Nothing is told yet.
 pub record IsMoving (f : Follower) : Type 0 where
   pub rising : AreRising 0 (length (inputs_of f).conf.interfaces) f.touched.items
   pub tied : IsTied (inputs_of f) f.states

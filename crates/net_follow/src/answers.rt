@@ -21,7 +21,8 @@ use std::sync::ledger::{Blank, Ledger};
 use use_counts::Steps;
 
 impl Follower {
-    /// The handler of the interface at a place, the first of its name, answers the ask of this number. It takes no memory.
+    /// The handler of the interface at a place, the first of its name, answers the ask of this
+    /// number. It takes no memory.
     pub fn answer(&mut self, place: usize, interface: &Text, number: u64, answer: Answer)
         requires step { IsInStep self.old }
         requires told { self.old.notices.items ≡ [] }
@@ -34,7 +35,8 @@ impl Follower {
             → slice_get (inputs_of self.old).conf.interfaces place ≡ Some row
             → HasAnswerRoom self.old row number answer }
         ensures step { IsInStep self.new }
-        ensures followed { HasFollowed (event.Answer interface.now number answer) self.old self.new }
+        ensures followed { HasFollowed (event.Answer interface.now number answer) self.old
+            self.new }
     {
         self.answer_by::<Brand>(place, interface, number, answer, Blank::new(1));
     }
@@ -61,7 +63,8 @@ impl Follower {
             → slice_get (inputs_of self.old).conf.interfaces place ≡ Some row
             → HasAnswerRoom self.old row number answer }
         ensures step { IsInStep self.new }
-        ensures followed { HasFollowed (event.Answer interface.now number answer) self.old self.new }
+        ensures followed { HasFollowed (event.Answer interface.now number answer) self.old
+            self.new }
     {
         let mut steps = Steps::<L>::new(blank);
         let _rows = self.inputs.conf();

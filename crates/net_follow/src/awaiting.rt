@@ -36,7 +36,8 @@ impl Follower {
     ///
     /// # Errors
     ///
-    /// `Memory` where there is not enough of it. Then there may be places for gifts that nobody gives, which changes nothing.
+    /// `Memory` where there is not enough of it. Then there may be places for gifts that nobody
+    /// gives, which changes nothing.
     pub fn await_answer(
         &mut self,
         alloc: Global,
@@ -65,7 +66,8 @@ impl Follower {
     }
 }
 
-// A place for each address and each route that the row at a place, the first of its name, gives with an answer.
+// A place for each address and each route that the row at a place, the first of its name, gives
+// with an answer.
 fn expect_answer(
     inputs: &KnownInputs,
     states: &States,
@@ -79,7 +81,8 @@ fn expect_answer(
         → st.is_first ≡ true }
     ensures places { (row : InterfaceRow)
         → slice_get inputs.now.inputs.conf.interfaces place ≡ Some row
-        → OnOk result (HavePlaces gifts.new (given_hearing (facts_of inputs.now.inputs) row answer.now
+        → OnOk result (HavePlaces gifts.new
+        (given_hearing (facts_of inputs.now.inputs) row answer.now
         (layer_by (facts_of inputs.now.inputs) row answer.now))) }
     ensures more { HasMorePlaces gifts.old gifts.new }
 {

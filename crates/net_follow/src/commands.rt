@@ -12,7 +12,8 @@ use std::sync::ledger::{Blank, Ledger};
 use use_counts::Steps;
 
 impl Follower {
-    /// The interface at a place, the first of its name, is brought up or down by hand. It takes no memory.
+    /// The interface at a place, the first of its name, is brought up or down by hand. It takes no
+    /// memory.
     pub fn command(&mut self, place: usize, interface: Text, up: bool)
         requires step { IsInStep self.old }
         requires told { self.old.notices.items ≡ [] }

@@ -1,5 +1,6 @@
 //! What happens to devices.
-ghost use Rattle.std.specs.Prelude.{◌≡◌, ◌≤◌, ◌<◌, ◌+◌, ◌^◌, ◌⊎◌, List, [], None, Some, OnOk, OnErr, IfOk, length};
+ghost use Rattle.std.specs.Prelude.{◌≡◌, ◌≤◌, ◌<◌, ◌+◌, ◌^◌, ◌⊎◌, List, [], None, Some, OnOk};
+ghost use Rattle.std.specs.Prelude.{OnErr, IfOk, length};
 ghost use Rattle.kern_model.specs.declared.object.Device.{Device};
 ghost use Rattle.kern_model.specs.ObjectOrder.{Objects};
 ghost use Rattle.net_rules.specs.declared.inputs.Inputs.{Inputs};
@@ -35,12 +36,13 @@ use std::sync::ledger::{Blank, Ledger};
 use use_counts::Steps;
 
 impl Follower {
-    /// Takes all memory for something that happens to a device, where nothing refuses it: its name is known to the graph by the id that is
-    /// given, and the place of one that comes is noted.
+    /// Takes all memory for something that happens to a device, where nothing refuses it: its name
+    /// is known to the graph by the id that is given, and the place of one that comes is noted.
     ///
     /// # Errors
     ///
-    /// `Memory` where there is not enough of it. Then the graph may know one plain name more, which changes nothing.
+    /// `Memory` where there is not enough of it. Then the graph may know one plain name more, which
+    /// changes nothing.
     pub fn await_event(&mut self, alloc: Global, event: &DevEvent) -> Result<DevId, Memory>
         requires step { IsInStep self.old }
         requires free { refusal (record {
@@ -183,7 +185,8 @@ fn forget_place(reach: &mut Reach, event: &DevEvent)
     }
 }
 
-// The place of the device among those that were present. One that comes had none, though its new place is noted already.
+// The place of the device among those that were present. One that comes had none, though its new
+// place is noted already.
 fn place_before(reach: &Reach, event: &DevEvent) -> Option<usize>
     ensures { (inputs : Inputs) (held : Objects)
         → refusal (record { inputs = inputs; held = held }) (event_of.Device event.now) ≡ None

@@ -8,7 +8,8 @@ use std::collections::VecDeque;
 pub struct Follower {
     /// The rows, the present devices, commands, open asks and the next number, with room.
     pub inputs: KnownInputs,
-    /// What the kernel holds and what is wanted: on devices by the graph, addresses and routes by the gifts above it.
+    /// What the kernel holds and what is wanted: on devices by the graph, addresses and routes by
+    /// the gifts above it.
     pub settling: GraphSettling,
     /// What each interface is, and what reaches what.
     pub states: States,

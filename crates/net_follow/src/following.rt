@@ -21,7 +21,8 @@ use std::sync::ledger::Ledger;
 use use_counts::Steps;
 
 impl Follower {
-    /// The touched interfaces follow what the inputs and the graph know. Where a name may fall, each gift is told whether its name does.
+    /// The touched interfaces follow what the inputs and the graph know. Where a name may fall,
+    /// each gift is told whether its name does.
     pub(crate) fn follow<L: Ledger>(&mut self, steps: &mut Steps<L>)
         requires { IsMoving self.old }
         ensures inputs { self.new.inputs ≡ record self.old.inputs {
@@ -51,8 +52,8 @@ impl Follower {
     }
 }
 
-/// Where a name may fall, each gift is told whether its name does. So what is held and wanted is ready to be settled, where it is
-/// counted over what interfaces are.
+/// Where a name may fall, each gift is told whether its name does. So what is held and wanted is
+/// ready to be settled, where it is counted over what interfaces are.
 pub(crate) fn look(settling: &mut GraphSettling)
     requires { IsCalm settling.old }
     ensures held { held_of settling.new ≡ held_of settling.old }

@@ -1,5 +1,5 @@
-//! The graph of devices, the gifts above it and what interfaces are follow the events of a network one by one, each at the cost of what it
-//! touches. All memory is taken before.
+//! The graph of devices, the gifts above it and what interfaces are follow the events of a network
+//! one by one, each at the cost of what it touches. All memory is taken before.
 #![tactic(auto)]
 
 mod answers;

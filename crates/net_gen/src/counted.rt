@@ -22,8 +22,8 @@ impl Sink for NoLines {
     }
 }
 
-/// Settles call by call, and answers how many calls were made. A call that fails ends it. It takes no memory, but where more calls are due
-/// than can be counted it stops as if memory were lacking.
+/// Settles call by call, and answers how many calls were made. A call that fails ends it. It takes
+/// no memory, but where more calls are due than can be counted it stops as if memory were lacking.
 pub(crate) fn settle_and_count<K: Kernel>(net: &mut Net, kernel: &mut K) -> Result<u64, Memory>
     requires { IsOf K.Kernel kernel.old net.old }
     ensures ends { CountEnds (moment_of net.old) (moment_of net.new)

@@ -7,7 +7,8 @@ use net_plane::Net;
 use plane_io::Memory;
 use std::alloc::Global;
 
-/// The number of objects that are held. Where no rows are loaded nothing is wanted, and so all of them are due.
+/// The number of objects that are held. Where no rows are loaded nothing is wanted, and so all of
+/// them are due.
 pub(crate) fn count_held(alloc: Global, mut net: Net) -> Result<usize, Memory>
     requires told { net.notices ≡ [] }
     ensures { IfOk result (λ count. count ≡ set.len (set_of net.held)) }

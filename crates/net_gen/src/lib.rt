@@ -1,5 +1,5 @@
-//! A network made by number: it is brought up, loses its device, gets it again, and is loaded with fewer interfaces. The calls of the
-//! kernel are counted step by step.
+//! A network made by number: it is brought up, loses its device, gets it again, and is loaded with
+//! fewer interfaces. The calls of the kernel are counted step by step.
 #![tactic(auto)]
 
 mod counted;

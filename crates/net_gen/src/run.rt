@@ -22,14 +22,15 @@ use std::alloc::Global;
 use step_net::take_load;
 use uci_tree::Package;
 
-/// Runs the network of so many bridges over a kernel that holds nothing: its device comes, goes and comes again, and then the rows are
-/// loaded without the interfaces whose number is a multiple of 3. Each step is settled, and its line tells how many calls were made. The
-/// last line tells how many objects are held.
+/// Runs the network of so many bridges over a kernel that holds nothing: its device comes, goes and
+/// comes again, and then the rows are loaded without the interfaces whose number is a multiple of
+/// 3. Each step is settled, and its line tells how many calls were made. The last line tells how
+/// many objects are held.
 ///
 /// # Errors
 ///
-/// `KernelFailed` where something is due at the end; all lines are written. `WriteFailed` at the first line that is not written, or not
-/// wholly, and `Memory`: then the run ends there.
+/// `KernelFailed` where something is due at the end; all lines are written. `WriteFailed` at the
+/// first line that is not written, or not wholly, and `Memory`: then the run ends there.
 pub fn generate<K: Kernel, O: Sink>(
     alloc: Global,
     count: u32,

@@ -45,7 +45,8 @@ impl Step {
     }
 }
 
-/// Takes a step and settles, whether it was refused or not, and answers how many calls were made. These are the rows of the reload.
+/// Takes a step and settles, whether it was refused or not, and answers how many calls were made.
+/// These are the rows of the reload.
 pub(crate) fn take_step<K: Kernel>(
     alloc: Global,
     rows: &Package,

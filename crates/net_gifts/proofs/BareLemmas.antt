@@ -41,7 +41,9 @@ objects_bare : (gs : Gifts) → map (λ (g : Gift). g.object) (filter (λ g. g.h
 objects_bare [] = refl
 objects_bare (g ∷ gs) = by g.held (objects_bare gs)
   where
-    by : (b : Bool) → map (λ (g : Gift). g.object) (filter (λ g. g.held) (map without_givers gs)) ≡ map (λ (g : Gift). g.object) (filter (λ g. g.held) gs) → map (λ (g : Gift). g.object) (cond b (without_givers g ∷ filter (λ g. g.held) (map without_givers gs)) (filter (λ g. g.held) (map without_givers gs))) ≡ map (λ (g : Gift). g.object) (cond b (g ∷ filter (λ g. g.held) gs) (filter (λ g. g.held) gs))
+    by : (b : Bool) → map (λ (g : Gift). g.object) (filter (λ g. g.held) (map without_givers gs)) ≡ map (λ (g : Gift). g.object) (filter (λ g. g.held) gs)
+        → map (λ (g : Gift). g.object) (cond b (without_givers g ∷ filter (λ g. g.held) (map without_givers gs)) (filter (λ g. g.held) (map without_givers gs)))
+        ≡ map (λ (g : Gift). g.object) (cond b (g ∷ filter (λ g. g.held) gs) (filter (λ g. g.held) gs))
     by true rest = ap (λ os. g.object ∷ os) rest
     by false rest = rest
 

@@ -26,7 +26,8 @@ module _ {X S : Type 0} (g : X × S → List Object) where
   abbrev all : List X → List S → List Object
   all xs ss = flat_map g (zip xs ss)
 
-  pub times_move : (xs : List X) (ss : List S) (place : ℕ) (x : X) (old new : S) (o : Object) → slice_get xs place ≡ Some x → slice_get ss place ≡ Some old → times_in o (all xs (slice_set ss place new)) + times_in o (g (x, old)) ≡ times_in o (all xs ss) + times_in o (g (x, new))
+  pub times_move : (xs : List X) (ss : List S) (place : ℕ) (x : X) (old new : S) (o : Object) → slice_get xs place ≡ Some x → slice_get ss place ≡ Some old → times_in o (all xs (slice_set ss place new)) + times_in o (g (x, old))
+      ≡ times_in o (all xs ss) + times_in o (g (x, new))
   times_move [] ss place x old new o row is = cc row
   times_move (y ∷ ys) [] place x old new o row is = cc is
   times_move (y ∷ ys) (s ∷ ss) zero x old new o row is =

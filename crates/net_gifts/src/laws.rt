@@ -1,5 +1,6 @@
 // Laws of the definitions. Each body is empty, and the contract is the law.
-ghost use Rattle.std.specs.Prelude.{◌≡◌, ◌≤◌, ◌+◌, ◌-◌, ◌*◌, ℕ, List, Some, Contains, fold, length, slice_get, slice_set};
+ghost use Rattle.std.specs.Prelude.{◌≡◌, ◌≤◌, ◌+◌, ◌-◌, ◌*◌, ℕ, List, Some, Contains, fold, length};
+ghost use Rattle.std.specs.Prelude.{slice_get, slice_set};
 ghost use Rattle.std.specs.List.{flat_map};
 ghost use Rattle.kern_model.specs.declared.object.Object.{Object};
 ghost use Rattle.net_rows.specs.declared.rows.InterfaceRow.{InterfaceRow};
@@ -12,12 +13,14 @@ ghost use Rattle.given_objects.specs.Gifts.{Gifts, has_place, givers_of, held_of
 ghost use Rattle.given_objects.specs.Changes.{given_once_more, given_once_less};
 ghost use Rattle.net_gifts.specs.Giving.{times_in, gives, all_gives, HavePlaces, DiffersInGivers};
 
-/// What interfaces give that are what facts say is what the rules give. Where one interface becomes another, what the one gave is
-/// given once less, and what the other gives once more. What one gives is given, and nothing is given more often than all give
-/// something. Facts by which each interface gives the same are one here.
+/// What interfaces give that are what facts say is what the rules give. Where one interface becomes
+/// another, what the one gave is given once less, and what the other gives once more. What one
+/// gives is given, and nothing is given more often than all give something. Facts by which each
+/// interface gives the same are one here.
 pub fn gifts_are_counted()
     ensures rules { (facts : Facts) (states : List InterfaceState)
-        → AreStates facts facts.conf.interfaces states → all_gives facts facts.conf.interfaces states
+        → AreStates facts facts.conf.interfaces states
+        → all_gives facts facts.conf.interfaces states
         ≡ flat_map (given facts) (interfaces_of facts.conf) }
     ensures moves { (facts : Facts) (rows : List InterfaceRow) (states : List InterfaceState)
         (place : ℕ) (row : InterfaceRow) (old new : InterfaceState) (o : Object)
@@ -40,7 +43,8 @@ pub fn gifts_are_counted()
         → all_gives now rows states ≡ all_gives before rows states }
 {}
 
-/// What is given once more, or once less, one after the other, moves the givers of each object by how often it is among it.
+/// What is given once more, or once less, one after the other, moves the givers of each object by
+/// how often it is among it.
 pub fn gifts_move_with_lists()
     ensures give { (gs : Gifts) (os : List Object) (o : Object) → HavePlaces gs os
         → givers_of (fold given_once_more gs os) o ≡ givers_of gs o + times_in o os }

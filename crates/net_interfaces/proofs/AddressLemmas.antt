@@ -1,5 +1,6 @@
 -- The address that a text is, as a function of the text, is the one that it spells.
-use Rattle.std.proofs.Common.{◌≡◌, ℕ, zero, suc, ◌+◌, ◌-◌, ◌*◌, ◌^◌, ◌<◌, ◌≤◌, Bool, true, false, List, [], ◌∷◌, ◌++◌, length, slice_index, replicate, Option, Some, None, option_map, refl, sym, ap, subst, ◌∙◌, arith, inl, inr, lit≤, append-nil, length-append, codes, ne_eqb}
+use Rattle.std.proofs.Common.{◌≡◌, ℕ, zero, suc, ◌+◌, ◌-◌, ◌*◌, ◌^◌, ◌<◌, ◌≤◌, Bool, true, false, List, [], ◌∷◌, ◌++◌, length, slice_index, replicate, Option, Some, None, option_map, refl, sym, ap, subst, ◌∙◌, arith, inl, inr, lit≤}
+use Rattle.std.proofs.Common.{append-nil, length-append, codes, ne_eqb}
 use Rattle.std.specs.List.{AllByRecursion}
 use Rattle.std.proofs.lemmas.List.{length-replicate}
 use Rattle.std.proofs.lemmas.Int.Digits.{digits_value-lt}

@@ -8,7 +8,8 @@ given_first None ys = refl
 given_first (Some y) ys = refl
 
 -- what is made of one item, and then of those behind it
-pub made_so_far : {X Y : Type 0} (f : X → Option Y) (before made : List Y) (xs : List X) (i : ℕ) (x : X) → i < length xs → x ≡ get_or xs i x → made ≡ before ++ option_to_list (f x) → made ++ filter_map f (drop (i + 1) xs) ≡ before ++ filter_map f (drop i xs)
+pub made_so_far : {X Y : Type 0} (f : X → Option Y) (before made : List Y) (xs : List X) (i : ℕ) (x : X) → i < length xs → x ≡ get_or xs i x → made ≡ before ++ option_to_list (f x) → made ++ filter_map f (drop (i + 1) xs) ≡ before
+    ++ filter_map f (drop i xs)
 made_so_far {Y = Y} f before made xs i x within is e =
     ap (λ (z : List Y). z ++ filter_map f (drop (i + 1) xs)) e
     ∙ append_assoc before (option_to_list (f x)) (filter_map f (drop (i + 1) xs))

@@ -26,7 +26,8 @@ length_found (suc most) n octets small is only =
     let below : n ≤ most = omega arith in
     length_found most n octets below is (λ m less. only m (omega arith))
 
-is_here : (most n : ℕ) (octets : List ℕ) (o : Option ℕ) (b : Bool) → bytes_eq octets (mask_octets most) ≡ b → (if b then Some most else o) ≡ Some n → ((o ≡ Some n) → (n ≤ most) × (octets ≡ mask_octets n)) → (n ≤ most) × (octets ≡ mask_octets n)
+is_here : (most n : ℕ) (octets : List ℕ) (o : Option ℕ) (b : Bool) → bytes_eq octets (mask_octets most) ≡ b → (if b then Some most else o) ≡ Some n → ((o ≡ Some n) → (n ≤ most) × (octets ≡ mask_octets n)) → (n ≤ most)
+    × (octets ≡ mask_octets n)
 is_here most n octets o true is e below =
     let same : most ≡ n = same_Some most n e in
     (omega arith, (bytes_eq-Decides octets (mask_octets most)).0 is ∙ ap mask_octets same)

@@ -15,7 +15,8 @@ places_push old new names name place has noted is other =
     ∙ sym (position-push (λ title. bytes_eq title other) names name)
 
 -- one more name of a list of rows
-pub places_go_on : {X : Type 0} (name_of : X → List ℕ) (old new : BTreeMap (List ℕ) ℕ) (rows : List X) (place : ℕ) (row : X) → HasPlaces old (map name_of (take place rows)) → HasNoted old new (name_of row) place → place < length rows → row ≡ get_or rows place row → HasPlaces new (map name_of (take (place + 1) rows))
+pub places_go_on : {X : Type 0} (name_of : X → List ℕ) (old new : BTreeMap (List ℕ) ℕ) (rows : List X) (place : ℕ) (row : X) → HasPlaces old (map name_of (take place rows)) → HasNoted old new (name_of row) place → place < length rows → row
+    ≡ get_or rows place row → HasPlaces new (map name_of (take (place + 1) rows))
 places_go_on {X} name_of old new rows place row has noted within is =
     let count : place ≡ length (map name_of (take place rows)) = sym (length-map (take place rows) name_of ∙ length-take-le place rows (omega arith)) in
     let more : take (place + 1) rows ≡ take place rows ++ row ∷ [] = take_more rows place row within ∙ ap (λ (z : X). take place rows ++ z ∷ []) (sym is) in

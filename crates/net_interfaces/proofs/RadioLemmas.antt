@@ -46,7 +46,8 @@ rows_here names place seen section here =
     rows_more names place seen section
     ∙ ap (λ (z : Bool). rows_at names place seen ++ cond z (wifi_row section ∷ []) []) here
 
-all_away : (names : List (List ℕ)) (seen : List Section) (section : Section) (base : ℕ) (others : List Section) → ((place : ℕ) → base ≤ place → is_place place (radio_of names section) ≡ false) → rows_from names (seen ++ section ∷ []) base others ≡ rows_from names seen base others
+all_away : (names : List (List ℕ)) (seen : List Section) (section : Section) (base : ℕ) (others : List Section) → ((place : ℕ) → base ≤ place → is_place place (radio_of names section) ≡ false)
+    → rows_from names (seen ++ section ∷ []) base others ≡ rows_from names seen base others
 all_away names seen section base [] away = refl
 all_away names seen section base (radio ∷ others) away =
     let head = rows_away names base seen section (away base (omega arith)) in
@@ -56,7 +57,8 @@ all_away names seen section base (radio ∷ others) away =
 at_place : (names : List (List ℕ)) (section : Section) (found place : ℕ) (b : Bool) → radio_of names section ≡ Some found → (found == place) ≡ b → is_place place (radio_of names section) ≡ b
 at_place names section found place b is same = ap (is_place place) is ∙ same
 
-row_pushed : (names : List (List ℕ)) (seen : List Section) (section : Section) (base k : ℕ) (others : List Section) → radio_of names section ≡ Some (base + k) → rows_from names (seen ++ section ∷ []) base others ≡ with_row_at k (wifi_row section) (rows_from names seen base others)
+row_pushed : (names : List (List ℕ)) (seen : List Section) (section : Section) (base k : ℕ) (others : List Section) → radio_of names section ≡ Some (base + k) → rows_from names (seen ++ section ∷ []) base others
+    ≡ with_row_at k (wifi_row section) (rows_from names seen base others)
 row_pushed names seen section base k [] is = refl
 row_pushed names seen section base zero (radio ∷ others) is =
     let head = rows_here names base seen section (at_place names section (base + 0) base true is (eq-eqb (base + 0) base (omega arith))) in
@@ -68,13 +70,15 @@ row_pushed names seen section base (suc k) (radio ∷ others) is =
     let tail = row_pushed names seen section (base + 1) k others (is ∙ ap (λ n. Some n) next) in
     λ i. radio_row radio (head i) ∷ tail i
 
-wifi_more : (names : List (List ℕ)) (seen : List Section) (section : Section) (others : List Section) (place : Option ℕ) → radio_of names section ≡ place → rows_from names (seen ++ section ∷ []) 0 others ≡ with_wifi place section (rows_from names seen 0 others)
+wifi_more : (names : List (List ℕ)) (seen : List Section) (section : Section) (others : List Section) (place : Option ℕ) → radio_of names section ≡ place → rows_from names (seen ++ section ∷ []) 0 others
+    ≡ with_wifi place section (rows_from names seen 0 others)
 wifi_more names seen section others None is = all_away names seen section 0 others (λ place past. ap (is_place place) is)
 wifi_more names seen section others (Some k) is =
     let at : k ≡ 0 + k = omega arith in
     row_pushed names seen section 0 k others (is ∙ ap (λ n. Some n) at)
 
-pub wifi_goes_on : (names : List (List ℕ)) (sections : List Section) (index : ℕ) (section : Section) (others : List Section) (old new : List RadioRow) → index < length sections → section ≡ get_or sections index section → old ≡ rows_from names (take index sections) 0 others → new ≡ with_wifi (radio_of names section) section old → new ≡ rows_from names (take (index + 1) sections) 0 others
+pub wifi_goes_on : (names : List (List ℕ)) (sections : List Section) (index : ℕ) (section : Section) (others : List Section) (old new : List RadioRow) → index < length sections → section ≡ get_or sections index section → old
+    ≡ rows_from names (take index sections) 0 others → new ≡ with_wifi (radio_of names section) section old → new ≡ rows_from names (take (index + 1) sections) 0 others
 wifi_goes_on names sections index section others old new within is sofar made =
     let more : take (index + 1) sections ≡ take index sections ++ section ∷ [] = take_more sections index section within ∙ ap (λ (z : Section). take index sections ++ z ∷ []) (sym is) in
     made ∙ ap (with_wifi (radio_of names section) section) sofar
@@ -90,5 +94,6 @@ bare_names : (others : List Section) → map (λ row. row.name) (map (λ radio. 
 bare_names [] = refl
 bare_names (radio ∷ others) = ap (λ (z : List (List ℕ)). radio.name ∷ z) (bare_names others)
 
-pub places_are : (places : BTreeMap (List ℕ) ℕ) (sections : List Section) (rows : List RadioRow) → rows ≡ map (λ radio. radio_row radio []) (radios sections) → HasPlaces places (map (λ row. row.name) rows) → HasPlaces places (radio_names sections)
+pub places_are : (places : BTreeMap (List ℕ) ℕ) (sections : List Section) (rows : List RadioRow) → rows ≡ map (λ radio. radio_row radio []) (radios sections) → HasPlaces places (map (λ row. row.name) rows)
+    → HasPlaces places (radio_names sections)
 places_are places sections rows are has = subst (HasPlaces places) (ap (map (λ (row : RadioRow). row.name)) are ∙ bare_names (radios sections)) has

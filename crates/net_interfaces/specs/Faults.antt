@@ -1,5 +1,5 @@
--- What is wrong with `interface` sections, in the order in which a row tells it (OpenWrt's network configuration; the names of
--- the faults are our own).
+-- What is wrong with `interface` sections, in the order in which a row tells it (OpenWrt's network configuration; the
+-- names of the faults are our own).
 use Rattle.std.specs.Prelude.{ℕ, Bool, false, ◌||◌, ◌==◌, List, [], ◌∷◌, ◌++◌, Option, Some, None, codes, if◌then◌else◌}
 use Rattle.uci_tree.specs.declared.package.Opt.{Opt}
 use Rattle.net_rows.specs.declared.stated.Stated.{Stated}

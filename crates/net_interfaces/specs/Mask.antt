@@ -8,7 +8,8 @@ use Rattle.net_interfaces.specs.Address.{v4_of}
 -- the length of at most this many bits whose mask the octets are
 unfoldable pub length_within : ℕ → List ℕ → Option ℕ
 length_within zero octets = if bytes_eq octets (mask_octets 0) then Some 0 else None
-length_within (suc most) octets = if bytes_eq octets (mask_octets (suc most)) then Some (suc most) else length_within most octets
+length_within (suc most) octets = if bytes_eq octets (mask_octets (suc most)) then Some (suc most)
+    else length_within most octets
 
 -- the length whose mask an address is
 abbrev pub length_of_mask : Option Addr → Option ℕ

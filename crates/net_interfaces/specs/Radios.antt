@@ -1,5 +1,6 @@
 -- The rows of `wifi-device` and `wifi-iface` sections (OpenWrt's wireless configuration).
-use Rattle.std.specs.Prelude.{ℕ, zero, suc, ◌+◌, ◌==◌, Bool, false, List, [], ◌∷◌, ◌++◌, Option, Some, None, codes, bytes_eq, map, filter, if◌then◌else◌}
+use Rattle.std.specs.Prelude.{ℕ, zero, suc, ◌+◌, ◌==◌, Bool, false, List, [], ◌∷◌, ◌++◌, Option, Some, None, codes}
+use Rattle.std.specs.Prelude.{bytes_eq, map, filter, if◌then◌else◌}
 use Rattle.uci_tree.specs.declared.package.Value.{Value}
 use Rattle.uci_tree.specs.declared.package.Section.{Section}
 use Rattle.net_rows.specs.Options.{value_of, text_of}
@@ -65,10 +66,11 @@ rows_at names place sections = map wifi_row (filter (λ section. is_place place 
 -- the rows of radios, of which the first has this place
 abbrev pub rows_from : List (List ℕ) → List Section → ℕ → List Section → List RadioRow
 rows_from names sections place [] = []
-rows_from names sections place (radio ∷ others) = radio_row radio (rows_at names place sections) ∷ rows_from names sections (place + 1) others
+rows_from names sections place (radio ∷ others) = radio_row radio (rows_at names place sections)
+    ∷ rows_from names sections (place + 1) others
 
--- the rows of all radios, in file order, each with the rows of the sections that name it; a name is that of the first radio
--- that has it
+-- the rows of all radios, in file order, each with the rows of the sections that name it; a name is that of the first
+-- radio that has it
 abbrev pub radio_rows : List Section → List RadioRow
 radio_rows sections = rows_from (radio_names sections) sections 0 (radios sections)
 

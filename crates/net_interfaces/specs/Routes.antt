@@ -1,5 +1,6 @@
 -- The rows of `route` and `route6` sections (OpenWrt's network configuration; the names of the faults are our own).
-use Rattle.std.specs.Prelude.{ℕ, Bool, true, false, not, ◌||◌, is_none, List, ◌++◌, Option, Some, None, codes, bytes_eq, map, replicate, filter_map, option_map, if◌then◌else◌}
+use Rattle.std.specs.Prelude.{ℕ, Bool, true, false, not, ◌||◌, is_none, List, ◌++◌, Option, Some, None, codes, bytes_eq}
+use Rattle.std.specs.Prelude.{map, replicate, filter_map, option_map, if◌then◌else◌}
 use Rattle.net_addr.specs.declared.address.Addr.{Addr}
 use Rattle.uci_tree.specs.declared.package.Value.{Value}
 use Rattle.uci_tree.specs.declared.package.Value.TheVariants.{One, Many}
@@ -39,7 +40,8 @@ alone_length V6 options = bits_of V6
 
 -- `target`
 abbrev pub stated_target : Family → List Opt → Stated (Addr × ℕ)
-stated_target family options = stated (prefix_of family (alone_length family options)) (value_of (codes "target") options)
+stated_target family options = stated (prefix_of family (alone_length family options))
+    (value_of (codes "target") options)
 
 -- all addresses of a family
 abbrev pub all_of : Family → Addr × ℕ
@@ -96,7 +98,8 @@ names_of interfaces = map (λ row. row.name) interfaces
 
 -- the row of a section, where it is one of a route; these are the names of the interfaces
 abbrev pub route_in : List (List ℕ) → Section → Option RouteRow
-route_in names section = option_map (route_row (place_given names (codes "interface") section.options) section.options) (family_of section)
+route_in names section = option_map (route_row (place_given names (codes "interface") section.options) section.options)
+    (family_of section)
 
 -- the rows of all `route` and `route6` sections, in file order
 abbrev pub route_rows : List InterfaceRow → List Section → List RouteRow

@@ -1,5 +1,5 @@
-// The types of sections, and the protocols that the configuration plane carries out itself. The definitions cite these
-// constants.
+// The types of sections, and the protocols that the configuration plane carries out itself. The
+// definitions cite these constants.
 
 /// The type of a section that is an interface.
 pub const INTERFACE: &[u8] = b"interface";

@@ -20,7 +20,8 @@ pub fn addresses_are_spelled()
         Spells text addr → bits addr ≡ bits_of family → addr_of family text ≡ Some addr }
 {}
 
-/// The prefix of a family that a text is, is the one that it spells with its length, or the address that it spells alone.
+/// The prefix of a family that a text is, is the one that it spells with its length, or the address
+/// that it spells alone.
 pub fn prefixes_are_spelled()
     ensures found { (family : Family) (alone : ℕ) (text : List ℕ) (cidr : Addr × ℕ) →
         prefix_of family alone text ≡ Some cidr → SpellsPrefix alone text cidr }

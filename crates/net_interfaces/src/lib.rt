@@ -1,5 +1,6 @@
-//! The rows of `interface`, `route` and `route6` sections of a `network` package, and of the radios of a `wireless` package
-//! (OpenWrt's network configuration). The interfaces are written as releases from 21.02 on write them.
+//! The rows of `interface`, `route` and `route6` sections of a `network` package, and of the radios
+//! of a `wireless` package (OpenWrt's network configuration). The interfaces are written as
+//! releases from 21.02 on write them.
 #![tactic(auto)]
 
 mod address;

@@ -9,8 +9,8 @@ use net_rows::{cut_first, read_number};
 /// How many digits the length of a prefix has at most.
 const MOST_DIGITS: usize = 3;
 
-/// The prefix of the family that a whole text is: an address and a length (A/L), or an address (A), whose length is then
-/// `alone`.
+/// The prefix of the family that a whole text is: an address and a length (A/L), or an address (A),
+/// whose length is then `alone`.
 pub fn read_prefix(family: Family, alone: u8, text: &[u8]) -> Option<Cidr>
     requires { alone ≤ bits_of family }
     ensures { result ≡ spec.prefix_of family alone text.now }

@@ -12,8 +12,8 @@ use std::alloc::Global;
 use std::collections::BTreeMap;
 use uci_tree::{Opt, Section};
 
-/// The rows of all `wifi-device` sections, in file order, each with those of the `wifi-iface` sections that name it. A
-/// `wifi-iface` section that names no radio has no row.
+/// The rows of all `wifi-device` sections, in file order, each with those of the `wifi-iface`
+/// sections that name it. A `wifi-iface` section that names no radio has no row.
 pub fn radio_rows(alloc: Global, sections: &[Section]) -> Result<Items<RadioRow>, Memory>
     ensures { IfOk result (λ rows. rows ≡ spec.radio_rows sections.now) }
 {
@@ -68,7 +68,8 @@ fn radio_places(alloc: Global, radios: &[RadioRow]) -> Result<BTreeMap<Text, usi
     Ok(places)
 }
 
-// Adds the row of a section to the radio that it names. `places` has the places of the names of the radios.
+// Adds the row of a section to the radio that it names. `places` has the places of the names of the
+// radios.
 fn add_wifi(
     alloc: Global,
     rows: &mut Vec<RadioRow>,

@@ -22,8 +22,8 @@ use std::alloc::Global;
 use std::collections::BTreeMap;
 use uci_tree::{Opt, Section, Value};
 
-/// The rows of all `route` and `route6` sections, in file order, each with its faults. `interfaces` are the rows of the
-/// interfaces: a route names the first of them that has the name.
+/// The rows of all `route` and `route6` sections, in file order, each with its faults. `interfaces`
+/// are the rows of the interfaces: a route names the first of them that has the name.
 pub fn route_rows(
     alloc: Global,
     interfaces: &[InterfaceRow],
@@ -39,7 +39,8 @@ pub fn route_rows(
     Ok(rows)
 }
 
-// Adds the row of a section, where it is one of a route. `places` has the places of the names of the interfaces.
+// Adds the row of a section, where it is one of a route. `places` has the places of the names of
+// the interfaces.
 fn add_route(
     alloc: Global,
     rows: &mut Items<RouteRow>,

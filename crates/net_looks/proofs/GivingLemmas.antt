@@ -1,5 +1,6 @@
 -- Lists of objects that are given once more or once less, part by part.
-use Rattle.std.proofs.Common.{◌≡◌, ℕ, suc, ◌+◌, ◌<◌, ◌≤◌, ◌^◌, inl, inr, List, [], ◌∷◌, ◌++◌, length, length-append, map, drop, drop-cons, drop_of_length-le, filter, fold, get_or, Bool, true, false, cond, Contains, Option, Some, None, option_to_list, filter_map, refl, sym, ap, subst, ◌∙◌, arith}
+use Rattle.std.proofs.Common.{◌≡◌, ℕ, suc, ◌+◌, ◌<◌, ◌≤◌, ◌^◌, inl, inr, List, [], ◌∷◌, ◌++◌, length, length-append, map, drop, drop-cons, drop_of_length-le, filter, fold, get_or, Bool, true, false, cond, Contains, Option, Some, None}
+use Rattle.std.proofs.Common.{option_to_list, filter_map, refl, sym, ap, subst, ◌∙◌, arith}
 use Rattle.std.specs.Ordering.{eq_by_cmp}
 use Rattle.std.specs.List.{cons_option}
 use Rattle.std.proofs.lemmas.List.Elements.{Contains-append_left, filter-append}
@@ -101,15 +102,18 @@ item_first {X} f xs i d o within is =
     ∙ ap (λ k. f (get_or xs i d) ∷ map f (drop k xs)) next
     ∙ ap (λ (y : Object). y ∷ map f (drop (i + 1) xs)) (sym is)
 
-pub item_can : {X : Type 0} (f : X → Object) (change : Change) (start now : Gifts) (all : List Object) (xs : List X) (i : ℕ) (d : X) (o : Object) → i < length xs → o ≡ f (get_or xs i d) → IsLeft change start now all (map f (drop i xs)) → Can change now (o ∷ [])
+pub item_can : {X : Type 0} (f : X → Object) (change : Change) (start now : Gifts) (all : List Object) (xs : List X) (i : ℕ) (d : X) (o : Object) → i < length xs → o ≡ f (get_or xs i d) → IsLeft change start now all (map f (drop i xs))
+    → Can change now (o ∷ [])
 item_can f change start now all xs i d o within is left =
     part_can change start now all (map f (drop i xs)) (o ∷ []) (map f (drop (i + 1) xs)) left (item_first f xs i d o within is)
 
-pub item_done : {X : Type 0} (f : X → Object) (change : Change) (start now new : Gifts) (all : List Object) (xs : List X) (i : ℕ) (d : X) (o : Object) → i < length xs → o ≡ f (get_or xs i d) → IsLeft change start now all (map f (drop i xs)) → new ≡ changed_once change now o → IsLeft change start new all (map f (drop (i + 1) xs))
+pub item_done : {X : Type 0} (f : X → Object) (change : Change) (start now new : Gifts) (all : List Object) (xs : List X) (i : ℕ) (d : X) (o : Object) → i < length xs → o ≡ f (get_or xs i d) → IsLeft change start now all (map f (drop i xs))
+    → new ≡ changed_once change now o → IsLeft change start new all (map f (drop (i + 1) xs))
 item_done f change start now new all xs i d o within is left made =
     part_done change start now new all (map f (drop i xs)) (o ∷ []) (map f (drop (i + 1) xs)) left (item_first f xs i d o within is) made
 
-pub all_done : {X : Type 0} (made : List X → List Object) (change : Change) (start now : Gifts) (all : List Object) (xs : List X) (i : ℕ) → made [] ≡ [] → length xs ≤ i → IsLeft change start now all (made (drop i xs)) → now ≡ fold (changed_once change) start all
+pub all_done : {X : Type 0} (made : List X → List Object) (change : Change) (start now : Gifts) (all : List Object) (xs : List X) (i : ℕ) → made [] ≡ [] → length xs ≤ i → IsLeft change start now all (made (drop i xs)) → now
+    ≡ fold (changed_once change) start all
 all_done made change start now all xs i nothing past left =
     ap (fold (changed_once change) now) (sym (ap made (drop_of_length-le xs past) ∙ nothing)) ∙ left.same
 
@@ -119,17 +123,20 @@ at_place : {X : Type 0} (f : X → Object) (o : Option X) (xs : List X) → map 
 at_place f None xs = refl
 at_place f (Some x) xs = refl
 
-place_first : {X : Type 0} (f : X → Object) (at : ℕ → Option X) (places : List ℕ) (i : ℕ) → i < length places → map f (filter_map at (drop i places)) ≡ map f (option_to_list (at (get_or places i 0))) ++ map f (filter_map at (drop (i + 1) places))
+place_first : {X : Type 0} (f : X → Object) (at : ℕ → Option X) (places : List ℕ) (i : ℕ) → i < length places → map f (filter_map at (drop i places)) ≡ map f (option_to_list (at (get_or places i 0)))
+    ++ map f (filter_map at (drop (i + 1) places))
 place_first f at places i within =
     let next : suc i ≡ i + 1 = omega arith in
     ap (λ (z : List ℕ). map f (filter_map at z)) (drop-cons places i 0 within ∙ ap (λ k. get_or places i 0 ∷ drop k places) next)
     ∙ at_place f (at (get_or places i 0)) (filter_map at (drop (i + 1) places))
 
-pub place_can : {X : Type 0} (f : X → Object) (at : ℕ → Option X) (change : Change) (start now : Gifts) (all : List Object) (places : List ℕ) (i : ℕ) → i < length places → IsLeft change start now all (map f (filter_map at (drop i places))) → Can change now (map f (option_to_list (at (get_or places i 0))))
+pub place_can : {X : Type 0} (f : X → Object) (at : ℕ → Option X) (change : Change) (start now : Gifts) (all : List Object) (places : List ℕ) (i : ℕ) → i < length places → IsLeft change start now all (map f (filter_map at (drop i places)))
+    → Can change now (map f (option_to_list (at (get_or places i 0))))
 place_can f at change start now all places i within left =
     part_can change start now all (map f (filter_map at (drop i places))) (map f (option_to_list (at (get_or places i 0)))) (map f (filter_map at (drop (i + 1) places))) left (place_first f at places i within)
 
-pub place_done : {X : Type 0} (f : X → Object) (at : ℕ → Option X) (change : Change) (start now new : Gifts) (all : List Object) (places : List ℕ) (i : ℕ) → i < length places → IsLeft change start now all (map f (filter_map at (drop i places))) → new ≡ fold (changed_once change) now (map f (option_to_list (at (get_or places i 0)))) → IsLeft change start new all (map f (filter_map at (drop (i + 1) places)))
+pub place_done : {X : Type 0} (f : X → Object) (at : ℕ → Option X) (change : Change) (start now new : Gifts) (all : List Object) (places : List ℕ) (i : ℕ) → i < length places
+    → IsLeft change start now all (map f (filter_map at (drop i places))) → new ≡ fold (changed_once change) now (map f (option_to_list (at (get_or places i 0)))) → IsLeft change start new all (map f (filter_map at (drop (i + 1) places)))
 place_done f at change start now new all places i within left made =
     part_done change start now new all (map f (filter_map at (drop i places))) (map f (option_to_list (at (get_or places i 0)))) (map f (filter_map at (drop (i + 1) places))) left (place_first f at places i within) made
 

@@ -37,7 +37,8 @@ link_by_id facts s agrees name id h = ap (link_in s) (of_id s name id h) ∙ lin
 
 -- ---- what stands at the place of a name
 
-pub by_place : {X : Type 0} (key : X → List ℕ) (xs : List X) (name : List ℕ) (place : ℕ) (seen : List X) (r : Option (Bor X)) → place_of (map key xs) name ≡ Some place → seen ≡ xs → IsItemAt seen place r → option_copied r ≡ named key xs name
+pub by_place : {X : Type 0} (key : X → List ℕ) (xs : List X) (name : List ℕ) (place : ℕ) (seen : List X) (r : Option (Bor X)) → place_of (map key xs) name ≡ Some place → seen ≡ xs → IsItemAt seen place r → option_copied r
+    ≡ named key xs name
 by_place {X} key xs name place seen r is all read =
     read_at (λ (x : Bor X). x.now) seen place r read
     ∙ ap (λ (z : List X). slice_get z place) all

@@ -34,7 +34,10 @@ told_here facts radio true = sym (append-nil (ports_of_radio facts radio))
 told_here facts radio false = refl
 
 -- the radios so far, with one more
-pub one_radio_more : (facts : Facts) (interface : List ℕ) (radios : List RadioRow) (places : BTreeMap (List ℕ) ℕ) (place : ℕ) (radio : RadioRow) (old new : Option (List ℕ)) → HasPlaces places (map (λ (row : RadioRow). row.name) radios) → place < length radios → radio ≡ get_or radios place radio → old ≡ port_for interface (flat_map (ports_of_radio facts) (firsts (λ (row : RadioRow). row.name) (take place radios))) → new ≡ option_or old (port_for interface (cond (is_place place (get (slice_cmp nat_cmp) places radio.name)) (ports_of_radio facts radio) [])) → new ≡ port_for interface (flat_map (ports_of_radio facts) (firsts (λ (row : RadioRow). row.name) (take (place + 1) radios)))
+pub one_radio_more : (facts : Facts) (interface : List ℕ) (radios : List RadioRow) (places : BTreeMap (List ℕ) ℕ) (place : ℕ) (radio : RadioRow) (old new : Option (List ℕ)) → HasPlaces places (map (λ (row : RadioRow). row.name) radios)
+    → place < length radios → radio ≡ get_or radios place radio → old ≡ port_for interface (flat_map (ports_of_radio facts) (firsts (λ (row : RadioRow). row.name) (take place radios))) → new
+    ≡ option_or old (port_for interface (cond (is_place place (get (slice_cmp nat_cmp) places radio.name)) (ports_of_radio facts radio) [])) → new
+    ≡ port_for interface (flat_map (ports_of_radio facts) (firsts (λ (row : RadioRow). row.name) (take (place + 1) radios)))
 one_radio_more facts interface radios places place radio old new has within is sofar made =
     let key : RadioRow → List ℕ = λ row. row.name in
     let front : List RadioRow = firsts key (take place radios) in
@@ -56,11 +59,14 @@ one_told : (interface : List ℕ) (o : Option AnsweredPort) (others : List Answe
 one_told interface None others = refl
 one_told interface (Some a) others = first (bytes_eq a.interface interface)
   where
-    first : (b : Bool) → option_map (λ (a : AnsweredPort). a.port) (cond b (Some a) (find (λ (a : AnsweredPort). bytes_eq a.interface interface) others)) ≡ option_or (option_map (λ (a : AnsweredPort). a.port) (cond {A = Option AnsweredPort} b (Some a) None)) (port_for interface others)
+    first : (b : Bool) → option_map (λ (a : AnsweredPort). a.port) (cond b (Some a) (find (λ (a : AnsweredPort). bytes_eq a.interface interface) others))
+        ≡ option_or (option_map (λ (a : AnsweredPort). a.port) (cond {A = Option AnsweredPort} b (Some a) None)) (port_for interface others)
     first true = refl
     first false = refl
 
-pub told_first : (facts : Facts) (interface : List ℕ) (row : WifiRow) (rows : List WifiRow) (port : Option (List ℕ)) (ports : List (Option (List ℕ))) → row.disabled ≡ false → port_for interface (filter_map (port_of_pair facts) (zip (enabled (row ∷ rows)) (port ∷ ports))) ≡ option_or (port_for interface (option_to_list (answered_port facts row.network port))) (port_for interface (filter_map (port_of_pair facts) (zip (enabled rows) ports)))
+pub told_first : (facts : Facts) (interface : List ℕ) (row : WifiRow) (rows : List WifiRow) (port : Option (List ℕ)) (ports : List (Option (List ℕ))) → row.disabled ≡ false
+    → port_for interface (filter_map (port_of_pair facts) (zip (enabled (row ∷ rows)) (port ∷ ports)))
+    ≡ option_or (port_for interface (option_to_list (answered_port facts row.network port))) (port_for interface (filter_map (port_of_pair facts) (zip (enabled rows) ports)))
 told_first facts interface row rows port ports on =
     ap (λ b. port_for interface (filter_map (port_of_pair facts) (zip (cond (not b) (row ∷ enabled rows) (enabled rows)) (port ∷ ports)))) on
     ∙ one_told interface (answered_port facts row.network port) (filter_map (port_of_pair facts) (zip (enabled rows) ports))

@@ -1,5 +1,6 @@
 //! What an interface gives, counted once more or once less in a table of gifts.
-ghost use Rattle.std.specs.Prelude.{◌≡◌, ◌≤◌, ◌+◌, ◌^◌, ◌∷◌, [], fold, map, length, Contains, Some, true, option_to_list};
+ghost use Rattle.std.specs.Prelude.{◌≡◌, ◌≤◌, ◌+◌, ◌^◌, ◌∷◌, [], fold, map, length, Contains, Some};
+ghost use Rattle.std.specs.Prelude.{true, option_to_list};
 ghost use Rattle.std.specs.List.{filter_map, slice_get};
 ghost use Rattle.std.specs.Option.{option_copied};
 ghost use Rattle.kern_model.specs.declared.object.Object.{Object};

@@ -13,7 +13,8 @@ use net_view::{asks_nothing, is_name, needs_device};
 use plane_io::Text;
 
 impl Look<'_> {
-    /// Whether the interface has no fault and a name of its own, is not disabled, and was last brought up.
+    /// Whether the interface has no fault and a name of its own, is not disabled, and was last
+    /// brought up.
     pub fn is_enabled(&self, row: &InterfaceRow) -> bool
         ensures { result ≡ spec.is_enabled (facts_at self.now) row.now }
     {

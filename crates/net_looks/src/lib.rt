@@ -1,5 +1,6 @@
-//! What an interface is, told over a graph of devices: whether it is enabled, claimed, ready and up, its device and its layer-3
-//! device, each as its definition says; and what it gives, counted in a table of gifts.
+//! What an interface is, told over a graph of devices: whether it is enabled, claimed, ready and
+//! up, its device and its layer-3 device, each as its definition says; and what it gives, counted
+//! in a table of gifts.
 #![tactic(auto)]
 
 mod asks;

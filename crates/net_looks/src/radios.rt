@@ -98,7 +98,8 @@ impl Look<'_> {
         }
     }
 
-    // The first port that an answer tells for an enabled one of these rows that names the interface.
+    // The first port that an answer tells for an enabled one of these rows that names the
+    // interface.
     fn told_port(
         &self,
         rows: &[WifiRow],

@@ -49,10 +49,12 @@ unfolding vlan
 vlan_stays = refl
 
 -- an interface goes over a bridge, which is added at the end, as the second section that was ever added
-over_a_bridge : modern (network 1 (interface (codes "lan") (text (codes "type") (codes "bridge") ∷ text (codes "ifname") (codes "eth0 eth1") ∷ text (codes "macaddr") (codes "02:00:00:00:00:01") ∷ text (codes "proto") (codes "static") ∷ text (codes "mtu") (codes "1400") ∷ []) ∷ []))
+over_a_bridge : modern (network 1 (interface (codes "lan") (text (codes "type") (codes "bridge") ∷ text (codes "ifname") (codes "eth0 eth1") ∷ text (codes "macaddr") (codes "02:00:00:00:00:01") ∷ text (codes "proto") (codes "static")
+    ∷ text (codes "mtu") (codes "1400") ∷ []) ∷ []))
     ≡ network 2 (
     interface (codes "lan") (text (codes "proto") (codes "static") ∷ text (codes "device") (codes "br-lan") ∷ [])
-    ∷ device (codes "cfg020f15") (text (codes "name") (codes "br-lan") ∷ text (codes "type") (codes "bridge") ∷ list (codes "ports") (codes "eth0" ∷ codes "eth1" ∷ []) ∷ text (codes "mtu") (codes "1400") ∷ text (codes "macaddr") (codes "02:00:00:00:00:01") ∷ []) ∷ [])
+    ∷ device (codes "cfg020f15") (text (codes "name") (codes "br-lan") ∷ text (codes "type") (codes "bridge") ∷ list (codes "ports") (codes "eth0" ∷ codes "eth1" ∷ []) ∷ text (codes "mtu") (codes "1400")
+    ∷ text (codes "macaddr") (codes "02:00:00:00:00:01") ∷ []) ∷ [])
 unfolding digits
 over_a_bridge = refl
 

@@ -17,7 +17,8 @@ updated false true = refl
 updated false false = refl
 
 -- a name that was put in is that of the section
-pub added_name : (old new : BTreeSet (List ℕ)) (key : List ℕ) (section : Section) → is_device section ≡ true → text_of (codes "name") section.options ≡ Some key → ((other : List ℕ) → contains (slice_cmp nat_cmp) new other ≡ cond (is_at (slice_cmp nat_cmp key) other) true (contains (slice_cmp nat_cmp) old other)) → AddsNames old new (section ∷ [])
+pub added_name : (old new : BTreeSet (List ℕ)) (key : List ℕ) (section : Section) → is_device section ≡ true → text_of (codes "name") section.options ≡ Some key
+    → ((other : List ℕ) → contains (slice_cmp nat_cmp) new other ≡ cond (is_at (slice_cmp nat_cmp key) other) true (contains (slice_cmp nat_cmp) old other)) → AddsNames old new (section ∷ [])
 added_name old new key section device text h name =
     let named : is_device_named name section ≡ bytes_eq key name = ap (λ (z : Bool). z && is_text name (text_of (codes "name") section.options)) device ∙ ap (is_text name) text in
     h name

@@ -35,7 +35,8 @@ gets_none true true h = refl
 gets_none true false h = sym (h refl)
 gets_none false c h = refl
 
-unchanged : (is_there : Bool) (progress : Progress) (section : Section) → gets_bridge is_there section ≡ false → rewritten section ≡ section → after_section is_there progress section ≡ record progress { before = progress.before ++ section ∷ [] }
+unchanged : (is_there : Bool) (progress : Progress) (section : Section) → gets_bridge is_there section ≡ false → rewritten section ≡ section → after_section is_there progress section
+    ≡ record progress { before = progress.before ++ section ∷ [] }
 unchanged is_there progress section none same =
     cond-false (gets_bridge is_there section) _ _ none ∙ ap (λ (z : Section). record progress { before = progress.before ++ z ∷ [] }) same
 
@@ -69,13 +70,15 @@ rewritten_settled more section there =
     (λ same. subst (IsSettled more) (sym same) (record { alone = same; bridge = there }))
     done.bridge
 
-settled_after : (progress : Progress) (section : Section) (later : List Section) → AreSettled progress (section ∷ later) → AreSettled (after_section (has_device (sections_now progress (section ∷ later)) (bridge_name section)) progress section) later
+settled_after : (progress : Progress) (section : Section) (later : List Section) → AreSettled progress (section ∷ later)
+    → AreSettled (after_section (has_device (sections_now progress (section ∷ later)) (bridge_name section)) progress section) later
 settled_after progress section later settled =
     let now = sections_now progress (section ∷ later) in
     let is_there = has_device now (bridge_name section) in
     let next = after_section is_there progress section in
     let more = sections_now next later in
-    let grows : (name : List ℕ) → has_device now name ≡ true → has_device more name ≡ true = λ name e. names_after is_there progress section later name ∙ or_left (has_device now name) (has_device (added_for is_there progress.made section) name) e in
+    let grows : (name : List ℕ) → has_device now name ≡ true → has_device more name ≡ true = λ name e. names_after is_there progress section later name
+    ∙ or_left (has_device now name) (has_device (added_for is_there progress.made section) name) e in
     let before = all_more now more progress.before grows settled.before in
     let added = all_more now more progress.added grows settled.added in
     let over = over_bridge_done section in

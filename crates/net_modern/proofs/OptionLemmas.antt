@@ -16,7 +16,8 @@ use Rattle.net_modern.specs.Options.{without, option_if, text_option, list_if, i
 apart : (name key : List ℕ) (option : Opt) → bytes_eq name key ≡ false → bytes_eq option.name name ≡ true → bytes_eq option.name key ≡ false
 apart name key option differ is = ap (λ (z : List ℕ). bytes_eq z key) ((bytes_eq-Decides option.name name).0 is) ∙ differ
 
-value_step : (b : Bool) (key : List ℕ) (option : Opt) (options rest : List Opt) → (b ≡ true → bytes_eq option.name key ≡ false) → value_of key rest ≡ value_of key options → value_of key (cond {A = List Opt} (not b) (option ∷ rest) rest) ≡ value_of key (option ∷ options)
+value_step : (b : Bool) (key : List ℕ) (option : Opt) (options rest : List Opt) → (b ≡ true → bytes_eq option.name key ≡ false) → value_of key rest ≡ value_of key options → value_of key (cond {A = List Opt} (not b) (option ∷ rest) rest)
+    ≡ value_of key (option ∷ options)
 value_step true key option options rest lack e = e ∙ sym (ap (λ (z : Bool). cond {A = Option Value} z (Some option.value) (value_of key options)) (lack refl))
 value_step false key option options rest lack e = ap (λ (z : Option Value). cond {A = Option Value} (bytes_eq option.name key) (Some option.value) z) e
 
@@ -25,7 +26,8 @@ pub value_of-without : (key name : List ℕ) (options : List Opt) → bytes_eq n
 value_of-without key name [] differ = refl
 value_of-without key name (option ∷ options) differ = value_step (bytes_eq option.name name) key option options (without name options) (apart name key option differ) (value_of-without key name options differ)
 
-given_step : (b : Bool) (key : List ℕ) (option : Opt) (options rest : List Opt) → (b ≡ true → bytes_eq option.name key ≡ false) → is_given key rest ≡ is_given key options → is_given key (cond {A = List Opt} (not b) (option ∷ rest) rest) ≡ is_given key (option ∷ options)
+given_step : (b : Bool) (key : List ℕ) (option : Opt) (options rest : List Opt) → (b ≡ true → bytes_eq option.name key ≡ false) → is_given key rest ≡ is_given key options → is_given key (cond {A = List Opt} (not b) (option ∷ rest) rest)
+    ≡ is_given key (option ∷ options)
 given_step true key option options rest lack e = e ∙ sym (ap (λ (z : Bool). z || is_given key options) (lack refl))
 given_step false key option options rest lack e = ap (λ (z : Bool). bytes_eq option.name key || z) e
 
@@ -47,7 +49,9 @@ no_place : (place : Option ℕ) → option_map (λ k. suc k) place ≡ None → 
 no_place None e = refl
 no_place (Some place) e = absurd (let f : Some (suc place) ≡ None = e in cc)
 
-none_step : (b : Bool) (name : List ℕ) (option : Opt) (options : List Opt) → cond {A = Option ℕ} b (Some 0) (option_map (λ k. suc k) (option_place options name)) ≡ None → (option_place options name ≡ None → (without name options ≡ options) × (value_of name options ≡ None)) → (cond {A = List Opt} (not b) (option ∷ without name options) (without name options) ≡ option ∷ options) × (cond {A = Option Value} b (Some option.value) (value_of name options) ≡ None)
+none_step : (b : Bool) (name : List ℕ) (option : Opt) (options : List Opt) → cond {A = Option ℕ} b (Some 0) (option_map (λ k. suc k) (option_place options name)) ≡ None
+    → (option_place options name ≡ None → (without name options ≡ options) × (value_of name options ≡ None)) → (cond {A = List Opt} (not b) (option ∷ without name options) (without name options) ≡ option ∷ options)
+    × (cond {A = Option Value} b (Some option.value) (value_of name options) ≡ None)
 none_step true name option options e h = absurd (let f : ◌≡◌ {A = Option ℕ} (Some 0) None = e in cc)
 none_step false name option options e h = let k = h (no_place (option_place options name) e) in (ap (λ (z : List Opt). option ∷ z) k.0, k.1)
 
@@ -73,7 +77,9 @@ some_place (Some n) at e = let f : ◌≡◌ {A = Option ℕ} (Some (suc n)) (So
 Moves : List ℕ → List Opt → ℕ → Type 0
 Moves name options at = (without name (remove options at) ≡ without name options) × ((d : Opt) → value_of name options ≡ Some (get_or options at d).value)
 
-move_step : (b : Bool) (name : List ℕ) (option : Opt) (options : List Opt) (at : ℕ) → bytes_eq option.name name ≡ b → cond {A = Option ℕ} b (Some 0) (option_map (λ k. suc k) (option_place options name)) ≡ Some at → ((n : ℕ) → option_place options name ≡ Some n → Moves name options n) → (without name (remove (option ∷ options) at) ≡ cond {A = List Opt} (not b) (option ∷ without name options) (without name options)) × ((d : Opt) → cond {A = Option Value} b (Some option.value) (value_of name options) ≡ Some (get_or (option ∷ options) at d).value)
+move_step : (b : Bool) (name : List ℕ) (option : Opt) (options : List Opt) (at : ℕ) → bytes_eq option.name name ≡ b → cond {A = Option ℕ} b (Some 0) (option_map (λ k. suc k) (option_place options name)) ≡ Some at
+    → ((n : ℕ) → option_place options name ≡ Some n → Moves name options n) → (without name (remove (option ∷ options) at) ≡ cond {A = List Opt} (not b) (option ∷ without name options) (without name options))
+    × ((d : Opt) → cond {A = Option Value} b (Some option.value) (value_of name options) ≡ Some (get_or (option ∷ options) at d).value)
 unfolding Moves
 move_step true name option options at is e h =
     let f : ◌≡◌ {A = Option ℕ} (Some 0) (Some at) = e in
@@ -96,7 +102,8 @@ pub some_moves : (name : List ℕ) (options rest after : List Opt) (at : ℕ) �
 unfolding Moves
 some_moves name options rest after at e r a = a ∙ ap (without name) r ∙ (moves_at name options at e).0
 
-pub some_comes : (name : List ℕ) (options into out : List Opt) (option : Opt) (at : ℕ) → option_place options name ≡ Some at → option ≡ get_or options at option → out ≡ into ++ option_if name (Some option.value) → out ≡ into ++ moved name options
+pub some_comes : (name : List ℕ) (options into out : List Opt) (option : Opt) (at : ℕ) → option_place options name ≡ Some at → option ≡ get_or options at option → out ≡ into ++ option_if name (Some option.value) → out ≡ into
+    ++ moved name options
 unfolding Moves
 some_comes name options into out option at e is o =
     let found : value_of name options ≡ Some option.value = (moves_at name options at e).1 option ∙ ap (λ (z : Opt). Some z.value) (sym is) in
@@ -115,7 +122,9 @@ six : {X : Type 0} (a b c d e f : List X) → (((((([] ++ a) ++ b) ++ c) ++ d) +
 six a b c d e f = simp append_assoc
 
 -- what was pushed and moved, one after another, are the options of the bridge
-pub bridge_is : (bridge : List ℕ) (options one two m0 m1 m2 m3 m4 m5 m6 : List Opt) (words : List (List ℕ)) → words ≡ ifname_words options → one ≡ without (codes "bridge_empty") options → two ≡ without (codes "mtu") one → m0 ≡ [] → m1 ≡ m0 ++ text_option (codes "name") bridge → m2 ≡ m1 ++ text_option (codes "type") (codes "bridge") → m3 ≡ m2 ++ option_if (codes "ports") (list_if words) → m4 ≡ m3 ++ moved (codes "bridge_empty") options → m5 ≡ m4 ++ moved (codes "mtu") one → m6 ≡ m5 ++ moved (codes "macaddr") two → m6 ≡ of_bridge bridge options
+pub bridge_is : (bridge : List ℕ) (options one two m0 m1 m2 m3 m4 m5 m6 : List Opt) (words : List (List ℕ)) → words ≡ ifname_words options → one ≡ without (codes "bridge_empty") options → two ≡ without (codes "mtu") one → m0 ≡ [] → m1 ≡ m0
+    ++ text_option (codes "name") bridge → m2 ≡ m1 ++ text_option (codes "type") (codes "bridge") → m3 ≡ m2 ++ option_if (codes "ports") (list_if words) → m4 ≡ m3 ++ moved (codes "bridge_empty") options → m5 ≡ m4 ++ moved (codes "mtu") one
+    → m6 ≡ m5 ++ moved (codes "macaddr") two → m6 ≡ of_bridge bridge options
 bridge_is bridge options one two m0 m1 m2 m3 m4 m5 m6 words words_are one_is two_is e0 e1 e2 e3 e4 e5 e6 =
     let mtu : value_of (codes "mtu") one ≡ value_of (codes "mtu") options = ap (value_of (codes "mtu")) one_is ∙ value_of-without (codes "mtu") (codes "bridge_empty") options refl in
     let macaddr : value_of (codes "macaddr") two ≡ value_of (codes "macaddr") options =

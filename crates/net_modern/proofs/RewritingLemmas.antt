@@ -79,12 +79,14 @@ parts name before others added =
     list_any-append (is_device_named name) before (others ++ added)
     ∙ ap (λ (z : Bool). has_device before name || z) (list_any-append (is_device_named name) others added)
 
-parts_behind : (name : List ℕ) (before later added : List Section) (section : Section) → has_device (before ++ (section ∷ (later ++ added))) name ≡ (has_device before name || (is_device_named name section || (has_device later name || has_device added name)))
+parts_behind : (name : List ℕ) (before later added : List Section) (section : Section) → has_device (before ++ (section ∷ (later ++ added))) name
+    ≡ (has_device before name || (is_device_named name section || (has_device later name || has_device added name)))
 parts_behind name before later added section =
     list_any-append (is_device_named name) before (section ∷ (later ++ added))
     ∙ ap (λ (z : Bool). has_device before name || (is_device_named name section || z)) (list_any-append (is_device_named name) later added)
 
-moved_on : (name : List ℕ) (before later added more : List Section) (section new : Section) → is_device_named name new ≡ is_device_named name section → has_device ((before ++ new ∷ []) ++ (later ++ (added ++ more))) name ≡ (has_device (before ++ (section ∷ (later ++ added))) name || has_device more name)
+moved_on : (name : List ℕ) (before later added more : List Section) (section new : Section) → is_device_named name new ≡ is_device_named name section → has_device ((before ++ new ∷ []) ++ (later ++ (added ++ more))) name
+    ≡ (has_device (before ++ (section ∷ (later ++ added))) name || has_device more name)
 moved_on name before later added more section new same =
     let b = has_device before name in
     let l = has_device later name in
@@ -98,7 +100,8 @@ moved_on name before later added more section new same =
     ∙ one_behind_one_more b s l a m
     ∙ ap (λ (z : Bool). z || m) (sym (parts_behind name before later added section))
 
-stayed : (name : List ℕ) (before later added : List Section) (section new : Section) → is_device_named name new ≡ is_device_named name section → has_device ((before ++ new ∷ []) ++ (later ++ added)) name ≡ (has_device (before ++ (section ∷ (later ++ added))) name || false)
+stayed : (name : List ℕ) (before later added : List Section) (section new : Section) → is_device_named name new ≡ is_device_named name section → has_device ((before ++ new ∷ []) ++ (later ++ added)) name
+    ≡ (has_device (before ++ (section ∷ (later ++ added))) name || false)
 stayed name before later added section new same =
     let b = has_device before name in
     let l = has_device later name in
@@ -119,18 +122,21 @@ by_gets gets progress section = cond {A = Progress} gets
     })
     (record progress { before = progress.before ++ rewritten section ∷ [] })
 
-names_by : (gets : Bool) (progress : Progress) (section : Section) (later : List Section) (name : List ℕ) → has_device (sections_now (by_gets gets progress section) later) name ≡ (has_device (sections_now progress (section ∷ later)) name || has_device (cond {A = List Section} gets (bridge_section (one_more progress.made) section ∷ []) []) name)
+names_by : (gets : Bool) (progress : Progress) (section : Section) (later : List Section) (name : List ℕ) → has_device (sections_now (by_gets gets progress section) later) name
+    ≡ (has_device (sections_now progress (section ∷ later)) name || has_device (cond {A = List Section} gets (bridge_section (one_more progress.made) section ∷ []) []) name)
 unfolding by_gets
 names_by true progress section later name = moved_on name progress.before later progress.added (bridge_section (one_more progress.made) section ∷ []) section (over_bridge section) (name_over_bridge name section)
 names_by false progress section later name = stayed name progress.before later progress.added section (rewritten section) (name_rewritten name section)
 
 -- the names when a section was gone through are those before, and those of what was added
-pub names_after : (is_there : Bool) (progress : Progress) (section : Section) (later : List Section) (name : List ℕ) → has_device (sections_now (after_section is_there progress section) later) name ≡ (has_device (sections_now progress (section ∷ later)) name || has_device (added_for is_there progress.made section) name)
+pub names_after : (is_there : Bool) (progress : Progress) (section : Section) (later : List Section) (name : List ℕ) → has_device (sections_now (after_section is_there progress section) later) name
+    ≡ (has_device (sections_now progress (section ∷ later)) name || has_device (added_for is_there progress.made section) name)
 unfolding by_gets
 names_after is_there progress section later name = names_by (gets_bridge is_there section) progress section later name
 
 -- a section is gone through by the names that are kept
-pub goes_on : (names : BTreeSet (List ℕ)) (progress next end : Progress) (section : Section) (rest later : List Section) → AreNames names (sections_now progress rest) → after_sections progress rest ≡ end → rest ≡ section ∷ later → next ≡ after_section (is_among names (bridge_name section)) progress section → after_sections next later ≡ end
+pub goes_on : (names : BTreeSet (List ℕ)) (progress next end : Progress) (section : Section) (rest later : List Section) → AreNames names (sections_now progress rest) → after_sections progress rest ≡ end → rest ≡ section ∷ later → next
+    ≡ after_section (is_among names (bridge_name section)) progress section → after_sections next later ≡ end
 goes_on names progress next end section rest later are so_far rest_is next_is =
     let there : is_among names (bridge_name section) ≡ has_device (sections_now progress (section ∷ later)) (bridge_name section) =
     are (bridge_name section) ∙ ap (λ (z : List Section). has_device (sections_now progress z) (bridge_name section)) rest_is in
@@ -138,7 +144,8 @@ goes_on names progress next end section rest later are so_far rest_is next_is =
     ∙ sym (ap (after_sections progress) rest_is)
     ∙ so_far
 
-pub names_go_on : (old new : BTreeSet (List ℕ)) (progress next : Progress) (section : Section) (rest later : List Section) → AreNames old (sections_now progress rest) → rest ≡ section ∷ later → next ≡ after_section (is_among old (bridge_name section)) progress section → AddsNames old new (added_for (is_among old (bridge_name section)) progress.made section) → AreNames new (sections_now next later)
+pub names_go_on : (old new : BTreeSet (List ℕ)) (progress next : Progress) (section : Section) (rest later : List Section) → AreNames old (sections_now progress rest) → rest ≡ section ∷ later → next
+    ≡ after_section (is_among old (bridge_name section)) progress section → AddsNames old new (added_for (is_among old (bridge_name section)) progress.made section) → AreNames new (sections_now next later)
 names_go_on old new progress next section rest later are rest_is next_is adds name =
     let is_there = is_among old (bridge_name section) in
     adds name

@@ -39,7 +39,8 @@ no_rule a b c x y z s p q r = cond-false a x (cond {A = Section} b y (cond {A = 
 
 stays : (section : Section) → is_old_bridge section ≡ false → is_on_one_device section ≡ false → has_both section ≡ false → rewritten section ≡ section
 stays section a b c =
-    no_rule (is_old_bridge section) (is_on_one_device section) (has_both section) (with_options section (with_ports section.options)) (with_options section (on_device section.options)) (with_options section (without (codes "ifname") section.options)) section a b c
+    no_rule (is_old_bridge section) (is_on_one_device section) (has_both section) (with_options section (with_ports section.options)) (with_options section (on_device section.options))
+    (with_options section (without (codes "ifname") section.options)) section a b c
 
 no_words : (options : List Opt) → is_given (codes "ifname") options ≡ false → (length (ifname_words options) == 1) ≡ false
 no_words options e = ap (λ (z : Option Value). length (words_if z) == 1) (no_value (codes "ifname") options e)
@@ -122,7 +123,8 @@ rewritten_done section =
     (λ b. cond_both (has_both section) (with_options section (without (codes "ifname") options)) section Done
     (λ c. record {
       alone = stays_without_ifname (with_options section (without (codes "ifname") options)) (gone (codes "ifname") options);
-      bridge = inl (no_bridge_by_device (with_options section (without (codes "ifname") options)) (is_given-without (codes "device") (codes "ifname") options refl ∙ last_true (is_untyped section) (has (codes "ifname") section) (has (codes "device") section) c));
+      bridge = inl (no_bridge_by_device (with_options section (without (codes "ifname") options))
+          (is_given-without (codes "device") (codes "ifname") options refl ∙ last_true (is_untyped section) (has (codes "ifname") section) (has (codes "device") section) c));
     })
     (λ c. record { alone = stays section a b c; bridge = inr refl })))
 

@@ -40,7 +40,8 @@ onto_not_zero : (byte : ℕ) (parts : List (List ℕ)) → is_in NotZero byte �
 onto_not_zero byte [] b h = ((b, tt), tt)
 onto_not_zero byte (part ∷ parts) b h = ((b, h.0), h.1)
 
-split_case : (at_space : Bool) (byte : ℕ) (parts : List (List ℕ)) → is_in NotZero byte ≡ true → AllByRecursion (λ (part : List ℕ). AllIn NotZero part) parts → AllByRecursion (λ (part : List ℕ). AllIn NotZero part) (cond {A = List (List ℕ)} at_space ([] ∷ parts) (onto_first byte parts))
+split_case : (at_space : Bool) (byte : ℕ) (parts : List (List ℕ)) → is_in NotZero byte ≡ true → AllByRecursion (λ (part : List ℕ). AllIn NotZero part) parts
+    → AllByRecursion (λ (part : List ℕ). AllIn NotZero part) (cond {A = List (List ℕ)} at_space ([] ∷ parts) (onto_first byte parts))
 split_case true byte parts b h = (tt, h)
 split_case false byte parts b h = onto_not_zero byte parts b h
 
@@ -114,7 +115,8 @@ without_each : (name : List ℕ) (options : List Opt) → AllByRecursion IsValid
 without_each name [] h = tt
 without_each name (option ∷ options) h = each_case (bytes_eq option.name name) option (without name options) h.0 (without_each name options h.1)
 
-lacks_case : (here : Bool) (key : List ℕ) (option : Opt) (rest : List Opt) → option.name ≢ key → AllByRecursion (λ (other : List ℕ). other ≢ key) (names_of rest) → AllByRecursion (λ (other : List ℕ). other ≢ key) (names_of (cond {A = List Opt} (not here) (option ∷ rest) rest))
+lacks_case : (here : Bool) (key : List ℕ) (option : Opt) (rest : List Opt) → option.name ≢ key → AllByRecursion (λ (other : List ℕ). other ≢ key) (names_of rest)
+    → AllByRecursion (λ (other : List ℕ). other ≢ key) (names_of (cond {A = List Opt} (not here) (option ∷ rest) rest))
 lacks_case true key option rest o h = h
 lacks_case false key option rest o h = (o, h)
 
@@ -122,7 +124,8 @@ without_lacks : (key name : List ℕ) (options : List Opt) → AllByRecursion (�
 without_lacks key name [] h = tt
 without_lacks key name (option ∷ options) h = lacks_case (bytes_eq option.name name) key option (without name options) h.0 (without_lacks key name options h.1)
 
-distinct_case : (here : Bool) (option : Opt) (rest : List Opt) → AllByRecursion (λ (other : List ℕ). other ≢ option.name) (names_of rest) → AreDistinct (names_of rest) → AreDistinct (names_of (cond {A = List Opt} (not here) (option ∷ rest) rest))
+distinct_case : (here : Bool) (option : Opt) (rest : List Opt) → AllByRecursion (λ (other : List ℕ). other ≢ option.name) (names_of rest) → AreDistinct (names_of rest)
+    → AreDistinct (names_of (cond {A = List Opt} (not here) (option ∷ rest) rest))
 distinct_case true option rest o h = h
 distinct_case false option rest o h = (o, h)
 
@@ -177,11 +180,13 @@ ports_valid options v =
     let rest_valid = without_valid (codes "ifname") options v in
     cond_both (is_given (codes "ports") options) [] (option_if (codes "ports") (list_if (ifname_words options))) (λ z. AreValid (rest ++ z))
     (λ given. subst AreValid (sym (append-nil rest)) rest_valid)
-    (λ none. with_valid (codes "ports") rest (list_if (ifname_words options)) (omega arith, tested Name (codes "ports") refl) (is_given-without (codes "ports") (codes "ifname") options refl ∙ none) (list_valid (ifname_words options) (ifname_good options v.each)) rest_valid)
+    (λ none. with_valid (codes "ports") rest (list_if (ifname_words options)) (omega arith, tested Name (codes "ports") refl) (is_given-without (codes "ports") (codes "ifname") options refl ∙ none)
+    (list_valid (ifname_words options) (ifname_good options v.each)) rest_valid)
 
 device_valid : (options : List Opt) → is_given (codes "device") options ≡ false → AreValid options → AreValid (on_device options)
 device_valid options none v =
-    with_valid (codes "device") (without (codes "ifname") options) (first_if (ifname_words options)) (omega arith, tested Name (codes "device") refl) (is_given-without (codes "device") (codes "ifname") options refl ∙ none) (first_valid (ifname_words options) (ifname_good options v.each)) (without_valid (codes "ifname") options v)
+    with_valid (codes "device") (without (codes "ifname") options) (first_if (ifname_words options)) (omega arith, tested Name (codes "device") refl) (is_given-without (codes "device") (codes "ifname") options refl ∙ none)
+    (first_valid (ifname_words options) (ifname_good options v.each)) (without_valid (codes "ifname") options v)
 
 bridge_text_valid : (name : List ℕ) → AllIn Name name → IfValid (Some (One (codes "br-" ++ name)))
 unfolding IfValid
@@ -219,13 +224,15 @@ of_bridge_valid name options named each =
     let five = option_if (codes "mtu") mtu ++ six in
     let four = option_if (codes "bridge_empty") empty ++ five in
     let three = option_if (codes "ports") ports ++ four in
-    let lacks_two : (key : List ℕ) → bytes_eq (codes "mtu") key ≡ false → bytes_eq (codes "macaddr") key ≡ false → is_given key five ≡ false = λ key a b. is_given-behind key (codes "mtu") mtu six a ∙ given_alone key (codes "macaddr") macaddr b in
+    let lacks_two : (key : List ℕ) → bytes_eq (codes "mtu") key ≡ false → bytes_eq (codes "macaddr") key ≡ false → is_given key five ≡ false = λ key a b. is_given-behind key (codes "mtu") mtu six a
+    ∙ given_alone key (codes "macaddr") macaddr b in
     let lacks_four : (key : List ℕ) → bytes_eq (codes "ports") key ≡ false → bytes_eq (codes "bridge_empty") key ≡ false → bytes_eq (codes "mtu") key ≡ false → bytes_eq (codes "macaddr") key ≡ false → is_given key three ≡ false =
     λ key p q a b. is_given-behind key (codes "ports") ports four p ∙ is_given-behind key (codes "bridge_empty") empty five q ∙ lacks_two key a b in
     let six_valid : AreValid six = with_valid (codes "macaddr") [] macaddr (omega arith, tested Name (codes "macaddr") refl) refl (value_valid (codes "macaddr") options each) nothing_valid in
     let five_valid = behind_valid (codes "mtu") six mtu (omega arith, tested Name (codes "mtu") refl) (given_alone (codes "mtu") (codes "macaddr") macaddr refl) (value_valid (codes "mtu") options each) six_valid in
     let four_valid = behind_valid (codes "bridge_empty") five empty (omega arith, tested Name (codes "bridge_empty") refl) (lacks_two (codes "bridge_empty") refl refl) (value_valid (codes "bridge_empty") options each) five_valid in
-    let three_valid = behind_valid (codes "ports") four ports (omega arith, tested Name (codes "ports") refl) (is_given-behind (codes "ports") (codes "bridge_empty") empty five refl ∙ lacks_two (codes "ports") refl refl) (list_valid (ifname_words options) (ifname_good options each)) four_valid in
+    let three_valid = behind_valid (codes "ports") four ports (omega arith, tested Name (codes "ports") refl) (is_given-behind (codes "ports") (codes "bridge_empty") empty five refl ∙ lacks_two (codes "ports") refl refl)
+    (list_valid (ifname_words options) (ifname_good options each)) four_valid in
     let two_valid = behind_valid (codes "type") three (Some (One (codes "bridge"))) (omega arith, tested Name (codes "type") refl) (lacks_four (codes "type") refl refl refl refl) type_valid three_valid in
     behind_valid (codes "name") (text_option (codes "type") (codes "bridge") ++ three) text (omega arith, tested Name (codes "name") refl) (lacks_four (codes "name") refl refl refl refl) (bridge_text_valid name named) two_valid
 

@@ -1,6 +1,7 @@
--- What the rewriting of old network files makes of the options of a section (OpenWrt's network configuration, the change of its
--- syntax in release 21.02).
-use Rattle.std.specs.Prelude.{ℕ, Bool, false, not, List, [], ◌∷◌, ◌++◌, filter, Option, Some, None, if◌then◌else◌, codes, bytes_eq}
+-- What the rewriting of old network files makes of the options of a section (OpenWrt's network configuration, the
+-- change of its syntax in release 21.02).
+use Rattle.std.specs.Prelude.{ℕ, Bool, false, not, List, [], ◌∷◌, ◌++◌, filter, Option, Some, None, if◌then◌else◌}
+use Rattle.std.specs.Prelude.{codes, bytes_eq}
 use Rattle.uci_tree.specs.declared.package.Value.{Value}
 use Rattle.uci_tree.specs.declared.package.Value.TheVariants.{One, Many}
 use Rattle.uci_tree.specs.declared.package.Opt.{Opt}
@@ -59,7 +60,8 @@ on_device options = without (codes "ifname") options ++ option_if (codes "device
 -- what of an interface is its bridge's goes, and `device` is last and is the bridge
 abbrev pub on_bridge : List ℕ → List Opt → List Opt
 on_bridge bridge options =
-    without (codes "type") (without (codes "ifname") (without (codes "macaddr") (without (codes "mtu") (without (codes "bridge_empty") options))))
+    without (codes "type") (without (codes "ifname")
+    (without (codes "macaddr") (without (codes "mtu") (without (codes "bridge_empty") options))))
     ++ text_option (codes "device") bridge
 
 -- an option goes over from the interface, where it has it

@@ -4,7 +4,8 @@ use Rattle.uci_tree.specs.declared.package.Section.{Section}
 use Rattle.uci_tree.specs.declared.package.Package.{Package}
 use Rattle.net_modern.specs.Rules.{is_bridged, bridge_name, has_device, rewritten, over_bridge, bridge_section}
 
--- a package while its sections are gone through: those behind, those that were added at the end, and how many were ever added
+-- a package while its sections are gone through: those behind, those that were added at the end, and how many were ever
+-- added
 pub record Progress : Type 0 where
   pub before : List Section
   pub added : List Section
@@ -35,13 +36,15 @@ after_section is_there progress section =
 
 -- the sections that are added for a section
 abbrev pub added_for : Bool → ℕ → Section → List Section
-added_for is_there made section = if gets_bridge is_there section then bridge_section (one_more made) section ∷ [] else []
+added_for is_there made section = if gets_bridge is_there section then bridge_section (one_more made) section ∷ []
+    else []
 
 -- sections in file order, each by the package as it is when its turn comes
 abbrev pub after_sections : Progress → List Section → Progress
 after_sections progress [] = progress
 after_sections progress (section ∷ later) =
-    after_sections (after_section (has_device (sections_now progress (section ∷ later)) (bridge_name section)) progress section) later
+    after_sections (after_section (has_device (sections_now progress (section ∷ later)) (bridge_name section)) progress
+    section) later
 
 abbrev pub finished : Package → Progress → Package
 finished tree progress = record tree { sections = progress.before ++ progress.added; made = progress.made }

@@ -1,5 +1,5 @@
--- Which rule rewrites a section of an old network file, and what it makes of the section (OpenWrt's network configuration, the
--- change of its syntax in release 21.02).
+-- Which rule rewrites a section of an old network file, and what it makes of the section (OpenWrt's network
+-- configuration, the change of its syntax in release 21.02).
 use Rattle.std.specs.Prelude.{ℕ, Bool, true, not, ◌&&◌, ◌==◌, length, List, ◌++◌, if◌then◌else◌, codes, bytes_eq}
 use Rattle.std.specs.List.{list_any}
 use Rattle.uci_tree.specs.declared.package.Opt.{Opt}
@@ -46,7 +46,8 @@ is_untyped section = is_named_interface section && not (has (codes "type") secti
 
 -- Third: such an interface without `device`, whose `ifname` is one word: this is its device.
 abbrev pub is_on_one_device : Section → Bool
-is_on_one_device section = is_untyped section && not (has (codes "device") section) && (length (ifname_words section.options) == 1)
+is_on_one_device section = is_untyped section && not (has (codes "device") section)
+    && (length (ifname_words section.options) == 1)
 
 -- Fourth: such an interface with `ifname` and `device`: `ifname` goes.
 abbrev pub has_both : Section → Bool
@@ -63,7 +64,8 @@ rewritten section =
     else (if has_both section then with_options section (without (codes "ifname") section.options)
     else section))
 
--- an interface over its bridge, and the anonymous `device` section of the bridge, which is added as this one of the package's
+-- an interface over its bridge, and the anonymous `device` section of the bridge, which is added as this one of the
+-- package's
 abbrev pub over_bridge : Section → Section
 over_bridge section = with_options section (on_bridge (bridge_name section) section.options)
 

@@ -29,7 +29,8 @@ pub fn ifname_words(alloc: Global, options: &[Opt]) -> Result<Items<Text>, Memor
     }
 }
 
-/// Makes the words of `ifname` the last option, `ports`, unless it is there or there is no word; takes `ifname` out.
+/// Makes the words of `ifname` the last option, `ports`, unless it is there or there is no word;
+/// takes `ifname` out.
 pub fn put_ports(alloc: Global, options: &mut Vec<Opt>) -> Result<(), Memory>
     ensures { OnOk result (options.new.items ≡ spec.with_ports options.old.items) }
 {
@@ -54,8 +55,8 @@ pub fn put_device(alloc: Global, options: &mut Vec<Opt>) -> Result<(), Memory>
     }
 }
 
-/// Makes the bridge the last option of an interface, `device`, and takes out what is the bridge's. Gives the options of the
-/// bridge.
+/// Makes the bridge the last option of an interface, `device`, and takes out what is the bridge's.
+/// Gives the options of the bridge.
 pub fn move_to_bridge(
     alloc: Global,
     options: &mut Vec<Opt>,

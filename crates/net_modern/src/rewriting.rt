@@ -16,9 +16,10 @@ use uci_tree::{Package, Section, copy_package};
 ///
 /// The sections are gone through in file order:
 /// - Of a `device` section of type `bridge` the words of `ifname` become its `ports`.
-/// - A named interface of type `bridge` without `device` is put over a bridge. The bridge's `device` section is added at the
-///   end, unless a `device` section has the bridge's name by then.
-/// - Of a named interface without `type` the one word of `ifname` becomes its `device`; where it has `device`, `ifname` goes.
+/// - A named interface of type `bridge` without `device` is put over a bridge. The bridge's
+///   `device` section is added at the end, unless a `device` section has the bridge's name by then.
+/// - Of a named interface without `type` the one word of `ifname` becomes its `device`; where it
+///   has `device`, `ifname` goes.
 ///
 /// A package that is written so already stays as it is.
 pub fn modern(alloc: Global, network: &Package) -> Result<Package, Memory>

@@ -112,7 +112,8 @@ pub fn rewritten(alloc: Global, section: Section) -> Result<Section, Memory>
     })
 }
 
-/// The interface over its bridge, and the section of the bridge, which is added as this one of the package's sections.
+/// The interface over its bridge, and the section of the bridge, which is added as this one of the
+/// package's sections.
 pub fn over_bridge(alloc: Global, section: Section, ordinal: u64) -> Result<OverBridge, Memory>
     ensures interface { IfOk result (λ both. both.interface ≡ spec.over_bridge section) }
     ensures bridge { IfOk result (λ both. both.bridge ≡ spec.bridge_section ordinal section) }

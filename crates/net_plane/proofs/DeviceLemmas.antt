@@ -13,7 +13,8 @@ use Rattle.net_plane.specs.Network.{Network, moment_of, IsOf}
 use Rattle.net_plane.specs.Taken.{IsAfter}
 
 -- what nothing refuses may happen to a kernel of the plane
-pub happens_to : (network : Network) (what : DevEvent) (devices : Devices) (objects : Objects) → devices ≡ devices_of network.inputs → objects ≡ set_of network.held → refusal (moment_of network) (event.Device what) ≡ None → MayHappen devices objects what
+pub happens_to : (network : Network) (what : DevEvent) (devices : Devices) (objects : Objects) → devices ≡ devices_of network.inputs → objects ≡ set_of network.held → refusal (moment_of network) (event.Device what) ≡ None
+    → MayHappen devices objects what
 happens_to network what devices objects same held free =
     subst (λ d. MayHappen d objects what) (sym same) (subst (λ o. MayHappen (devices_of network.inputs) o what) (sym held) (device_may (moment_of network) what free))
 
@@ -25,7 +26,8 @@ module _ (before next : Network) (what : DevEvent) (is : IsAfter before (event.D
   held_after_it : set_of next.held ≡ objects_after_event (set_of before.held) what
   held_after_it = ap (λ (m : Moment). m.held) is.moment
 
-  pub of_next : {K : Type 0} (kernel : KernelMembers K) (state then : K) → IsOf kernel state before → kernel.devices then ≡ after_event (kernel.devices state) what → kernel.objects then ≡ objects_after_event (kernel.objects state) what → IsOf kernel then next
+  pub of_next : {K : Type 0} (kernel : KernelMembers K) (state then : K) → IsOf kernel state before → kernel.devices then ≡ after_event (kernel.devices state) what → kernel.objects then ≡ objects_after_event (kernel.objects state) what
+      → IsOf kernel then next
   of_next kernel state then of devices objects = record {
     devices = devices ∙ ap (λ (d : Devices). after_event d what) of.devices ∙ sym devices_after_it;
     objects = objects ∙ ap (λ (o : Objects). objects_after_event o what) of.objects ∙ sym held_after_it;

@@ -72,7 +72,8 @@ refused_read (Ok r) e passed is why = absurd (cc is)
 refused_read (Err (fault.Limit number)) e passed is why = inr (number, cc is, why number refl)
 refused_read (Err fault.Memory) e passed is why = inl (cc is)
 
-pub refused_told : (read : Result Conf ConfError) (told : Result Conf NetError) (e f : NetError) (passed : Option ℕ) → told ≡ told_rows read → told ≡ Err e → e ≡ f → ((number : ℕ) → read ≡ Err (fault.Limit number) → passed ≡ Some number) → (f ≡ error.Memory) ⊎ ((number : ℕ) × (f ≡ error.Limit number) × (passed ≡ Some number))
+pub refused_told : (read : Result Conf ConfError) (told : Result Conf NetError) (e f : NetError) (passed : Option ℕ) → told ≡ told_rows read → told ≡ Err e → e ≡ f → ((number : ℕ) → read ≡ Err (fault.Limit number) → passed ≡ Some number)
+    → (f ≡ error.Memory) ⊎ ((number : ℕ) × (f ≡ error.Limit number) × (passed ≡ Some number))
 refused_told read told e f passed as_told is same why = refused_read read f passed (sym as_told ∙ is ∙ ap Err same) why
 
 -- ---- rows that were read, in a graph

@@ -21,8 +21,8 @@ impl Net {
     ///
     /// # Errors
     ///
-    /// `Known` and then `Limit` for a device that comes, `NoDevice` for another, `KernelFailed` where the kernel failed at it, and
-    /// `Memory`. Then nothing changes.
+    /// `Known` and then `Limit` for a device that comes, `NoDevice` for another, `KernelFailed`
+    /// where the kernel failed at it, and `Memory`. Then nothing changes.
     pub fn device<K: Kernel>(
         &mut self,
         alloc: Global,
@@ -57,7 +57,8 @@ impl Net {
         device_refusal(&kept.inputs, &kept.states.reach, is_link_held, event)
     }
 
-    // Tells the kernel what happens to a device, where nothing refuses it. All memory is taken before.
+    // Tells the kernel what happens to a device, where nothing refuses it. All memory is taken
+    // before.
     fn tell<K: Kernel>(
         &mut self,
         alloc: Global,

@@ -9,8 +9,9 @@ ghost use Rattle.net_rules.specs.Moment.{want_of, footprint_named};
 ghost use Rattle.net_plane.specs.Network.{Network, calls_of};
 ghost use Rattle.net_plane.specs.History.{HasBecome, inputs_after, Stays};
 
-/// Whatever events a plane took, in whatever order, and wherever settlings stood and stopped between: its inputs are those after these
-/// events, and where no call is left the kernel holds exactly what they want, which is what a fresh start wants.
+/// Whatever events a plane took, in whatever order, and wherever settlings stood and stopped
+/// between: its inputs are those after these events, and where no call is left the kernel holds
+/// exactly what they want, which is what a fresh start wants.
 pub fn settled_planes_are_as_fresh_ones()
     ensures inputs { (events : List Event) (now : Network) → HasBecome events now
         → now.inputs ≡ inputs_after events }
@@ -20,8 +21,8 @@ pub fn settled_planes_are_as_fresh_ones()
         → calls_of now ≡ [] → set_of now.held ≡ want_of (fresh_start (inputs_after events)) }
 {}
 
-/// From a settled plane on, no call that was made names an object of a footprint that stayed, whatever events come and wherever
-/// settlings stop.
+/// From a settled plane on, no call that was made names an object of a footprint that stayed,
+/// whatever events come and wherever settlings stop.
 pub fn no_call_names_what_stayed()
     ensures { (events : List Event) (before : Network) (name : List ℕ) (calls : List Call)
         → HasBecome events before → calls_of before ≡ []

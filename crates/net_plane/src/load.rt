@@ -22,7 +22,8 @@ use uci_tree::Package;
 const MOST_LOADS: u64 = 1 << 63;
 
 impl Net {
-    /// Loads the rows of the files. Commands for interfaces that are gone are forgotten. The graph of devices is made anew.
+    /// Loads the rows of the files. Commands for interfaces that are gone are forgotten. The graph
+    /// of devices is made anew.
     ///
     /// # Errors
     ///
@@ -51,7 +52,8 @@ impl Net {
         }
     }
 
-    // Takes rows that were read. All memory is taken before; the graph, which takes the old one in, comes last.
+    // Takes rows that were read. All memory is taken before; the graph, which takes the old one in,
+    // comes last.
     fn take_rows(&mut self, alloc: Global, rows: Conf) -> Result<(), NetError>
         requires { AreRead rows }
         ensures ok { OnOk result (IsAfter self.old (event_of.Load rows) self.new) }

@@ -26,9 +26,10 @@ use std::alloc::Global;
 use std::collections::VecDeque;
 use std::marker::Model;
 
-/// The plane of interfaces: the rows of the loaded files, the present devices, commands and answers, what the kernel holds, and what is
-/// still to be told of asks. After every list of events, once settled, the kernel holds exactly what a fresh start would give. Devices
-/// stand in a graph, so that an event costs what it changes.
+/// The plane of interfaces: the rows of the loaded files, the present devices, commands and
+/// answers, what the kernel holds, and what is still to be told of asks. After every list of
+/// events, once settled, the kernel holds exactly what a fresh start would give. Devices stand in a
+/// graph, so that an event costs what it changes.
 #[derive(Drop)]
 pub struct Net {
     pub(crate) follower: Follower,
@@ -78,7 +79,8 @@ impl Net {
         self.follower.settling.graph()
     }
 
-    /// The number of objects in one of what is held and what is wanted, and not in the other. It takes no memory.
+    /// The number of objects in one of what is held and what is wanted, and not in the other. It
+    /// takes no memory.
     pub fn due(&self) -> usize
         ensures { result ≡ due_count (set_of self.now.held) (want_of self.now.inputs) }
     {
@@ -86,7 +88,8 @@ impl Net {
         self.follower.settling.due() as usize
     }
 
-    /// What is still to be told of the last event: the asks that were lost, by number, and then those that were opened. It takes no memory.
+    /// What is still to be told of the last event: the asks that were lost, by number, and then
+    /// those that were opened. It takes no memory.
     pub fn notice(&mut self) -> Option<Notice>
         ensures told { self.old.notices ≡ option_to_list result ++ self.new.notices }
         ensures none { IfNone result (self.old.notices ≡ []) }
@@ -96,13 +99,15 @@ impl Net {
         self.follower.notices.pop_front()
     }
 
-    /// Makes the calls from what is held to what is wanted, in their order, and writes the line of each after it. Behind `Ok` the kernel
-    /// holds exactly what a fresh start would give. It takes no memory.
+    /// Makes the calls from what is held to what is wanted, in their order, and writes the line of
+    /// each after it. Behind `Ok` the kernel holds exactly what a fresh start would give. It takes
+    /// no memory.
     ///
     /// # Errors
     ///
-    /// `KernelFailed` at the first call that fails, and `WriteFailed` at the first line that is not written, or not wholly. The calls
-    /// before were made, that of the line among them; the next settling goes on from there.
+    /// `KernelFailed` at the first call that fails, and `WriteFailed` at the first line that is not
+    /// written, or not wholly. The calls before were made, that of the line among them; the next
+    /// settling goes on from there.
     pub fn settle<K: Kernel, O: Sink>(
         &mut self,
         kernel: &mut K,

@@ -13,7 +13,8 @@ use crate::next::MOST_NEXT;
 use plane_io::Text;
 
 impl Net {
-    /// The interface is brought up, or down, by hand. It takes no memory, but numbers of asks may run out.
+    /// The interface is brought up, or down, by hand. It takes no memory, but numbers of asks may
+    /// run out.
     ///
     /// # Errors
     ///

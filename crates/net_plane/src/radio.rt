@@ -14,7 +14,8 @@ use plane_io::{Items, Text};
 use std::alloc::Global;
 
 impl Net {
-    /// The handler of the radio answers the ask of this number: a port for each of its rows, where there is one.
+    /// The handler of the radio answers the ask of this number: a port for each of its rows, where
+    /// there is one.
     ///
     /// # Errors
     ///

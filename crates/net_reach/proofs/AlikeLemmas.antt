@@ -48,7 +48,8 @@ device_moves before now groups conf radios has =
     subst (λ (rs : List OpenRadio). HasGroups groups (is_at_device (record now { radios = rs })) now.conf.interfaces) (sym radios)
     (subst (λ (rows : Conf). HasGroups groups (is_at_device (record before { conf = rows })) rows.interfaces) (sym conf) has)
 
-pub reach_moves : (changes : List ℕ → Bool) (before now : Inputs) (reach : Reach) (groups : Groups) → ReachesAlikeBut changes before now → HasMembers groups (is_at_layer now) now.conf.interfaces → IsReachOf before reach → IsReachOf now (record reach { at_layer = groups })
+pub reach_moves : (changes : List ℕ → Bool) (before now : Inputs) (reach : Reach) (groups : Groups) → ReachesAlikeBut changes before now → HasMembers groups (is_at_layer now) now.conf.interfaces → IsReachOf before reach
+    → IsReachOf now (record reach { at_layer = groups })
 reach_moves changes before now reach groups alike layers is =
     let conf : before.conf ≡ now.conf = sym alike.conf in
     record {
@@ -159,7 +160,8 @@ module _ (interface : List ℕ) (number : ℕ) (answer : Answer) where
       ap (λ b. told_by (cond (b && (o.number == number)) (record o { answer = Some answer }) o)) (same_bytes o.ask.name interface same)
       ∙ ap (λ b. told_by (cond b (record o { answer = Some answer }) o)) (eq-eqb o.number number numbered)
 
-pub answer_tells : (inputs : Inputs) (interface : List ℕ) (o : OpenInterface) (answer : Answer) → open_interface inputs.interfaces interface ≡ Some o → TellsLayer inputs (changed inputs (event.Answer interface o.number answer)) interface (told_layer inputs interface) answer.device
+pub answer_tells : (inputs : Inputs) (interface : List ℕ) (o : OpenInterface) (answer : Answer) → open_interface inputs.interfaces interface ≡ Some o
+    → TellsLayer inputs (changed inputs (event.Answer interface o.number answer)) interface (told_layer inputs interface) answer.device
 answer_tells inputs interface o answer is = record {
   others = record {
     conf = refl;
@@ -188,7 +190,8 @@ distinct_once : (key : OpenInterface → List ℕ) → (os : List OpenInterface)
 distinct_once key [] once = tt
 distinct_once key (o ∷ os) once = (none_named key os (key o) once.0, distinct_once key os once.1)
 
-numbered_step : (number : ℕ) (y : OpenInterface) (ys : List OpenInterface) (o : OpenInterface) (b : Bool) → has_number number y ≡ b → (find (has_number number) ys ≡ Some o → Contains ys o × (o.number ≡ number)) → cond b (Some y) (find (has_number number) ys) ≡ Some o → Contains (y ∷ ys) o × (o.number ≡ number)
+numbered_step : (number : ℕ) (y : OpenInterface) (ys : List OpenInterface) (o : OpenInterface) (b : Bool) → has_number number y ≡ b → (find (has_number number) ys ≡ Some o → Contains ys o × (o.number ≡ number))
+    → cond b (Some y) (find (has_number number) ys) ≡ Some o → Contains (y ∷ ys) o × (o.number ≡ number)
 numbered_step number y ys o true is rest h =
     let same : y ≡ o = cc h in
     (subst (Contains (y ∷ ys)) same (here y ys), ap (λ (x : OpenInterface). x.number) (sym same) ∙ eqb-true y.number number is)

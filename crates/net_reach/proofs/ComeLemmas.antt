@@ -17,7 +17,8 @@ use Rattle.known_inputs.specs.Known.{device_names}
 use Rattle.known_inputs.proofs.NameLemmas.{distinct_pushed}
 use Rattle.net_reach.proofs.GoneLemmas.{behind, place_cons, all_left}
 
-pub comes_behind : (inputs : Inputs) (name : List ℕ) (carrier : Bool) (mtu : ℕ) (mac : Mac) → place_of (device_names inputs) name ≡ None → changed inputs (event.Device (device.Add name carrier mtu mac)) ≡ record inputs { devices = inputs.devices ++ (name, record { carrier = carrier; mtu = mtu; mac = mac }) ∷ [] }
+pub comes_behind : (inputs : Inputs) (name : List ℕ) (carrier : Bool) (mtu : ℕ) (mac : Mac) → place_of (device_names inputs) name ≡ None → changed inputs (event.Device (device.Add name carrier mtu mac))
+    ≡ record inputs { devices = inputs.devices ++ (name, record { carrier = carrier; mtu = mtu; mac = mac }) ∷ [] }
 comes_behind inputs name carrier mtu mac none = ap (λ (es : List (List ℕ × Device)). record inputs { devices = es ++ (name, record { carrier = carrier; mtu = mtu; mac = mac }) ∷ [] }) (all_left name inputs.devices none)
 
 absent_step : (n : List ℕ) (ns : List (List ℕ)) (name : List ℕ) (b : Bool) (o : Option ℕ) → bytes_eq n name ≡ b → place_of ns name ≡ o → (place_of ns name ≡ None → Contains ns name → ⊥) → behind b o ≡ None → Contains (n ∷ ns) name → ⊥

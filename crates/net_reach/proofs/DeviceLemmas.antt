@@ -18,7 +18,8 @@ pub on_err_then : {X E P Q : Type 0} (r : Result X E) → (P → Q) → OnErr r 
 on_err_then (Ok x) then p = tt
 on_err_then (Err e) then p = then p
 
-places_behind : (old new : BTreeMap (List ℕ) ℕ) (devices : List (List ℕ × Device)) (name : List ℕ) (device : Device) (place : ℕ) → HasPlaces old (map (λ (e : List ℕ × Device). e.0) devices) → place ≡ length devices → HasNoted old new name place → HasPlaces new (map (λ (e : List ℕ × Device). e.0) (devices ++ (name, device) ∷ []))
+places_behind : (old new : BTreeMap (List ℕ) ℕ) (devices : List (List ℕ × Device)) (name : List ℕ) (device : Device) (place : ℕ) → HasPlaces old (map (λ (e : List ℕ × Device). e.0) devices) → place ≡ length devices
+    → HasNoted old new name place → HasPlaces new (map (λ (e : List ℕ × Device). e.0) (devices ++ (name, device) ∷ []))
 places_behind old new devices name device place has at noted other =
     let names : List (List ℕ) = map (λ (e : List ℕ × Device). e.0) devices in
     noted other
@@ -26,7 +27,8 @@ places_behind old new devices name device place has at noted other =
     ∙ ap (λ (z : ℕ). first_place (place_of names other) (cond {A = Option ℕ} (bytes_eq name other) (Some z) None)) (at ∙ sym (length-map devices (λ (e : List ℕ × Device). e.0)))
     ∙ sym (ap (λ (z : List (List ℕ)). place_of z other) (map-append (λ (e : List ℕ × Device). e.0) devices ((name, device) ∷ [])) ∙ position-push (λ title. bytes_eq title other) names name)
 
-pub device_comes : (inputs : Inputs) (reach : Reach) (devices : BTreeMap (List ℕ) ℕ) (name : List ℕ) (device : Device) (place : ℕ) → IsReachOf inputs reach → place ≡ length inputs.devices → HasNoted reach.devices devices name place → IsReachOf (record inputs { devices = inputs.devices ++ (name, device) ∷ [] }) (record reach { devices = devices })
+pub device_comes : (inputs : Inputs) (reach : Reach) (devices : BTreeMap (List ℕ) ℕ) (name : List ℕ) (device : Device) (place : ℕ) → IsReachOf inputs reach → place ≡ length inputs.devices → HasNoted reach.devices devices name place
+    → IsReachOf (record inputs { devices = inputs.devices ++ (name, device) ∷ [] }) (record reach { devices = devices })
 device_comes inputs reach devices name device place is at noted = record {
   interfaces = is.interfaces;
   radios = is.radios;

@@ -60,7 +60,8 @@ unnamed name (n ∷ ns) off =
 abbrev names : List (List ℕ × Device) → List (List ℕ)
 names devices = map (λ (e : List ℕ × Device). e.0) devices
 
-left_step : (name : List ℕ) (e : List ℕ × Device) (es : List (List ℕ × Device)) (b : Bool) → (place_of (names es) name ≡ None → without_device name es ≡ es) → (o : Option ℕ) → place_of (names es) name ≡ o → behind b o ≡ None → cond (not b) (e ∷ without_device name es) (without_device name es) ≡ e ∷ es
+left_step : (name : List ℕ) (e : List ℕ × Device) (es : List (List ℕ × Device)) (b : Bool) → (place_of (names es) name ≡ None → without_device name es ≡ es) → (o : Option ℕ) → place_of (names es) name ≡ o → behind b o ≡ None
+    → cond (not b) (e ∷ without_device name es) (without_device name es) ≡ e ∷ es
 left_step name e es true rest o is none = cc none
 left_step name e es false rest None is none = ap (λ others. e ∷ others) (rest is)
 left_step name e es false rest (Some k) is none = cc none
@@ -84,7 +85,9 @@ gone_next false false gone None apart = refl
 gone_next false false gone (Some k) apart = ap (λ (n : ℕ). Some n) (lowered_next gone k)
 
 module _ (name q : List ℕ) where
-  gone_step : (e : List ℕ × Device) (es : List (List ℕ × Device)) (gone : ℕ) (b : Bool) (o : Option ℕ) → bytes_eq e.0 name ≡ b → place_of (names es) name ≡ o → AllByRecursion (λ other. other ≢ e.0) (names es) → ((k : ℕ) → place_of (names es) name ≡ Some k → place_of (names (without_device name es)) q ≡ place_left (Some k) (bytes_eq name q) (place_of (names es) q)) → behind b o ≡ Some gone → place_of (names (cond (not b) (e ∷ without_device name es) (without_device name es))) q ≡ place_left (Some gone) (bytes_eq name q) (behind (bytes_eq e.0 q) (place_of (names es) q))
+  gone_step : (e : List ℕ × Device) (es : List (List ℕ × Device)) (gone : ℕ) (b : Bool) (o : Option ℕ) → bytes_eq e.0 name ≡ b → place_of (names es) name ≡ o → AllByRecursion (λ other. other ≢ e.0) (names es)
+      → ((k : ℕ) → place_of (names es) name ≡ Some k → place_of (names (without_device name es)) q ≡ place_left (Some k) (bytes_eq name q) (place_of (names es) q)) → behind b o ≡ Some gone
+      → place_of (names (cond (not b) (e ∷ without_device name es) (without_device name es))) q ≡ place_left (Some gone) (bytes_eq name q) (behind (bytes_eq e.0 q) (place_of (names es) q))
   gone_step e es gone true o same is off rest found =
       let one : e.0 ≡ name = bytes_same e.0 name same in
       let none : place_of (names es) name ≡ None = subst (λ (z : List ℕ). place_of (names es) z ≡ None) one (unnamed e.0 (names es) off) in
@@ -114,7 +117,9 @@ module _ (name q : List ℕ) where
 
 -- ---- the map
 
-pub forgot_one : (old mid new : BTreeMap (List ℕ) ℕ) (name : List ℕ) (gone : ℕ) (r : Option ℕ) → r ≡ get (slice_cmp nat_cmp) old name → r ≡ Some gone → ((q : List ℕ) → get (slice_cmp nat_cmp) mid q ≡ cond (is_at (slice_cmp nat_cmp name) q) None (get (slice_cmp nat_cmp) old q)) → ((q : List ℕ) → get (slice_cmp nat_cmp) new q ≡ option_map (lowered gone) (get (slice_cmp nat_cmp) mid q)) → (q : List ℕ) → get (slice_cmp nat_cmp) new q ≡ place_left (get (slice_cmp nat_cmp) old name) (bytes_eq name q) (get (slice_cmp nat_cmp) old q)
+pub forgot_one : (old mid new : BTreeMap (List ℕ) ℕ) (name : List ℕ) (gone : ℕ) (r : Option ℕ) → r ≡ get (slice_cmp nat_cmp) old name → r ≡ Some gone
+    → ((q : List ℕ) → get (slice_cmp nat_cmp) mid q ≡ cond (is_at (slice_cmp nat_cmp name) q) None (get (slice_cmp nat_cmp) old q)) → ((q : List ℕ) → get (slice_cmp nat_cmp) new q ≡ option_map (lowered gone) (get (slice_cmp nat_cmp) mid q))
+    → (q : List ℕ) → get (slice_cmp nat_cmp) new q ≡ place_left (get (slice_cmp nat_cmp) old name) (bytes_eq name q) (get (slice_cmp nat_cmp) old q)
 forgot_one old mid new name gone r value is took low q =
     low q
     ∙ ap (option_map (lowered gone)) (took q)
@@ -126,12 +131,15 @@ forgot_one old mid new name gone r value is took low q =
     inside true o = refl
     inside false o = refl
 
-pub forgot_none : (old new : BTreeMap (List ℕ) ℕ) (name : List ℕ) (r : Option ℕ) → r ≡ get (slice_cmp nat_cmp) old name → r ≡ None → new.entries ≡ old.entries → (q : List ℕ) → get (slice_cmp nat_cmp) new q ≡ place_left (get (slice_cmp nat_cmp) old name) (bytes_eq name q) (get (slice_cmp nat_cmp) old q)
+pub forgot_none : (old new : BTreeMap (List ℕ) ℕ) (name : List ℕ) (r : Option ℕ) → r ≡ get (slice_cmp nat_cmp) old name → r ≡ None → new.entries ≡ old.entries → (q : List ℕ) → get (slice_cmp nat_cmp) new q
+    ≡ place_left (get (slice_cmp nat_cmp) old name) (bytes_eq name q) (get (slice_cmp nat_cmp) old q)
 forgot_none old new name r value is same q =
     ap (λ (z : List (List ℕ × ℕ)). lookup (is_at (slice_cmp nat_cmp q)) z) same
     ∙ ap (λ (o : Option ℕ). place_left o (bytes_eq name q) (get (slice_cmp nat_cmp) old q)) (sym is ∙ value)
 
-pub device_goes : (inputs : Inputs) (reach : Reach) (devices : BTreeMap (List ℕ) ℕ) (name : List ℕ) → IsReachOf inputs reach → AreDistinct (map (λ (e : List ℕ × Device). e.0) inputs.devices) → ((q : List ℕ) → get (slice_cmp nat_cmp) devices q ≡ place_left (get (slice_cmp nat_cmp) reach.devices name) (bytes_eq name q) (get (slice_cmp nat_cmp) reach.devices q)) → IsReachOf (record inputs { devices = without_device name inputs.devices }) (record reach { devices = devices })
+pub device_goes : (inputs : Inputs) (reach : Reach) (devices : BTreeMap (List ℕ) ℕ) (name : List ℕ) → IsReachOf inputs reach → AreDistinct (map (λ (e : List ℕ × Device). e.0) inputs.devices)
+    → ((q : List ℕ) → get (slice_cmp nat_cmp) devices q ≡ place_left (get (slice_cmp nat_cmp) reach.devices name) (bytes_eq name q) (get (slice_cmp nat_cmp) reach.devices q))
+    → IsReachOf (record inputs { devices = without_device name inputs.devices }) (record reach { devices = devices })
 device_goes inputs reach devices name is once left = record {
   interfaces = is.interfaces;
   radios = is.radios;

@@ -1,5 +1,6 @@
 -- Lists of places by name, with one place more.
-use Rattle.std.proofs.Common.{arith, ◌≡◌, zero, suc, ◌+◌, ◌-◌, ◌<◌, ◌≤◌, ℕ, List, [], ◌∷◌, ◌++◌, length, take, get_or, slice_get, Bool, true, false, cond, Contains, inl, inr, Option, Some, None, refl, sym, ap, subst, ◌∙◌, append-nil, eq-eqb, ne_eqb, bytes_eq}
+use Rattle.std.proofs.Common.{arith, ◌≡◌, zero, suc, ◌+◌, ◌-◌, ◌<◌, ◌≤◌, ℕ, List, [], ◌∷◌, ◌++◌, length, take, get_or, slice_get, Bool, true, false, cond, Contains, inl, inr, Option, Some, None, refl, sym, ap, subst, ◌∙◌, append-nil}
+use Rattle.std.proofs.Common.{eq-eqb, ne_eqb, bytes_eq}
 use Rattle.std.specs.Prelude.{◌||◌}
 use Rattle.std.specs.List.{list_any}
 use Rattle.std.proofs.lemmas.List.{length-take-le, length_push}
@@ -34,7 +35,8 @@ places_more {X} test xs i x within is =
     ∙ places_push test 0 (take i xs) x
     ∙ ap (λ k. places_by test (take i xs) ++ cond (test x) (k ∷ []) []) same
 
-pub groups_more : {X : Type 0} (test : List ℕ → X → Bool) (xs : List X) (old new : Groups) (i : ℕ) (x : X) → i < length xs → x ≡ get_or xs i x → HasGroups old test (take i xs) → Gains old new (λ q. test q x) i → HasGroups new test (take (i + 1) xs)
+pub groups_more : {X : Type 0} (test : List ℕ → X → Bool) (xs : List X) (old new : Groups) (i : ℕ) (x : X) → i < length xs → x ≡ get_or xs i x → HasGroups old test (take i xs) → Gains old new (λ q. test q x) i
+    → HasGroups new test (take (i + 1) xs)
 groups_more {X} test xs old new i x within is before gains q =
     gains q
     ∙ ap (λ (z : List ℕ). z ++ cond (test q x) (i ∷ []) []) (before q)
@@ -70,7 +72,8 @@ told_later test count y ys told found =
     let is = found.is in
     record { place = suc found.place; is = omega arith; item = found.item; found = found.found; passes = found.passes }
 
-of_step : {X : Type 0} (test : X → Bool) (count : ℕ) (y : X) (ys : List X) (told : ℕ) (b : Bool) → test y ≡ b → (Contains (places_from (suc count) test ys) told → IsTold test (suc count) ys told) → Contains (cond b (count ∷ places_from (suc count) test ys) (places_from (suc count) test ys)) told → IsTold test count (y ∷ ys) told
+of_step : {X : Type 0} (test : X → Bool) (count : ℕ) (y : X) (ys : List X) (told : ℕ) (b : Bool) → test y ≡ b → (Contains (places_from (suc count) test ys) told → IsTold test (suc count) ys told)
+    → Contains (cond b (count ∷ places_from (suc count) test ys) (places_from (suc count) test ys)) told → IsTold test count (y ∷ ys) told
 of_step test count y ys told true h later inside =
     elim (first_or_later count (places_from (suc count) test ys) told inside) as (λ _. IsTold test count (y ∷ ys) told) [
       | inl same ↦ record { place = 0; is = omega arith; item = y; found = refl; passes = h }
@@ -136,7 +139,8 @@ with_last_is list place false below =
     ap (λ (z : List ℕ). with_last z place) (append-nil list)
     ∙ ap (λ c. cond c list (list ++ place ∷ [])) (last_off list place below)
 
-pub last_more : (before old new : Groups) (at : List ℕ → Bool) (name : List ℕ) (place : ℕ) → AreBelow before place → Gains before old at place → ((q : List ℕ) → group_in new q ≡ cond (bytes_eq name q) (with_last (group_in old q) place) (group_in old q)) → Gains before new (λ q. at q || bytes_eq name q) place
+pub last_more : (before old new : Groups) (at : List ℕ → Bool) (name : List ℕ) (place : ℕ) → AreBelow before place → Gains before old at place
+    → ((q : List ℕ) → group_in new q ≡ cond (bytes_eq name q) (with_last (group_in old q) place) (group_in old q)) → Gains before new (λ q. at q || bytes_eq name q) place
 last_more before old new at name place below gains put q = put q ∙ step (bytes_eq name q)
   where
     or_true : (b : Bool) → (b || true) ≡ true
@@ -161,7 +165,8 @@ kept_last groups name place last q = step (bytes_eq name q) refl
     step true h = sym (ap (λ c. cond c (group_in groups q) (group_in groups q ++ place ∷ [])) (ap (λ (z : List ℕ). is_last (group_in groups z) place) (sym (bytes_same name q h)) ∙ last))
     step false h = refl
 
-pub new_last : (old new : Groups) (name : List ℕ) (place : ℕ) → is_last (group_in old name) place ≡ false → ((q : List ℕ) → group_in new q ≡ group_in old q ++ cond (bytes_eq name q) (place ∷ []) []) → (q : List ℕ) → group_in new q ≡ cond (bytes_eq name q) (with_last (group_in old q) place) (group_in old q)
+pub new_last : (old new : Groups) (name : List ℕ) (place : ℕ) → is_last (group_in old name) place ≡ false → ((q : List ℕ) → group_in new q ≡ group_in old q ++ cond (bytes_eq name q) (place ∷ []) []) → (q : List ℕ) → group_in new q
+    ≡ cond (bytes_eq name q) (with_last (group_in old q) place) (group_in old q)
 new_last old new name place off put q = put q ∙ step (bytes_eq name q) refl
   where
     step : (b : Bool) → bytes_eq name q ≡ b → group_in old q ++ cond b (place ∷ []) [] ≡ cond b (with_last (group_in old q) place) (group_in old q)
@@ -169,7 +174,9 @@ new_last old new name place off put q = put q ∙ step (bytes_eq name q) refl
     step false h = append-nil (group_in old q)
 
 -- a place at one name more of several
-pub gains_next : (before old new : Groups) (at : List ℕ → Bool) (place : ℕ) (names : List (List ℕ)) (i : ℕ) (name : List ℕ) → i < length names → name ≡ get_or names i name → AreBelow before place → Gains before old (λ q. at q || list_any (λ n. bytes_eq n q) (take i names)) place → ((q : List ℕ) → group_in new q ≡ cond (bytes_eq name q) (with_last (group_in old q) place) (group_in old q)) → Gains before new (λ q. at q || list_any (λ n. bytes_eq n q) (take (i + 1) names)) place
+pub gains_next : (before old new : Groups) (at : List ℕ → Bool) (place : ℕ) (names : List (List ℕ)) (i : ℕ) (name : List ℕ) → i < length names → name ≡ get_or names i name → AreBelow before place
+    → Gains before old (λ q. at q || list_any (λ n. bytes_eq n q) (take i names)) place → ((q : List ℕ) → group_in new q ≡ cond (bytes_eq name q) (with_last (group_in old q) place) (group_in old q))
+    → Gains before new (λ q. at q || list_any (λ n. bytes_eq n q) (take (i + 1) names)) place
 gains_next before old new at place names i name within is below gains put =
     gains_as before new (λ q. (at q || list_any (λ n. bytes_eq n q) (take i names)) || bytes_eq name q) (λ q. at q || list_any (λ n. bytes_eq n q) (take (i + 1) names)) place
     (last_more before old new (λ q. at q || list_any (λ n. bytes_eq n q) (take i names)) name place below gains put)

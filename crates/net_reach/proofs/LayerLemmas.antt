@@ -27,7 +27,8 @@ record HasRowAt (rows : List InterfaceRow) (name : List ℕ) (place : ℕ) : Typ
   pub found : slice_get rows place ≡ Some row
   pub is : row.name ≡ name
 
-row_step : (r : InterfaceRow) (rows : List InterfaceRow) (name : List ℕ) (place : ℕ) (b : Bool) (o : Option ℕ) → bytes_eq r.name name ≡ b → place_of (names rows) name ≡ o → ((k : ℕ) → place_of (names rows) name ≡ Some k → HasRowAt rows name k) → cond {A = Option ℕ} b (Some 0) (option_map (λ k. suc k) o) ≡ Some place → HasRowAt (r ∷ rows) name place
+row_step : (r : InterfaceRow) (rows : List InterfaceRow) (name : List ℕ) (place : ℕ) (b : Bool) (o : Option ℕ) → bytes_eq r.name name ≡ b → place_of (names rows) name ≡ o
+    → ((k : ℕ) → place_of (names rows) name ≡ Some k → HasRowAt rows name k) → cond {A = Option ℕ} b (Some 0) (option_map (λ k. suc k) o) ≡ Some place → HasRowAt (r ∷ rows) name place
 row_step r rows name place true o same is rest h =
     let zero_is : 0 ≡ place = cc h in
     subst (HasRowAt (r ∷ rows) name) zero_is (record { row = r; found = refl; is = bytes_same r.name name same })
@@ -113,7 +114,8 @@ module _ (rows : List InterfaceRow) where
         let told : is_name (now there.row.name) q ≡ true = ap (λ (o : Option (List ℕ)). is_name o q) (ap now there.is ∙ told_now) ∙ new in
         (there.row, ap (slice_get rows) (sym here_is) ∙ there.found, told_first now q p there.row first told)
 
-    old_found : (p : ℕ) (row : InterfaceRow) (b : Bool) → bytes_eq row.name interface ≡ b → slice_get rows p ≡ Some row → place_of (names rows) row.name ≡ Some p → is_name (before row.name) q ≡ true → (is_name was q ≡ true → p ≢ place) → Found p
+    old_found : (p : ℕ) (row : InterfaceRow) (b : Bool) → bytes_eq row.name interface ≡ b → slice_get rows p ≡ Some row → place_of (names rows) row.name ≡ Some p → is_name (before row.name) q ≡ true → (is_name was q ≡ true → p ≢ place)
+        → Found p
     old_found p row true same found first told apart =
         let is : row.name ≡ interface = bytes_same row.name interface same in
         let here_is : p ≡ place = let both = sym first ∙ ap (place_of (names rows)) is ∙ there_is in cc both in
@@ -139,14 +141,18 @@ module _ (rows : List InterfaceRow) where
 
 -- ---- the map
 
-pub layer_moves : (before now : Inputs) (interface : List ℕ) (place : ℕ) (was layer : Option (List ℕ)) (old mid new : Groups) → HasMembers old (is_at_layer before) before.conf.interfaces → interface_place before.conf interface ≡ Some place → TellsLayer before now interface was layer → ((q : List ℕ) → group_in mid q ≡ cond (is_name was q) (without_place (group_in old q) place) (group_in old q)) → Gains mid new (λ q. is_name layer q) place → HasMembers new (is_at_layer now) now.conf.interfaces
+pub layer_moves : (before now : Inputs) (interface : List ℕ) (place : ℕ) (was layer : Option (List ℕ)) (old mid new : Groups) → HasMembers old (is_at_layer before) before.conf.interfaces → interface_place before.conf interface ≡ Some place
+    → TellsLayer before now interface was layer → ((q : List ℕ) → group_in mid q ≡ cond (is_name was q) (without_place (group_in old q) place) (group_in old q)) → Gains mid new (λ q. is_name layer q) place
+    → HasMembers new (is_at_layer now) now.conf.interfaces
 layer_moves before now interface place was layer old mid new has there_is tells out come =
     subst (λ (c : Conf). HasMembers new (at c.interfaces (told_layer now)) c.interfaces) (sym tells.others.conf)
     (λ q. subst (λ (z : List ℕ). AreMembers z (at before.conf.interfaces (told_layer now) q) before.conf.interfaces)
     (sym (come q ∙ ap (λ (z : List ℕ). z ++ cond (is_name layer q) (place ∷ []) []) (out q)))
     (moved before.conf.interfaces (told_layer before) (told_layer now) interface place was layer tells.others.layers tells.was_told tells.is_told there_is q (group_in old q) (has q)))
 
-pub layer_set : (before now : Inputs) (reach : Reach) (interface : List ℕ) (place : ℕ) (was layer : Option (List ℕ)) (mid new : Groups) → IsReachOf before reach → interface_place before.conf interface ≡ Some place → TellsLayer before now interface was layer → ((q : List ℕ) → group_in mid q ≡ cond (is_name was q) (without_place (group_in reach.at_layer q) place) (group_in reach.at_layer q)) → Gains mid new (λ q. is_name layer q) place → IsReachOf now (record reach { at_layer = new })
+pub layer_set : (before now : Inputs) (reach : Reach) (interface : List ℕ) (place : ℕ) (was layer : Option (List ℕ)) (mid new : Groups) → IsReachOf before reach → interface_place before.conf interface ≡ Some place
+    → TellsLayer before now interface was layer → ((q : List ℕ) → group_in mid q ≡ cond (is_name was q) (without_place (group_in reach.at_layer q) place) (group_in reach.at_layer q)) → Gains mid new (λ q. is_name layer q) place
+    → IsReachOf now (record reach { at_layer = new })
 layer_set before now reach interface place was layer mid new is there_is tells out come =
     reach_moves (λ name. bytes_eq name interface) before now reach new tells.others
     (layer_moves before now interface place was layer reach.at_layer mid new is.at_layer there_is tells out come) is

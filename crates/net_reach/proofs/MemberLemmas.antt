@@ -62,7 +62,8 @@ member_more {X} test xs x i places size before = record {
     passes_at : (place : ℕ) (y : X) → place ≡ length xs → x ≡ y → test place y ≡ true → test i x ≡ true
     passes_at place y at same passes = ap (λ k. test k x) (sym size ∙ sym at) ∙ ap (test place) same ∙ passes
 
-pub members_more : {X : Type 0} (test : List ℕ → ℕ → X → Bool) (xs : List X) (old new : Groups) (i : ℕ) (x : X) → i < length xs → x ≡ get_or xs i x → HasMembers old test (take i xs) → Gains old new (λ q. test q i x) i → HasMembers new test (take (i + 1) xs)
+pub members_more : {X : Type 0} (test : List ℕ → ℕ → X → Bool) (xs : List X) (old new : Groups) (i : ℕ) (x : X) → i < length xs → x ≡ get_or xs i x → HasMembers old test (take i xs) → Gains old new (λ q. test q i x) i
+    → HasMembers new test (take (i + 1) xs)
 members_more {X} test xs old new i x within is before gains q =
     let size = length-take-le i xs (omega arith) in
     subst (λ (z : List ℕ). AreMembers z (test q) (take (i + 1) xs)) (sym (gains q))
@@ -102,7 +103,8 @@ left_in place p apart (k ∷ ks) inside = elim (first_or_later k ks p inside) as
 off_place : (k place : ℕ) → (k == place) ≡ false → k ≡ place → ⊥
 off_place k place off same = let on = eq-eqb k place same in cc (on, off)
 
-left_step : (place p k : ℕ) (ks : List ℕ) (b : Bool) → (k == place) ≡ b → (Contains (without_place ks place) p → Contains ks p × (p ≢ place)) → Contains (cond (not b) (k ∷ without_place ks place) (without_place ks place)) p → Contains (k ∷ ks) p × (p ≢ place)
+left_step : (place p k : ℕ) (ks : List ℕ) (b : Bool) → (k == place) ≡ b → (Contains (without_place ks place) p → Contains ks p × (p ≢ place)) → Contains (cond (not b) (k ∷ without_place ks place) (without_place ks place)) p
+    → Contains (k ∷ ks) p × (p ≢ place)
 left_step place p k ks true is rest inside = let later = rest inside in (there k ks p later.0, later.1)
 left_step place p k ks false is rest inside = elim (first_or_later k (without_place ks place) p inside) as (λ _. Contains (k ∷ ks) p × (p ≢ place)) [
   | inl same ↦ (subst (Contains (k ∷ ks)) same (here k ks), λ at. off_place k place is (same ∙ at))

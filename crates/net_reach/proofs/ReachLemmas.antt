@@ -31,7 +31,8 @@ record HasRow (rows : List NameRow) (name : List ℕ) : Type 0 where
   pub found : slice_get rows place ≡ Some row
   pub is : row.name ≡ name
 
-row_step : (r : NameRow) (rows : List NameRow) (name : List ℕ) (row : NameRow) (b : Bool) → bytes_eq r.name name ≡ b → (named (λ r. r.name) rows name ≡ Some row → HasRow rows name) → cond b (Some r) (named (λ r. r.name) rows name) ≡ Some row → HasRow (r ∷ rows) name
+row_step : (r : NameRow) (rows : List NameRow) (name : List ℕ) (row : NameRow) (b : Bool) → bytes_eq r.name name ≡ b → (named (λ r. r.name) rows name ≡ Some row → HasRow rows name) → cond b (Some r) (named (λ r. r.name) rows name)
+    ≡ Some row → HasRow (r ∷ rows) name
 row_step r rows name row true same later is = record { place = 0; row = r; found = refl; is = bytes_same r.name name same }
 row_step r rows name row false other later is = let found = later is in record { place = suc found.place; row = found.row; found = found.found; is = found.is }
 
@@ -91,7 +92,8 @@ module _ (inputs : Inputs) (reach : Reach) (is : IsReachOf inputs reach) (base :
         let touches = (all_above is_touched.name is_touched.above).1 in
         let within = subst (λ k. place < k) (sym room) (slice_get_within inputs.conf.interfaces place is_touched.row is_touched.found) in
         elim (either (is_at_device inputs is_touched.name is_touched.row) (is_at_layer inputs is_touched.name place is_touched.row) is_touched.at) as (λ _. Contains touched.list place) [
-          | inl device ↦ touches.device place ((members_of (group_in reach.at_device is_touched.name) (is_at_device inputs is_touched.name) inputs.conf.interfaces (is.at_device is_touched.name)).all place is_touched.row is_touched.found device) within
+          | inl device ↦ touches.device place ((members_of (group_in reach.at_device is_touched.name) (is_at_device inputs is_touched.name) inputs.conf.interfaces (is.at_device is_touched.name)).all place is_touched.row is_touched.found
+              device) within
           | inr layer ↦ touches.layer place ((is.at_layer is_touched.name).all place is_touched.row is_touched.found layer) within
         ]
 
@@ -118,7 +120,8 @@ module _ (inputs : Inputs) (reach : Reach) (is : IsReachOf inputs reach) (base :
         record { row = found.0; found = found.1; name = name; at = of_right (is_at_device inputs name found.0) (is_at_layer inputs name place found.0) found.2; above = above }
   ]
 
-  pub touched_only : (rows none mid touched : Places) → none.list ≡ [] → AreClimbed reach.above reach.names.items base rows → TouchesOnly reach.at_device reach.at_layer base none mid → ((place : ℕ) → Contains touched.list place → Contains mid.list place ⊎ IsAtRow reach.at_device reach.at_layer reach.names.items rows.list place) → (place : ℕ) → Contains touched.list place → IsTouched inputs base place
+  pub touched_only : (rows none mid touched : Places) → none.list ≡ [] → AreClimbed reach.above reach.names.items base rows → TouchesOnly reach.at_device reach.at_layer base none mid
+      → ((place : ℕ) → Contains touched.list place → Contains mid.list place ⊎ IsAtRow reach.at_device reach.at_layer reach.names.items rows.list place) → (place : ℕ) → Contains touched.list place → IsTouched inputs base place
   touched_only rows none mid touched empty climbed at_base at_rows place inside =
       elim (at_rows place inside) as (λ _. IsTouched inputs base place) [
         | inl before ↦ elim (at_base place before) as (λ _. IsTouched inputs base place) [
@@ -128,7 +131,8 @@ module _ (inputs : Inputs) (reach : Reach) (is : IsReachOf inputs reach) (base :
         | inr row ↦ at_name row.name place (climbed_above row.row row.name (climbed row.row row.member) row.named) row.at
       ]
 
-pub touched_in_order : (inputs : Inputs) (base : List ℕ) (old new : List ℕ) → IsPermutation old new → IsStrictlySortedBy nat_cmp new → ((place : ℕ) → IsTouched inputs base place → Contains old place) → ((place : ℕ) → Contains old place → IsTouched inputs base place) → AreTouched inputs base new
+pub touched_in_order : (inputs : Inputs) (base : List ℕ) (old new : List ℕ) → IsPermutation old new → IsStrictlySortedBy nat_cmp new → ((place : ℕ) → IsTouched inputs base place → Contains old place)
+    → ((place : ℕ) → Contains old place → IsTouched inputs base place) → AreTouched inputs base new
 touched_in_order inputs base old new same rising all only = record {
   rising = rising;
   all = λ place is. Contains-permutation old new place same (all place is);
@@ -136,7 +140,11 @@ touched_in_order inputs base old new same rising all only = record {
 }
 
 -- the whole walk
-pub walked : (inputs : Inputs) (reach : Reach) (is : IsReachOf inputs reach) (base : List ℕ) (names : List (List ℕ)) (listed : List ℕ) (rows none mid touched sorted : Places) → names ≡ reach.names.items → listed ≡ rows.list → rows.bound ≡ reach.visit.rows.bound → none ≡ record { bound = reach.visit.touched.bound; list = [] } → Leads reach.above base rows → ((place : ℕ) (name : List ℕ) → Contains rows.list place → slice_get names place ≡ Some name → Leads reach.above name rows) → AreClimbed reach.above names base rows → Stays none mid → Touches reach.at_device reach.at_layer base mid → TouchesOnly reach.at_device reach.at_layer base none mid → HasTouched reach.at_device reach.at_layer names listed mid touched → IsPermutation touched.list sorted.list → IsStrictlySortedBy nat_cmp sorted.list → AreTouched inputs base sorted.list
+pub walked : (inputs : Inputs) (reach : Reach) (is : IsReachOf inputs reach) (base : List ℕ) (names : List (List ℕ)) (listed : List ℕ) (rows none mid touched sorted : Places) → names ≡ reach.names.items → listed ≡ rows.list → rows.bound
+    ≡ reach.visit.rows.bound → none ≡ record { bound = reach.visit.touched.bound; list = [] } → Leads reach.above base rows
+    → ((place : ℕ) (name : List ℕ) → Contains rows.list place → slice_get names place ≡ Some name → Leads reach.above name rows) → AreClimbed reach.above names base rows → Stays none mid → Touches reach.at_device reach.at_layer base mid
+    → TouchesOnly reach.at_device reach.at_layer base none mid → HasTouched reach.at_device reach.at_layer names listed mid touched → IsPermutation touched.list sorted.list → IsStrictlySortedBy nat_cmp sorted.list
+    → AreTouched inputs base sorted.list
 walked inputs reach is base names listed rows none mid touched sorted same told row_bound empty first further climbed stays at_base only_base at_rows order rising =
     touched_in_order inputs base touched.list sorted.list order rising
     (touched_all inputs reach is base rows touched (row_bound ∙ is.row_room) first further_names

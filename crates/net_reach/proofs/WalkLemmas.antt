@@ -1,5 +1,6 @@
 -- Places that come to a set, and the walk up from a name.
-use Rattle.std.proofs.Common.{arith, ◌≡◌, ◌⊎◌, inl, inr, ◌+◌, ◌<◌, ◌≤◌, ℕ, List, [], ◌∷◌, ◌++◌, length, get_or, slice_get, Bool, true, false, cond, eqb, Contains, Bor, Option, Some, None, refl, sym, ap, subst, ◌∙◌, eqb-true, eq-eqb, append-nil, append_assoc}
+use Rattle.std.proofs.Common.{arith, ◌≡◌, ◌⊎◌, inl, inr, ◌+◌, ◌<◌, ◌≤◌, ℕ, List, [], ◌∷◌, ◌++◌, length, get_or, slice_get, Bool, true, false, cond, eqb, Contains, Bor, Option, Some, None, refl, sym, ap, subst, ◌∙◌, eqb-true, eq-eqb}
+use Rattle.std.proofs.Common.{append-nil, append_assoc}
 use Rattle.std.specs.Prelude.{◌&&◌, not, nat_lt}
 use Rattle.std.proofs.lemmas.Bool.Decides.{leb_tells, Decides-ltb}
 use Rattle.std.proofs.lemmas.List.Elements.{Contains-append_left, Contains-push, Contains-push_cases}
@@ -111,7 +112,8 @@ climbed_first above names base set new places none are made place inside =
       | inr right ↦ IsClimbed.first place (subst (λ (z : List ℕ). Contains z place) are right)
     ]
 
-pub climbed_further : (above : Groups) (names : List (List ℕ)) (base : List ℕ) (set new : Places) (places : List ℕ) (lower : ℕ) (name : List ℕ) → Contains set.list lower → slice_get names lower ≡ Some name → places ≡ group_in above name → new ≡ with_places set places → AreClimbed above names base set → AreClimbed above names base new
+pub climbed_further : (above : Groups) (names : List (List ℕ)) (base : List ℕ) (set new : Places) (places : List ℕ) (lower : ℕ) (name : List ℕ) → Contains set.list lower → slice_get names lower ≡ Some name → places ≡ group_in above name
+    → new ≡ with_places set places → AreClimbed above names base set → AreClimbed above names base new
 climbed_further above names base set new places lower name member named are made climbed place inside =
     elim (only_with set new places place made inside) as (λ _. IsClimbed above names base place) [
       | inl old ↦ climbed place old
@@ -129,7 +131,8 @@ abbrev pub HasClimbed : Groups → List (List ℕ) → ℕ → Places → Type 0
 HasClimbed above names next rows =
     (turn place : ℕ) (name : List ℕ) → turn < next → slice_get rows.list turn ≡ Some place → slice_get names place ≡ Some name → Leads above name rows
 
-pub climbed_more : (above : Groups) (names : List (List ℕ)) (next : ℕ) (old new : Places) → next < length old.list → Stays old new → ((place : ℕ) (name : List ℕ) → slice_get old.list next ≡ Some place → slice_get names place ≡ Some name → Leads above name new) → HasClimbed above names next old → HasClimbed above names (next + 1) new
+pub climbed_more : (above : Groups) (names : List (List ℕ)) (next : ℕ) (old new : Places) → next < length old.list → Stays old new
+    → ((place : ℕ) (name : List ℕ) → slice_get old.list next ≡ Some place → slice_get names place ≡ Some name → Leads above name new) → HasClimbed above names next old → HasClimbed above names (next + 1) new
 climbed_more above names next old new within stays here before turn place name sooner is named = at (eqb turn next) refl
   where
     below_other : (a b : ℕ) → a < b + 1 → (a ≡ b → ⊥) → a < b
@@ -144,14 +147,16 @@ climbed_more above names next old new within stays here before turn place name s
         let less : turn < next = below_other turn next sooner apart in
         still_leads above name old new stays (before turn place name less (still_at old new turn place stays (omega arith) is) named)
 
-pub climbed_all : (above : Groups) (names : List (List ℕ)) (next : ℕ) (rows : Places) → length rows.list ≤ next → HasClimbed above names next rows → (place : ℕ) (name : List ℕ) → Contains rows.list place → slice_get names place ≡ Some name → Leads above name rows
+pub climbed_all : (above : Groups) (names : List (List ℕ)) (next : ℕ) (rows : Places) → length rows.list ≤ next → HasClimbed above names next rows → (place : ℕ) (name : List ℕ) → Contains rows.list place → slice_get names place ≡ Some name
+    → Leads above name rows
 climbed_all above names next rows all climbed place name inside named =
     let turn = at_turn rows.list place inside in
     climbed turn.0 place name (let low = turn.1 in omega arith) turn.2 named
 
 -- ---- touching
 
-pub touches_only : (at_device at_layer : Groups) (name : List ℕ) (old mid new : Places) (first second : List ℕ) → first ≡ group_in at_device name → second ≡ group_in at_layer name → mid ≡ with_places old first → new ≡ with_places mid second → TouchesOnly at_device at_layer name old new
+pub touches_only : (at_device at_layer : Groups) (name : List ℕ) (old mid new : Places) (first second : List ℕ) → first ≡ group_in at_device name → second ≡ group_in at_layer name → mid ≡ with_places old first → new ≡ with_places mid second
+    → TouchesOnly at_device at_layer name old new
 touches_only at_device at_layer name old mid new first second are told one two place inside =
     elim (only_with mid new second place two inside) as (λ _. Contains old.list place ⊎ IsAt at_device at_layer name place) [
       | inl before ↦ elim (only_with old mid first place one before) as (λ _. Contains old.list place ⊎ IsAt at_device at_layer name place) [
@@ -175,7 +180,8 @@ touched_none at_device at_layer names set = record {
 }
 
 -- the rows are one more, of which nothing came
-pub touched_unnamed : (at_device at_layer : Groups) (names : List (List ℕ)) (rows : List ℕ) (row : ℕ) (old new : Places) → slice_get names row ≡ None → HasTouched at_device at_layer names rows old new → HasTouched at_device at_layer names (rows ++ row ∷ []) old new
+pub touched_unnamed : (at_device at_layer : Groups) (names : List (List ℕ)) (rows : List ℕ) (row : ℕ) (old new : Places) → slice_get names row ≡ None → HasTouched at_device at_layer names rows old new
+    → HasTouched at_device at_layer names (rows ++ row ∷ []) old new
 touched_unnamed at_device at_layer names rows row old new none was = record {
   stays = was.stays;
   touches = λ other name inside named.
@@ -191,7 +197,8 @@ touched_unnamed at_device at_layer names rows row old new none was = record {
     later {place} (inr at) = inr (record { row = at.row; member = Contains-append_left rows (row ∷ []) at.row at.member; name = at.name; named = at.named; at = at.at })
 
 -- the rows are one more, and those at its name came
-pub touched_named : (at_device at_layer : Groups) (names : List (List ℕ)) (rows : List ℕ) (row : ℕ) (name : List ℕ) (old mid new : Places) → slice_get names row ≡ Some name → Stays mid new → Touches at_device at_layer name new → TouchesOnly at_device at_layer name mid new → HasTouched at_device at_layer names rows old mid → HasTouched at_device at_layer names (rows ++ row ∷ []) old new
+pub touched_named : (at_device at_layer : Groups) (names : List (List ℕ)) (rows : List ℕ) (row : ℕ) (name : List ℕ) (old mid new : Places) → slice_get names row ≡ Some name → Stays mid new → Touches at_device at_layer name new
+    → TouchesOnly at_device at_layer name mid new → HasTouched at_device at_layer names rows old mid → HasTouched at_device at_layer names (rows ++ row ∷ []) old new
 touched_named at_device at_layer names rows row name old mid new is stays touches only was = record {
   stays = stays_then old mid new was.stays stays;
   touches = λ other called inside named.

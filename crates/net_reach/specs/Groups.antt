@@ -1,5 +1,6 @@
 -- Lists of places by name.
-use Rattle.std.specs.Prelude.{ℕ, ◌≡◌, ◌<◌, ◌-◌, ◌==◌, List, [], ◌∷◌, ◌++◌, filter, length, Bool, not, if◌then◌else◌, Contains, Some, true, Vec, vec_len, vec_capacity}
+use Rattle.std.specs.Prelude.{ℕ, ◌≡◌, ◌<◌, ◌-◌, ◌==◌, List, [], ◌∷◌, ◌++◌, filter, length, Bool, not, if◌then◌else◌}
+use Rattle.std.specs.Prelude.{Contains, Some, true, Vec, vec_len, vec_capacity}
 use Rattle.std.specs.List.{slice_get}
 use Rattle.std.specs.Ordering.{nat_cmp}
 use Rattle.std.specs.Cmp.Lexicographic.{slice_cmp}

@@ -1,5 +1,6 @@
 -- What reaches what, as the program keeps it.
-use Rattle.std.specs.Prelude.{ℕ, ◌≡◌, List, map, length, Bool, true, ◌||◌, Option, Contains, None, Some, if◌then◌else◌, slice_get}
+use Rattle.std.specs.Prelude.{ℕ, ◌≡◌, List, map, length, Bool, true, ◌||◌, Option, Contains, None, Some, if◌then◌else◌}
+use Rattle.std.specs.Prelude.{slice_get}
 use Rattle.std.specs.List.Sorted.{IsStrictlySortedBy}
 use Rattle.std.specs.Ordering.{nat_cmp}
 use Rattle.std.specs.Option.{option_and_then}

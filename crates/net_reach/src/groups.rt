@@ -1,5 +1,6 @@
 //! Lists of places by name.
-ghost use Rattle.std.specs.Prelude.{◌≡◌, ◌++◌, [], ◌∷◌, ℕ, List, None, if◌then◌else◌, OnOk, bytes_eq};
+ghost use Rattle.std.specs.Prelude.{◌≡◌, ◌++◌, [], ◌∷◌, ℕ, List, None, if◌then◌else◌, OnOk};
+ghost use Rattle.std.specs.Prelude.{bytes_eq};
 ghost use Rattle.std.specs.BTreeMap.{get, is_at};
 ghost use Rattle.std.specs.Ordering.{nat_cmp};
 ghost use Rattle.std.specs.Cmp.Lexicographic.{slice_cmp};
@@ -73,7 +74,8 @@ fn take_group(
 ) -> Vec<usize>
     ensures places { result.items ≡ group_in groups.old name.now }
     ensures others { (q : List ℕ) → get (slice_cmp nat_cmp) groups.new q
-        ≡ (if is_at (slice_cmp nat_cmp name.now) q then None else get (slice_cmp nat_cmp) groups.old q) }
+        ≡ (if is_at (slice_cmp nat_cmp name.now) q then None
+        else get (slice_cmp nat_cmp) groups.old q) }
 {
     match groups.remove(name) {
         Some(group) => group,
@@ -81,7 +83,8 @@ fn take_group(
     }
 }
 
-/// Takes room for one more place of a name. Each name keeps its places and its room, also where memory lacks.
+/// Takes room for one more place of a name. Each name keeps its places and its room, also where
+/// memory lacks.
 pub(crate) fn reserve_place(
     alloc: Global,
     groups: &mut BTreeMap<DevName, Vec<usize>>,

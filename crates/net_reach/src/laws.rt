@@ -18,8 +18,9 @@ ghost use Rattle.net_reach.specs.declared.reach.Reach.{Reach};
 ghost use Rattle.net_reach.specs.Reach.{IsReachOf, told_layer};
 ghost use Rattle.net_reach.specs.Layers.{ReachesAlike, TellsLayer};
 
-/// What reaches what stays where rows, answers of radios, the names of present devices and all layer-3 devices that were told are the
-/// same; so too where an interface is told the device again that it was told.
+/// What reaches what stays where rows, answers of radios, the names of present devices and all
+/// layer-3 devices that were told are the same; so too where an interface is told the device again
+/// that it was told.
 pub fn reach_stays()
     ensures alike { (before now : Inputs) (reach : Reach) → ReachesAlike before now
         → IsReachOf before reach → IsReachOf now reach }
@@ -37,7 +38,8 @@ pub fn steps_that_reach_alike()
         → ReachesAlike inputs (with_ask inputs ask) }
 {}
 
-/// A device that comes is behind the present ones, each of which is there once still. Without it they are what they were.
+/// A device that comes is behind the present ones, each of which is there once still. Without it
+/// they are what they were.
 pub fn devices_come_and_go()
     ensures comes { (inputs : Inputs) (name : List ℕ) (carrier : Bool) (mtu : ℕ) (mac : Mac)
         → place_of (device_names inputs) name ≡ None
@@ -54,7 +56,8 @@ pub fn devices_come_and_go()
         } ≡ inputs }
 {}
 
-/// An answer to the open ask of an interface tells it the answer's layer-3 device, and an ask that is closed leaves it none.
+/// An answer to the open ask of an interface tells it the answer's layer-3 device, and an ask that
+/// is closed leaves it none.
 pub fn answers_tell_layers()
     ensures answer { (inputs : Inputs) (interface : List ℕ) (o : OpenInterface) (answer : Answer)
         → open_interface inputs.interfaces interface ≡ Some o → TellsLayer inputs

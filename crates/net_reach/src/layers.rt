@@ -19,7 +19,8 @@ impl Reach {
     ///
     /// # Errors
     ///
-    /// `Memory` where there is not enough of it. What reaches what stays in any case, and so does all room.
+    /// `Memory` where there is not enough of it. What reaches what stays in any case, and so does
+    /// all room.
     pub fn reserve_layer(&mut self, alloc: Global, layer: &DevName) -> Result<(), Memory>
         ensures room { OnOk result (HasRoomAt self.new.at_layer layer.now) }
         ensures rooms { (name : List ℕ) → HasRoomAt self.old.at_layer name
@@ -30,7 +31,8 @@ impl Reach {
         reserve_place(alloc, &mut self.at_layer, layer)
     }
 
-    /// The first row of an interface's name, at this place, is told another layer-3 device than it was, or none. It takes no memory.
+    /// The first row of an interface's name, at this place, is told another layer-3 device than it
+    /// was, or none. It takes no memory.
     pub fn set_layer(&mut self, place: usize, was: Option<DevName>, layer: Option<DevName>)
         requires room { IfSome layer (HasRoomAt self.old.at_layer) }
         ensures told { (before now : Inputs) (interface : List ℕ) → IsReachOf before self.old

@@ -1,5 +1,5 @@
-//! What reaches what, by name: interfaces at names, names above names, routes of interfaces, places of devices; and which
-//! interfaces something that happens to a name touches.
+//! What reaches what, by name: interfaces at names, names above names, routes of interfaces, places
+//! of devices; and which interfaces something that happens to a name touches.
 #![tactic(auto)]
 
 mod above;

@@ -58,7 +58,8 @@ impl Reach {
         places_at(&self.at_layer, layer)
     }
 
-    /// The places of the routes of an interface that have no fault and are not disabled, in file order.
+    /// The places of the routes of an interface that have no fault and are not disabled, in file
+    /// order.
     pub fn routes_of(&self, interface: &Text) -> &[usize]
         ensures { (inputs : Inputs) → IsReachOf inputs self.now
             → map (slice_get inputs.conf.routes) result.now

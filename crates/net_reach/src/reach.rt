@@ -124,8 +124,9 @@ impl Reach {
         })
     }
 
-    /// Finds the interfaces that something touches that happens to a name: those whose device or answered layer-3 device it is, or
-    /// stands on it. Their places are in `visit.touched`, each once, rising. It takes no memory.
+    /// Finds the interfaces that something touches that happens to a name: those whose device or
+    /// answered layer-3 device it is, or stands on it. Their places are in `visit.touched`, each
+    /// once, rising. It takes no memory.
     pub fn touch_above(&mut self, name: &DevName)
         ensures touched { (inputs : Inputs) → IsReachOf inputs self.old
             → AreTouched inputs name.now self.new.visit.touched.list }

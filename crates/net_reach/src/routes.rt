@@ -1,5 +1,6 @@
 //! The routes of each interface that have no fault and are not disabled.
-ghost use Rattle.std.specs.Prelude.{◌≡◌, ◌++◌, ◌&&◌, [], ◌∷◌, ℕ, List, None, not, if◌then◌else◌, IfOk, OnOk, bytes_eq};
+ghost use Rattle.std.specs.Prelude.{◌≡◌, ◌++◌, ◌&&◌, [], ◌∷◌, ℕ, List, None, not, if◌then◌else◌};
+ghost use Rattle.std.specs.Prelude.{IfOk, OnOk, bytes_eq};
 ghost use Rattle.std.specs.BTreeMap.{get, is_at};
 ghost use Rattle.std.specs.Ordering.{nat_cmp};
 ghost use Rattle.std.specs.Cmp.Lexicographic.{slice_cmp};
@@ -48,7 +49,8 @@ fn add_route_place(
 
 // The interface of a route that has no fault and is not disabled.
 fn interface_of<'a>(interfaces: &'a [InterfaceRow], route: &RouteRow) -> Option<&'a InterfaceRow>
-    ensures { option_copied result ≡ (if rows.is_faultless route.now.faults && not route.now.disabled
+    ensures { option_copied result
+        ≡ (if rows.is_faultless route.now.faults && not route.now.disabled
         then option_and_then (slice_get interfaces.now) route.now.interface else None) }
 {
     if route.disabled {
@@ -83,7 +85,8 @@ fn add_place_of_text(
 fn take_of_text(alloc: Global, groups: &mut BTreeMap<Text, Vec<usize>>, name: &Text) -> Vec<usize>
     ensures places { result.items ≡ group_in groups.old name.now }
     ensures others { (q : List ℕ) → get (slice_cmp nat_cmp) groups.new q
-        ≡ (if is_at (slice_cmp nat_cmp name.now) q then None else get (slice_cmp nat_cmp) groups.old q) }
+        ≡ (if is_at (slice_cmp nat_cmp name.now) q then None
+        else get (slice_cmp nat_cmp) groups.old q) }
 {
     match groups.remove(name) {
         Some(group) => group,

@@ -53,7 +53,8 @@ none_of (Some x) = refl
 
 -- ---- rows
 
-pub row_by_place : (rows : List NameRow) (name : List ℕ) (place : ℕ) (seen : List NameRow) (r : Option (Bor NameRow)) → Some place ≡ place_of (map (λ (row : NameRow). row.name) rows) name → seen ≡ rows → IsItemAt seen place r → option_copied r ≡ named (λ (row : NameRow). row.name) rows name
+pub row_by_place : (rows : List NameRow) (name : List ℕ) (place : ℕ) (seen : List NameRow) (r : Option (Bor NameRow)) → Some place ≡ place_of (map (λ (row : NameRow). row.name) rows) name → seen ≡ rows → IsItemAt seen place r
+    → option_copied r ≡ named (λ (row : NameRow). row.name) rows name
 row_by_place rows name place seen r is all read =
     read_at (λ (x : Bor NameRow). x.now) seen place r read
     ∙ ap (λ (z : List NameRow). slice_get z place) all

@@ -19,7 +19,8 @@ use net_reach::Reach;
 use net_rows::{NameKind, NameRow, vlan_parts};
 use net_rules::{MOST_DEVICES, Refusal};
 
-/// Why what happens to a device is refused, if it is. The caller tells whether a link of its name is held.
+/// Why what happens to a device is refused, if it is. The caller tells whether a link of its name
+/// is held.
 pub fn device_refusal(
     inputs: &KnownInputs,
     reach: &Reach,
@@ -63,7 +64,8 @@ fn add_refusal(
     )
 }
 
-// Whether a name is that of a present device, of a bridge or a VLAN of the rows, one of the form X.N among them, or of a held link.
+// Whether a name is that of a present device, of a bridge or a VLAN of the rows, one of the form
+// X.N among them, or of a held link.
 fn is_known(inputs: &KnownInputs, reach: &Reach, is_link_held: bool, name: &DevName) -> bool
     requires { IsReachOf inputs.now.inputs reach.now }
     ensures { result ≡ (is_some (device_in inputs.now.inputs.devices name.now)

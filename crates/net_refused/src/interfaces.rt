@@ -51,7 +51,8 @@ fn is_too_long(answer: &Answer) -> bool
     (MOST_IN_ANSWER < addresses) | (MOST_IN_ANSWER < routes)
 }
 
-// Why a number is refused that is given for the open ask of an interface. All open asks are looked at where it is stale, to tell theirs.
+// Why a number is refused that is given for the open ask of an interface. All open asks are looked
+// at where it is stale, to tell theirs.
 fn number_refusal(inputs: &KnownInputs, interface: &Text, number: u64) -> Option<Refusal>
     ensures { result ≡ spec.stale_number number (spec.number_of_interface
         (open_interface inputs.now.inputs.interfaces interface.now)) }

@@ -1,5 +1,6 @@
 -- Hardware addresses (IEEE 802, 48 bits): six pairs of hexadecimal digits, with a colon between each two.
-use Rattle.std.specs.Prelude.{ℕ, ◌+◌, ◌*◌, ◌==◌, Bool, ◌&&◌, List, [], ◌∷◌, Option, Some, None, if◌then◌else◌, length, slice_index}
+use Rattle.std.specs.Prelude.{ℕ, ◌+◌, ◌*◌, ◌==◌, Bool, ◌&&◌, List, [], ◌∷◌, Option, Some, None, if◌then◌else◌, length}
+use Rattle.std.specs.Prelude.{slice_index}
 use Rattle.std.specs.Char.{digit_value, is_digit}
 use Rattle.net_addr.specs.Byte.{colon}
 use Rattle.kern_model.specs.declared.object.Mac.{Mac}

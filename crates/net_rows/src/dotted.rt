@@ -12,8 +12,8 @@ pub struct VlanParts {
     pub id: u16,
 }
 
-/// What a device name stands for, where it has the form X.N: X is a device name, and N a decimal from 1 to 4094 without
-/// leading zeros. It is cut at its last dot.
+/// What a device name stands for, where it has the form X.N: X is a device name, and N a decimal
+/// from 1 to 4094 without leading zeros. It is cut at its last dot.
 pub fn vlan_parts(name: &DevName) -> Option<VlanParts>
     ensures { result ≡ spec.vlan_parts name.now }
 {

@@ -1,5 +1,5 @@
-//! The rows of a network configuration as types, and what the options of its sections give: words, truth values, numbers, names, VLAN
-//! names, hardware addresses.
+//! The rows of a network configuration as types, and what the options of its sections give: words,
+//! truth values, numbers, names, VLAN names, hardware addresses.
 #![tactic(auto)]
 
 mod conf_error;

@@ -7,7 +7,8 @@ ghost use Rattle.net_rows.specs.Number as spec;
 use kern_model::{LEAST_VLAN_ID, MOST_VLAN_ID};
 use std::str;
 
-/// The number that a text of decimal digits is, where it has 32 bits. Zeros may stand in front, and a sign may not.
+/// The number that a text of decimal digits is, where it has 32 bits. Zeros may stand in front, and
+/// a sign may not.
 pub fn read_decimal(text: &[u8]) -> Option<u32>
     ensures { result ≡ spec.decimal_of text.now }
 {

@@ -16,9 +16,11 @@ pub struct RowFault {
 pub enum NameKind {
     /// A device that is there or not, and is never made.
     Plain,
-    /// A bridge with its own ports, radio ports aside. One with `empty` is available also where no port is.
+    /// A bridge with its own ports, radio ports aside. One with `empty` is available also where no
+    /// port is.
     Bridge { empty: bool, ports: Items<DevName> },
-    /// VLAN `id` over a name; without one, and with the identifier 0, where the section does not tell it.
+    /// VLAN `id` over a name; without one, and with the identifier 0, where the section does not
+    /// tell it.
     Vlan { lower: Option<DevName>, id: u16 },
 }
 

@@ -35,7 +35,8 @@ pub fn stated_name(options: &[Opt], name: &[u8]) -> Stated<DevName>
 
 /// The number within these bounds that an option gives as a decimal.
 pub fn stated_number(options: &[Opt], name: &[u8], least: u32, most: u32) -> Stated<u32>
-    ensures { result ≡ spec.stated (number_within least most) (by_name.value_of name.now options.now) }
+    ensures { result ≡ spec.stated (number_within least most)
+        (by_name.value_of name.now options.now) }
 {
     match value_of(options, name) {
         None => Stated::Absent,

@@ -5,8 +5,8 @@ ghost use Rattle.net_rows.specs.Options as by_name;
 use crate::options::text_of;
 use uci_tree::Opt;
 
-/// The truth value of an option: true is `1`, `on`, `true`, `yes` or `enabled`, false is `0`, `off`, `false`, `no` or
-/// `disabled`. Another text, a list and no option are the default.
+/// The truth value of an option: true is `1`, `on`, `true`, `yes` or `enabled`, false is `0`,
+/// `off`, `false`, `no` or `disabled`. Another text, a list and no option are the default.
 pub fn truth_of(options: &[Opt], name: &[u8], default: bool) -> bool
     ensures { result ≡ spec.truth default (by_name.text_of name.now options.now) }
 {

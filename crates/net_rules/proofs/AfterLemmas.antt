@@ -38,7 +38,8 @@ asked_step ask false o x y h = h
 
 interfaces_open : (next : ℕ) (asks : List InterfaceAsk) (q : List ℕ) → option_map (λ o. o.ask) (found_in (λ o. o.ask.name) (opened_interfaces next asks) q) ≡ found_in (λ a. a.name) asks q
 interfaces_open next [] q = refl
-interfaces_open next (a ∷ others) q = asked_step (λ o. o.ask) (bytes_eq a.name q) (record { number = next; ask = a; answer = None }) (found_in (λ o. o.ask.name) (opened_interfaces (next + 1) others) q) (found_in (λ b. b.name) others q) (interfaces_open (next + 1) others q)
+interfaces_open next (a ∷ others) q = asked_step (λ o. o.ask) (bytes_eq a.name q) (record { number = next; ask = a; answer = None }) (found_in (λ o. o.ask.name) (opened_interfaces (next + 1) others) q) (found_in (λ b. b.name) others q)
+    (interfaces_open (next + 1) others q)
 
 none_of_map : {O A : Type 0} (ask : O → A) (x : Option O) → option_map ask x ≡ None → x ≡ None
 none_of_map ask None h = refl
@@ -46,19 +47,24 @@ none_of_map ask (Some o) h = cc h
 
 interfaces_open_once : (next : ℕ) (asks : List InterfaceAsk) → AreOnce (λ a. a.name) asks → AreOnce (λ o. o.ask.name) (opened_interfaces next asks)
 interfaces_open_once next [] once = tt
-interfaces_open_once next (a ∷ others) once = (none_of_map (λ o. o.ask) (found_in (λ o. o.ask.name) (opened_interfaces (next + 1) others) a.name) (interfaces_open (next + 1) others a.name ∙ once.0), interfaces_open_once (next + 1) others once.1)
+interfaces_open_once next (a ∷ others) once = (
+  none_of_map (λ o. o.ask) (found_in (λ o. o.ask.name) (opened_interfaces (next + 1) others) a.name) (interfaces_open (next + 1) others a.name ∙ once.0),
+  interfaces_open_once (next + 1) others once.1,
+)
 
 bare_interface : (next : ℕ) (asks : List InterfaceAsk) (q : List ℕ) (o : OpenInterface) → found_in (λ x. x.ask.name) (opened_interfaces next asks) q ≡ Some o → o.answer ≡ None
 bare_interface next [] q o h = cc h
 bare_interface next (a ∷ others) q o h = by_name (bytes_eq a.name q) h (bare_interface (next + 1) others q o)
   where
-    by_name : (b : Bool) → cond b (Some (record { number = next; ask = a; answer = None })) (found_in (λ x. x.ask.name) (opened_interfaces (next + 1) others) q) ≡ Some o → (found_in (λ x. x.ask.name) (opened_interfaces (next + 1) others) q ≡ Some o → o.answer ≡ None) → o.answer ≡ None
+    by_name : (b : Bool) → cond b (Some (record { number = next; ask = a; answer = None })) (found_in (λ x. x.ask.name) (opened_interfaces (next + 1) others) q) ≡ Some o
+        → (found_in (λ x. x.ask.name) (opened_interfaces (next + 1) others) q ≡ Some o → o.answer ≡ None) → o.answer ≡ None
     by_name true e later = let same : record { number = next; ask = a; answer = None } ≡ o = cc e in ap (λ x. x.answer) (sym same)
     by_name false e later = later e
 
 radios_open : (next : ℕ) (asks : List RadioAsk) (q : List ℕ) → option_map (λ o. o.ask) (found_in (λ o. o.ask.name) (opened_radios next asks) q) ≡ found_in (λ a. a.name) asks q
 radios_open next [] q = refl
-radios_open next (a ∷ others) q = asked_step (λ o. o.ask) (bytes_eq a.name q) (record { number = next; ask = a; ports = None }) (found_in (λ o. o.ask.name) (opened_radios (next + 1) others) q) (found_in (λ b. b.name) others q) (radios_open (next + 1) others q)
+radios_open next (a ∷ others) q = asked_step (λ o. o.ask) (bytes_eq a.name q) (record { number = next; ask = a; ports = None }) (found_in (λ o. o.ask.name) (opened_radios (next + 1) others) q) (found_in (λ b. b.name) others q)
+    (radios_open (next + 1) others q)
 
 radios_open_once : (next : ℕ) (asks : List RadioAsk) → AreOnce (λ a. a.name) asks → AreOnce (λ o. o.ask.name) (opened_radios next asks)
 radios_open_once next [] once = tt
@@ -68,7 +74,8 @@ bare_radio : (next : ℕ) (asks : List RadioAsk) (q : List ℕ) (o : OpenRadio) 
 bare_radio next [] q o h = cc h
 bare_radio next (a ∷ others) q o h = by_name (bytes_eq a.name q) h (bare_radio (next + 1) others q o)
   where
-    by_name : (b : Bool) → cond b (Some (record { number = next; ask = a; ports = None })) (found_in (λ x. x.ask.name) (opened_radios (next + 1) others) q) ≡ Some o → (found_in (λ x. x.ask.name) (opened_radios (next + 1) others) q ≡ Some o → o.ports ≡ None) → o.ports ≡ None
+    by_name : (b : Bool) → cond b (Some (record { number = next; ask = a; ports = None })) (found_in (λ x. x.ask.name) (opened_radios (next + 1) others) q) ≡ Some o
+        → (found_in (λ x. x.ask.name) (opened_radios (next + 1) others) q ≡ Some o → o.ports ≡ None) → o.ports ≡ None
     by_name true e later = let same : record { number = next; ask = a; ports = None } ≡ o = cc e in ap (λ x. x.ports) (sym same)
     by_name false e later = later e
 
@@ -107,13 +114,18 @@ module _ (inputs : Inputs) (single : AreSingle inputs) where
   pub radios_single : AreOnce (λ o. o.ask.name) (asked inputs).radios
   radios_single =
       renewed_once (λ o. o.ask) (λ a. a.name) same_radio_ask radio_asks (radio_need_of inputs.conf) (radio_need_named inputs.conf) inputs.radios single.radios radio_list (radio_needs_once inputs.conf) (radio_needs_found inputs.conf)
-      (opened_radios (inputs.next + length (new_interface_asks behind_interfaces)) (new_radio_asks behind_interfaces)) (radios_open_once (inputs.next + length (new_interface_asks behind_interfaces)) (new_radio_asks behind_interfaces) (once_filter (λ a. a.name) (λ a. is_none (open_radio behind_interfaces.radios a.name)) radio_list (radio_needs_once inputs.conf)))
+      (opened_radios (inputs.next + length (new_interface_asks behind_interfaces)) (new_radio_asks behind_interfaces))
+      (radios_open_once (inputs.next + length (new_interface_asks behind_interfaces)) (new_radio_asks behind_interfaces)
+      (once_filter (λ a. a.name) (λ a. is_none (open_radio behind_interfaces.radios a.name)) radio_list (radio_needs_once inputs.conf)))
       (radios_open (inputs.next + length (new_interface_asks behind_interfaces)) (new_radio_asks behind_interfaces))
 
   pub interfaces_single : AreOnce (λ o. o.ask.name) (asked inputs).interfaces
   interfaces_single =
-      renewed_once (λ o. o.ask) (λ a. a.name) same_interface_ask interface_asks (interface_need_of the_facts) (interface_need_named the_facts) inputs.interfaces single.interfaces interface_list (interface_needs_once (facts_of behind_interfaces)) interfaces_all
-      (opened_interfaces inputs.next (new_interface_asks behind_interfaces)) (interfaces_open_once inputs.next (new_interface_asks behind_interfaces) (once_filter (λ a. a.name) (λ a. is_none (open_interface behind_interfaces.interfaces a.name)) interface_list (interface_needs_once (facts_of behind_interfaces))))
+      renewed_once (λ o. o.ask) (λ a. a.name) same_interface_ask interface_asks (interface_need_of the_facts) (interface_need_named the_facts) inputs.interfaces single.interfaces interface_list
+      (interface_needs_once (facts_of behind_interfaces)) interfaces_all
+      (opened_interfaces inputs.next (new_interface_asks behind_interfaces))
+      (interfaces_open_once inputs.next (new_interface_asks behind_interfaces)
+      (once_filter (λ a. a.name) (λ a. is_none (open_interface behind_interfaces.interfaces a.name)) interface_list (interface_needs_once (facts_of behind_interfaces))))
       (interfaces_open inputs.next (new_interface_asks behind_interfaces))
 
   pub asked_single : AreSingle (asked inputs)
@@ -122,20 +134,27 @@ module _ (inputs : Inputs) (single : AreSingle inputs) where
   radios_asked : (q : List ℕ) → option_map (λ o. o.ask) (open_radio (asked inputs).radios q) ≡ radio_need_of inputs.conf q
   radios_asked =
       renewed (λ o. o.ask) (λ a. a.name) same_radio_ask radio_asks (radio_need_of inputs.conf) (radio_need_named inputs.conf) inputs.radios single.radios radio_list (radio_needs_once inputs.conf) (radio_needs_found inputs.conf)
-      (opened_radios (inputs.next + length (new_interface_asks behind_interfaces)) (new_radio_asks behind_interfaces)) (radios_open_once (inputs.next + length (new_interface_asks behind_interfaces)) (new_radio_asks behind_interfaces) (once_filter (λ a. a.name) (λ a. is_none (open_radio behind_interfaces.radios a.name)) radio_list (radio_needs_once inputs.conf)))
+      (opened_radios (inputs.next + length (new_interface_asks behind_interfaces)) (new_radio_asks behind_interfaces))
+      (radios_open_once (inputs.next + length (new_interface_asks behind_interfaces)) (new_radio_asks behind_interfaces)
+      (once_filter (λ a. a.name) (λ a. is_none (open_radio behind_interfaces.radios a.name)) radio_list (radio_needs_once inputs.conf)))
       (radios_open (inputs.next + length (new_interface_asks behind_interfaces)) (new_radio_asks behind_interfaces))
 
   interfaces_asked : (q : List ℕ) → option_map (λ o. o.ask) (open_interface (asked inputs).interfaces q) ≡ interface_need_of the_facts q
   interfaces_asked =
-      renewed (λ o. o.ask) (λ a. a.name) same_interface_ask interface_asks (interface_need_of the_facts) (interface_need_named the_facts) inputs.interfaces single.interfaces interface_list (interface_needs_once (facts_of behind_interfaces)) interfaces_all
-      (opened_interfaces inputs.next (new_interface_asks behind_interfaces)) (interfaces_open_once inputs.next (new_interface_asks behind_interfaces) (once_filter (λ a. a.name) (λ a. is_none (open_interface behind_interfaces.interfaces a.name)) interface_list (interface_needs_once (facts_of behind_interfaces))))
+      renewed (λ o. o.ask) (λ a. a.name) same_interface_ask interface_asks (interface_need_of the_facts) (interface_need_named the_facts) inputs.interfaces single.interfaces interface_list (interface_needs_once (facts_of behind_interfaces))
+      interfaces_all
+      (opened_interfaces inputs.next (new_interface_asks behind_interfaces))
+      (interfaces_open_once inputs.next (new_interface_asks behind_interfaces)
+      (once_filter (λ a. a.name) (λ a. is_none (open_interface behind_interfaces.interfaces a.name)) interface_list (interface_needs_once (facts_of behind_interfaces))))
       (interfaces_open inputs.next (new_interface_asks behind_interfaces))
 
   -- the radio answers are those that are left
   pub ports_left : (q : List ℕ) → (facts_of (asked inputs)).ports q ≡ the_facts.ports q
   ports_left =
       renewed_value (λ o. o.ask) (λ a. a.name) same_radio_ask radio_asks (radio_need_of inputs.conf) (radio_need_named inputs.conf) inputs.radios single.radios radio_list (radio_needs_once inputs.conf) (radio_needs_found inputs.conf)
-      (opened_radios (inputs.next + length (new_interface_asks behind_interfaces)) (new_radio_asks behind_interfaces)) (radios_open_once (inputs.next + length (new_interface_asks behind_interfaces)) (new_radio_asks behind_interfaces) (once_filter (λ a. a.name) (λ a. is_none (open_radio behind_interfaces.radios a.name)) radio_list (radio_needs_once inputs.conf)))
+      (opened_radios (inputs.next + length (new_interface_asks behind_interfaces)) (new_radio_asks behind_interfaces))
+      (radios_open_once (inputs.next + length (new_interface_asks behind_interfaces)) (new_radio_asks behind_interfaces)
+      (once_filter (λ a. a.name) (λ a. is_none (open_radio behind_interfaces.radios a.name)) radio_list (radio_needs_once inputs.conf)))
       (radios_open (inputs.next + length (new_interface_asks behind_interfaces)) (new_radio_asks behind_interfaces))
       (λ o. o.ports) (bare_radio (inputs.next + length (new_interface_asks behind_interfaces)) (new_radio_asks behind_interfaces))
 
@@ -151,20 +170,26 @@ module _ (inputs : Inputs) (single : AreSingle inputs) where
   -- no interface that had no answer has one
   pub no_answer_left : (q : List ℕ) → (facts_of inputs).answer q ≡ None → (facts_of (asked inputs)).answer q ≡ None
   no_answer_left q none =
-      renewed_value (λ o. o.ask) (λ a. a.name) same_interface_ask interface_asks (interface_need_of the_facts) (interface_need_named the_facts) inputs.interfaces single.interfaces interface_list (interface_needs_once (facts_of behind_interfaces)) interfaces_all
-      (opened_interfaces inputs.next (new_interface_asks behind_interfaces)) (interfaces_open_once inputs.next (new_interface_asks behind_interfaces) (once_filter (λ a. a.name) (λ a. is_none (open_interface behind_interfaces.interfaces a.name)) interface_list (interface_needs_once (facts_of behind_interfaces))))
+      renewed_value (λ o. o.ask) (λ a. a.name) same_interface_ask interface_asks (interface_need_of the_facts) (interface_need_named the_facts) inputs.interfaces single.interfaces interface_list
+      (interface_needs_once (facts_of behind_interfaces)) interfaces_all
+      (opened_interfaces inputs.next (new_interface_asks behind_interfaces))
+      (interfaces_open_once inputs.next (new_interface_asks behind_interfaces)
+      (once_filter (λ a. a.name) (λ a. is_none (open_interface behind_interfaces.interfaces a.name)) interface_list (interface_needs_once (facts_of behind_interfaces))))
       (interfaces_open inputs.next (new_interface_asks behind_interfaces))
       (λ o. o.answer) (bare_interface inputs.next (new_interface_asks behind_interfaces)) q
-      ∙ ap (option_and_then (λ o. o.answer)) (left_found (λ o. o.ask) (λ a. a.name) same_interface_ask interface_asks (interface_need_of the_facts) (interface_need_named the_facts) inputs.interfaces single.interfaces interface_list (interface_needs_once (facts_of behind_interfaces)) interfaces_all q)
+      ∙ ap (option_and_then (λ o. o.answer)) (left_found (λ o. o.ask) (λ a. a.name) same_interface_ask interface_asks (interface_need_of the_facts) (interface_need_named the_facts) inputs.interfaces single.interfaces interface_list
+      (interface_needs_once (facts_of behind_interfaces)) interfaces_all q)
       ∙ none_kept_of (λ o. is_same_need same_interface_ask (interface_need_of the_facts o.ask.name) o.ask) (λ o. o.answer) (open_interface inputs.interfaces q) none
 
   -- where the asks of radios are the needs already, they stay
   module _ (are : (q : List ℕ) → option_map (λ o. o.ask) (open_radio inputs.radios q) ≡ radio_need_of inputs.conf q) where
     radios_kept : (radios_dropped inputs).radios ≡ inputs.radios
-    radios_kept = nothing_dropped (λ o. o.ask) (λ a. a.name) same_radio_ask radio_asks (radio_need_of inputs.conf) (radio_need_named inputs.conf) inputs.radios single.radios radio_list (radio_needs_once inputs.conf) (radio_needs_found inputs.conf) are
+    radios_kept = nothing_dropped (λ o. o.ask) (λ a. a.name) same_radio_ask radio_asks (radio_need_of inputs.conf) (radio_need_named inputs.conf) inputs.radios single.radios radio_list (radio_needs_once inputs.conf)
+        (radio_needs_found inputs.conf) are
 
     no_new_radios : new_radio_asks behind_interfaces ≡ []
-    no_new_radios = nothing_opened (λ o. o.ask) (λ a. a.name) same_radio_ask radio_asks (radio_need_of inputs.conf) (radio_need_named inputs.conf) inputs.radios single.radios radio_list (radio_needs_once inputs.conf) (radio_needs_found inputs.conf) are
+    no_new_radios = nothing_opened (λ o. o.ask) (λ a. a.name) same_radio_ask radio_asks (radio_need_of inputs.conf) (radio_need_named inputs.conf) inputs.radios single.radios radio_list (radio_needs_once inputs.conf)
+        (radio_needs_found inputs.conf) are
 
     pub radios_stay : (asked inputs).radios ≡ inputs.radios
     radios_stay = ap (λ asks. (radios_dropped inputs).radios ++ opened_radios (inputs.next + length (new_interface_asks behind_interfaces)) asks) no_new_radios ∙ append_none (radios_dropped inputs).radios ∙ radios_kept
@@ -178,10 +203,12 @@ module _ (inputs : Inputs) (single : AreSingle inputs) where
       needed q = too q ∙ sym (ap (λ s. interface_need_of (facts_of s) q) same_inputs)
 
       interfaces_kept : (interfaces_dropped (radios_dropped inputs)).interfaces ≡ inputs.interfaces
-      interfaces_kept = nothing_dropped (λ o. o.ask) (λ a. a.name) same_interface_ask interface_asks (interface_need_of the_facts) (interface_need_named the_facts) inputs.interfaces single.interfaces interface_list (interface_needs_once (facts_of behind_interfaces)) interfaces_all needed
+      interfaces_kept = nothing_dropped (λ o. o.ask) (λ a. a.name) same_interface_ask interface_asks (interface_need_of the_facts) (interface_need_named the_facts) inputs.interfaces single.interfaces interface_list
+          (interface_needs_once (facts_of behind_interfaces)) interfaces_all needed
 
       no_new_interfaces : new_interface_asks behind_interfaces ≡ []
-      no_new_interfaces = nothing_opened (λ o. o.ask) (λ a. a.name) same_interface_ask interface_asks (interface_need_of the_facts) (interface_need_named the_facts) inputs.interfaces single.interfaces interface_list (interface_needs_once (facts_of behind_interfaces)) interfaces_all needed
+      no_new_interfaces = nothing_opened (λ o. o.ask) (λ a. a.name) same_interface_ask interface_asks (interface_need_of the_facts) (interface_need_named the_facts) inputs.interfaces single.interfaces interface_list
+          (interface_needs_once (facts_of behind_interfaces)) interfaces_all needed
 
       interfaces_stay : (asked inputs).interfaces ≡ inputs.interfaces
       interfaces_stay = ap (λ asks. behind_interfaces.interfaces ++ opened_interfaces inputs.next asks) no_new_interfaces ∙ append_none behind_interfaces.interfaces ∙ interfaces_kept

@@ -52,7 +52,10 @@ module _ (facts : Facts) (devices : Devices) (sound : IsSound facts.conf) (same_
   exists_as : (name : List ℕ) (s : Standing) → standing_at facts name ≡ s → used facts name ≡ true → Exists devices (want facts) name
   exists_as name Broken is serves = absurd (not_broken facts sound name is (used_available facts sound name serves))
   exists_as name (Alone fit) is serves = inl (present name (present_alone facts sound name fit is (used_available facts sound name serves)))
-  exists_as name (Over lower id) is serves = inr (Vlan lower id (row_at facts.conf.names name).mac, has_wanted facts sound (object.Link name (Vlan lower id (row_at facts.conf.names name).mac)) (record { standing = is; mac_is = refl; used = serves }))
+  exists_as name (Over lower id) is serves = inr (
+    Vlan lower id (row_at facts.conf.names name).mac,
+    has_wanted facts sound (object.Link name (Vlan lower id (row_at facts.conf.names name).mac)) (record { standing = is; mac_is = refl; used = serves }),
+  )
   exists_as name (Ports empty ports) is serves = inr (Bridge (row_at facts.conf.names name).mac (is_filtering facts.conf name), bridge_wanted name ports (record { empty = empty; standing = is; used = serves }))
 
   exists : (name : List ℕ) → used facts name ≡ true → Exists devices (want facts) name
@@ -103,7 +106,8 @@ module _ (facts : Facts) (devices : Devices) (sound : IsSound facts.conf) (same_
   supported (object.Mac name mac) w = present name (present_alone facts sound name w.sound w.standing (used_available facts sound name w.used))
   supported (object.Master port bridge) w = record {
     stands = exists port w.port_used;
-    plain = λ held. let other = of_wanted facts sound (object.Link port (Bridge held.mac held.filtering)) held.held in plain_port facts sound bridge port w.bridge_used.empty other.bridge.empty w.ports other.ports w.bridge_used.standing w.own other.bridge.standing;
+    plain = λ held. let other = of_wanted facts sound (object.Link port (Bridge held.mac held.filtering)) held.held in
+        plain_port facts sound bridge port w.bridge_used.empty other.bridge.empty w.ports other.ports w.bridge_used.standing w.own other.bridge.standing;
     made = is_made bridge w.ports w.bridge_used;
   }
   supported (object.Vlan bridge port id pvid untagged) (IsWantedPortVlan.entry r e set member w) = record {
@@ -156,7 +160,8 @@ module _ (facts : Facts) (devices : Devices) (sound : IsSound facts.conf) (same_
     | inr pvids ↦ sound.vlans.one_pvid bridge r s on e f first second same pvids.0 pvids.1
   ]
 
-  apart_entries : (bridge other : List ℕ) (r s : VlanRow) (e f : VlanEntry) → IsSetOn facts bridge r → Contains r.entries e → IsWantedMaster facts e.port bridge → IsSetOn facts other s → Contains s.entries f → IsWantedMaster facts f.port other → e.port ≡ f.port → AreAlike r.id e.pvid s.id f.pvid → object.Vlan bridge e.port r.id e.pvid e.untagged ≡ object.Vlan other f.port s.id f.pvid f.untagged
+  apart_entries : (bridge other : List ℕ) (r s : VlanRow) (e f : VlanEntry) → IsSetOn facts bridge r → Contains r.entries e → IsWantedMaster facts e.port bridge → IsSetOn facts other s → Contains s.entries f
+      → IsWantedMaster facts f.port other → e.port ≡ f.port → AreAlike r.id e.pvid s.id f.pvid → object.Vlan bridge e.port r.id e.pvid e.untagged ≡ object.Vlan other f.port s.id f.pvid f.untagged
   apart_entries bridge other r s e f set first v again second w same alike =
       let bridges : bridge ≡ other = one_owner facts sound bridge other e.port v.bridge_used.empty w.bridge_used.empty v.ports w.ports v.bridge_used.standing v.own w.bridge_used.standing (subst (Contains w.ports) (sym same) w.own) in
       let on : AreOnBridge facts.conf bridge r s = record { first = set.member; first_on = set.on; second = again.member; second_on = subst (λ b. is_vlan_of b s ≡ true) (sym bridges) again.on } in
@@ -174,11 +179,17 @@ module _ (facts : Facts) (devices : Devices) (sound : IsSound facts.conf) (same_
     | inr pvids ↦ let no = pvids.0 in cc no
   ]
 
-  apart_vlans : (bridge port other other_port : List ℕ) (id other_id : ℕ) (pvid untagged other_pvid other_untagged : Bool) → IsWantedPortVlan facts bridge port id pvid untagged → IsWantedPortVlan facts other other_port other_id other_pvid other_untagged → port ≡ other_port → AreAlike id pvid other_id other_pvid → object.Vlan bridge port id pvid untagged ≡ object.Vlan other other_port other_id other_pvid other_untagged
-  apart_vlans bridge port other other_port id other_id pvid untagged other_pvid other_untagged (IsWantedPortVlan.entry r e set first v) (IsWantedPortVlan.entry s f again second w) same alike = apart_entries bridge other r s e f set first v again second w same alike
-  apart_vlans bridge port other other_port id other_id pvid untagged other_pvid other_untagged (IsWantedPortVlan.entry r e set first v) (IsWantedPortVlan.itself s ports again local c) same alike = absurd (port_is_no_bridge bridge other e.port v.ports ports v.bridge_used v.own c same)
-  apart_vlans bridge port other other_port id other_id pvid untagged other_pvid other_untagged (IsWantedPortVlan.itself r ports set local b) (IsWantedPortVlan.entry s f again second w) same alike = absurd (port_is_no_bridge other bridge f.port w.ports ports w.bridge_used w.own b (sym same))
-  apart_vlans bridge port other other_port id other_id pvid untagged other_pvid other_untagged (IsWantedPortVlan.itself r ports set local b) (IsWantedPortVlan.itself s others again local_too c) same alike = same_itself bridge other r.id s.id same alike
+  apart_vlans : (bridge port other other_port : List ℕ) (id other_id : ℕ) (pvid untagged other_pvid other_untagged : Bool) → IsWantedPortVlan facts bridge port id pvid untagged
+      → IsWantedPortVlan facts other other_port other_id other_pvid other_untagged → port ≡ other_port → AreAlike id pvid other_id other_pvid → object.Vlan bridge port id pvid untagged
+      ≡ object.Vlan other other_port other_id other_pvid other_untagged
+  apart_vlans bridge port other other_port id other_id pvid untagged other_pvid other_untagged (IsWantedPortVlan.entry r e set first v) (IsWantedPortVlan.entry s f again second w) same alike =
+      apart_entries bridge other r s e f set first v again second w same alike
+  apart_vlans bridge port other other_port id other_id pvid untagged other_pvid other_untagged (IsWantedPortVlan.entry r e set first v) (IsWantedPortVlan.itself s ports again local c) same alike =
+      absurd (port_is_no_bridge bridge other e.port v.ports ports v.bridge_used v.own c same)
+  apart_vlans bridge port other other_port id other_id pvid untagged other_pvid other_untagged (IsWantedPortVlan.itself r ports set local b) (IsWantedPortVlan.entry s f again second w) same alike =
+      absurd (port_is_no_bridge other bridge f.port w.ports ports w.bridge_used w.own b (sym same))
+  apart_vlans bridge port other other_port id other_id pvid untagged other_pvid other_untagged (IsWantedPortVlan.itself r ports set local b) (IsWantedPortVlan.itself s others again local_too c) same alike =
+      same_itself bridge other r.id s.id same alike
 
   alike_by_test : (id other_id : ℕ) (pvid other_pvid : Bool) → (nat_eq id other_id || (pvid && other_pvid)) ≡ true → AreAlike id pvid other_id other_pvid
   unfolding AreAlike

@@ -28,7 +28,8 @@ module _ (facts : Facts) (sound : IsSound facts.conf) (among : List ℕ → Bool
     link_by follows zero name few is = absurd (omega arith)
     link_by follows (suc fuel) name few is =
         follows name is
-        ∙ links_same (has_carrier facts name) (available facts name) answer (link facts) (standing_at facts name) (λ lower h. let below = lower_rank facts sound name lower h in link_by follows fuel lower (omega arith) (closed name lower is h))
+        ∙ links_same (has_carrier facts name) (available facts name) answer (link facts) (standing_at facts name)
+        (λ lower h. let below = lower_rank facts sound name lower h in link_by follows fuel lower (omega arith) (closed name lower is h))
         ∙ sym (link_follows facts sound name)
 
     pub link_alone : ((name : List ℕ) → among name ≡ true → answer name ≡ links_at facts answer name) → (name : List ℕ) → among name ≡ true → answer name ≡ link facts name

@@ -60,10 +60,12 @@ module _ (facts : Facts) (sound : IsSound facts.conf) (other : List ℕ → Opti
   no_port h = unknown (Contains-append_right (names_of facts.conf) (of_radios ++ (of_devices ++ of_layers)) name (Contains-append_left of_radios (of_devices ++ of_layers) name h))
 
   no_device : (row : InterfaceRow) → Contains (interfaces_of facts.conf) row → device_of facts row ≡ Some name → ⊥
-  no_device row member is = unknown (Contains-append_right (names_of facts.conf) (of_radios ++ (of_devices ++ of_layers)) name (Contains-append_right of_radios (of_devices ++ of_layers) name (Contains-append_left of_devices of_layers name (in_filter_map (device_of facts) (interfaces_of facts.conf) row name member is))))
+  no_device row member is = unknown (Contains-append_right (names_of facts.conf) (of_radios ++ (of_devices ++ of_layers)) name
+      (Contains-append_right of_radios (of_devices ++ of_layers) name (Contains-append_left of_devices of_layers name (in_filter_map (device_of facts) (interfaces_of facts.conf) row name member is))))
 
   no_layer : (row : InterfaceRow) → Contains (interfaces_of facts.conf) row → layer_of facts row ≡ Some name → ⊥
-  no_layer row member is = unknown (Contains-append_right (names_of facts.conf) (of_radios ++ (of_devices ++ of_layers)) name (Contains-append_right of_radios (of_devices ++ of_layers) name (Contains-append_right of_devices of_layers name (in_filter_map (layer_of facts) (interfaces_of facts.conf) row name member is))))
+  no_layer row member is = unknown (Contains-append_right (names_of facts.conf) (of_radios ++ (of_devices ++ of_layers)) name
+      (Contains-append_right of_radios (of_devices ++ of_layers) name (Contains-append_right of_devices of_layers name (in_filter_map (layer_of facts) (interfaces_of facts.conf) row name member is))))
 
   -- nothing stands on it
   no_lower : (upper : List ℕ) → Contains (lowers_of (standing_at facts upper)) name → ⊥
@@ -150,10 +152,12 @@ module _ (facts : Facts) (sound : IsSound facts.conf) (other : List ℕ → Opti
   ]
 
   serves_none : serves_at now (used facts) name ≡ true → ⊥
-  serves_none h = elim (either (list_any (uses now name) (interfaces_of facts.conf)) (list_any (λ upper. stands facts name upper && used facts upper) (names_of facts.conf)) (both (available now name) (list_any (uses now name) (interfaces_of facts.conf) || list_any (λ upper. stands facts name upper && used facts upper) (names_of facts.conf)) h).1) as (λ _. ⊥) [
-    | inl interface ↦ let found = from_any (uses now name) (interfaces_of facts.conf) interface in uses_none found.passing found.member found.passes
-    | inr upper ↦ let found = from_any (λ upper. stands facts name upper && used facts upper) (names_of facts.conf) upper in no_lower found.passing (stands_by_test facts name found.passing (both (stands facts name found.passing) (used facts found.passing) found.passes).0)
-  ]
+  serves_none h = elim (either (list_any (uses now name) (interfaces_of facts.conf)) (list_any (λ upper. stands facts name upper && used facts upper) (names_of facts.conf))
+      (both (available now name) (list_any (uses now name) (interfaces_of facts.conf) || list_any (λ upper. stands facts name upper && used facts upper) (names_of facts.conf)) h).1) as (λ _. ⊥) [
+        | inl interface ↦ let found = from_any (uses now name) (interfaces_of facts.conf) interface in uses_none found.passing found.member found.passes
+        | inr upper ↦ let found = from_any (λ upper. stands facts name upper && used facts upper) (names_of facts.conf) upper in
+            no_lower found.passing (stands_by_test facts name found.passing (both (stands facts name found.passing) (used facts found.passing) found.passes).0)
+      ]
 
   serves_by : (q : List ℕ) (b : Bool) → bytes_eq q name ≡ b → used facts q ≡ serves_at now (used facts) q
   serves_by q true is = subst (λ n. used facts n ≡ serves_at now (used facts) n) (sym (bytes_same q name is)) (not_used ∙ sym (false_of_not (serves_at now (used facts) name) serves_none))
@@ -179,7 +183,8 @@ module _ (facts : Facts) (sound : IsSound facts.conf) (other : List ℕ → Opti
   by_same q mac (Over lower id) = refl
   by_same q mac (Ports empty ports) = ap (λ (u : List ℕ → Bool). object.Up q ∷ object.Link q (kind.Bridge mac (is_filtering facts.conf q))
       ∷ (map (λ port. object.Master port q) (filter u ports)
-      ++ flat_map (λ row. map (λ entry. object.Vlan q entry.port row.id entry.pvid entry.untagged) (filter (λ entry. u entry.port && list_any (λ port. bytes_eq port entry.port) ports) row.entries) ++ local_vlan q row.id row.local) (vlans_of facts.conf q))) used_path
+      ++ flat_map (λ row. map (λ entry. object.Vlan q entry.port row.id entry.pvid entry.untagged) (filter (λ entry. u entry.port && list_any (λ port. bytes_eq port entry.port) ports) row.entries) ++ local_vlan q row.id row.local)
+      (vlans_of facts.conf q))) used_path
 
   row_same : (q : List ℕ) (row : NameRow) → objects_of_row now q row ≡ objects_of_row facts q row
   row_same q row = ap (λ os. mtu_of q row.mtu ++ os) (by_same q row.mac (standing_at facts q))

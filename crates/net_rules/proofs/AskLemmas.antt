@@ -74,7 +74,8 @@ module _ {O A : Type 0} (ask : O → A) (name : A → List ℕ) (same : A → A 
           by_left (Some o) is = sym (left_needed q o is)
 
       -- what an open ask has beside its question: none that is opened has it yet
-      pub renewed_value : {V : Type 0} (value : O → Option V) → ((q : List ℕ) (o : O) → found_in (λ o. name (ask o)) ys q ≡ Some o → value o ≡ None) → (q : List ℕ) → option_and_then value (found_in (λ o. name (ask o)) (left ++ ys) q) ≡ option_and_then value (found_in (λ o. name (ask o)) left q)
+      pub renewed_value : {V : Type 0} (value : O → Option V) → ((q : List ℕ) (o : O) → found_in (λ o. name (ask o)) ys q ≡ Some o → value o ≡ None) → (q : List ℕ) → option_and_then value (found_in (λ o. name (ask o)) (left ++ ys) q)
+          ≡ option_and_then value (found_in (λ o. name (ask o)) left q)
       renewed_value value bare q = ap (option_and_then value) (found_behind (λ o. name (ask o)) left ys q) ∙ by_left (found_in (λ o. name (ask o)) left q) (found_in (λ o. name (ask o)) ys q) refl
         where
           by_left : (x y : Option O) → found_in (λ o. name (ask o)) ys q ≡ y → option_and_then value (first_some x y) ≡ option_and_then value x

@@ -43,7 +43,8 @@ filter_drop : {Y : Type 0} (t : Y → Bool) (o : Option Y) (ys : List Y) → ((y
 filter_drop t None ys fails = refl
 filter_drop t (Some y) ys fails = ap (λ b. cond b (y ∷ filter t ys) (filter t ys)) (fails y refl)
 
-filter_left_out : {X Y : Type 0} (t : Y → Bool) (f : X → Option Y) (p : X → Bool) (xs : List X) → ((x : X) (y : Y) → Contains xs x → p x ≡ false → f x ≡ Some y → t y ≡ false) → filter t (filter_map f xs) ≡ filter t (filter_map f (filter p xs))
+filter_left_out : {X Y : Type 0} (t : Y → Bool) (f : X → Option Y) (p : X → Bool) (xs : List X) → ((x : X) (y : Y) → Contains xs x → p x ≡ false → f x ≡ Some y → t y ≡ false) → filter t (filter_map f xs)
+    ≡ filter t (filter_map f (filter p xs))
 filter_left_out t f p [] fails = refl
 filter_left_out {X} t f p (x ∷ xs) fails = by_test (p x) refl (filter_left_out t f p xs (λ y z h. fails y z (there x xs y h)))
   where
@@ -53,7 +54,8 @@ filter_left_out {X} t f p (x ∷ xs) fails = by_test (p x) refl (filter_left_out
 
 -- the asks of interfaces that are not touched are left
 module _ (now : Facts) (touched : List ℕ → Bool) where
-  of_other : (q : List ℕ) (o : OpenInterface) (b : Bool) (left others : List OpenInterface) → bytes_eq o.ask.name q ≡ false → open_interface left q ≡ open_interface others q → open_interface (cond b (o ∷ left) left) q ≡ open_interface others q
+  of_other : (q : List ℕ) (o : OpenInterface) (b : Bool) (left others : List OpenInterface) → bytes_eq o.ask.name q ≡ false → open_interface left q ≡ open_interface others q → open_interface (cond b (o ∷ left) left) q
+      ≡ open_interface others q
   of_other q o true left others at rest = ap (λ b. cond b (Some o) (open_interface left q)) at ∙ rest
   of_other q o false left others at rest = rest
 
@@ -170,7 +172,8 @@ module _ (before now : Inputs) (touched : List ℕ → Bool) (reached : IsReache
 
   not_opened : (row : InterfaceRow) (ask : InterfaceAsk) → Contains (interfaces_of now.conf) row → touched row.name ≡ false → interface_need (facts_of now) row ≡ Some ask → is_none (open_interface left_now ask.name) ≡ false
   not_opened row ask member off need =
-      let first : interface_named now.conf row.name ≡ Some row = sym (found_firsts (λ (r : InterfaceRow). r.name) now.conf.interfaces row.name) ∙ found_once (λ (r : InterfaceRow). r.name) (interfaces_of now.conf) (once_firsts (λ (r : InterfaceRow). r.name) now.conf.interfaces) row member in
+      let first : interface_named now.conf row.name ≡ Some row = sym (found_firsts (λ (r : InterfaceRow). r.name) now.conf.interfaces row.name)
+      ∙ found_once (λ (r : InterfaceRow). r.name) (interfaces_of now.conf) (once_firsts (λ (r : InterfaceRow). r.name) now.conf.interfaces) row member in
       let needed : interface_need_of (facts_of now) row.name ≡ Some ask = ap (option_and_then (interface_need (facts_of now))) first ∙ need in
       ap (λ q. is_none (open_interface left_now q)) (interface_named_as (facts_of now) row ask need)
       ∙ ap is_none (left_found (facts_of now) touched row.name off now.interfaces)

@@ -80,10 +80,12 @@ module _ (facts : Facts) where
   radio_known name h = known name (Contains-append_right (names_of facts.conf) (of_radios ++ (of_devices ++ of_layers)) name (Contains-append_left of_radios (of_devices ++ of_layers) name h))
 
   device_known : (name : List ℕ) → Contains of_devices name → Contains (known_names facts) name
-  device_known name h = known name (Contains-append_right (names_of facts.conf) (of_radios ++ (of_devices ++ of_layers)) name (Contains-append_right of_radios (of_devices ++ of_layers) name (Contains-append_left of_devices of_layers name h)))
+  device_known name h = known name (Contains-append_right (names_of facts.conf) (of_radios ++ (of_devices ++ of_layers)) name
+      (Contains-append_right of_radios (of_devices ++ of_layers) name (Contains-append_left of_devices of_layers name h)))
 
   layer_known : (name : List ℕ) → Contains of_layers name → Contains (known_names facts) name
-  layer_known name h = known name (Contains-append_right (names_of facts.conf) (of_radios ++ (of_devices ++ of_layers)) name (Contains-append_right of_radios (of_devices ++ of_layers) name (Contains-append_right of_devices of_layers name h)))
+  layer_known name h = known name (Contains-append_right (names_of facts.conf) (of_radios ++ (of_devices ++ of_layers)) name
+      (Contains-append_right of_radios (of_devices ++ of_layers) name (Contains-append_right of_devices of_layers name h)))
 
 module _ (facts : Facts) (sound : IsSound facts.conf) where
   opens_local : IsLocal (opens_at facts) (rank_down facts.conf)
@@ -149,7 +151,8 @@ module _ (facts : Facts) (sound : IsSound facts.conf) where
             let found = from_any (uses facts name) (interfaces_of facts.conf) claimed in
             let row = found.passing in
             elim (either (is_claimed facts row && is_name (device_of facts row) name) (is_up facts row && is_name (layer_of facts row) name) found.passes) as (λ _. Contains (known_names facts) name) [
-              | inl own ↦ device_known facts name (in_filter_map (device_of facts) (interfaces_of facts.conf) row name found.member (of_name (device_of facts row) name (both (is_claimed facts row) (is_name (device_of facts row) name) own).1))
+              | inl own ↦ device_known facts name (in_filter_map (device_of facts) (interfaces_of facts.conf) row name found.member
+                  (of_name (device_of facts row) name (both (is_claimed facts row) (is_name (device_of facts row) name) own).1))
               | inr over ↦ layer_known facts name (in_filter_map (layer_of facts) (interfaces_of facts.conf) row name found.member (of_name (layer_of facts row) name (both (is_up facts row) (is_name (layer_of facts row) name) over).1))
             ]
         | inr below ↦
@@ -162,7 +165,8 @@ module _ (facts : Facts) (sound : IsSound facts.conf) where
 
   -- what makes a name used
   pub used_by_interface : (row : InterfaceRow) (name : List ℕ) → Contains (interfaces_of facts.conf) row → available facts name ≡ true → uses facts name row ≡ true → used facts name ≡ true
-  used_by_interface row name member ready claims = used_follows name ∙ of_both (available facts name) (interface_uses name || uppers_use name) ready (of_left (interface_uses name) (uppers_use name) (of_any (uses facts name) (interfaces_of facts.conf) row member claims))
+  used_by_interface row name member ready claims = used_follows name
+      ∙ of_both (available facts name) (interface_uses name || uppers_use name) ready (of_left (interface_uses name) (uppers_use name) (of_any (uses facts name) (interfaces_of facts.conf) row member claims))
 
   pub used_below : (upper name : List ℕ) → used facts upper ≡ true → Stands facts upper name → available facts name ≡ true → used facts name ≡ true
   used_below upper name above on ready =

@@ -54,7 +54,8 @@ front_here true xs n cut is = let front : [] ≡ cut.0 = ap (λ o. front_of o) i
     front_of (Some c) = c.0
 front_here false xs n cut is = cc is
 
-front_at : (byte x : ℕ) (xs : List ℕ) (inner : Option (List ℕ × List ℕ)) (cut : List ℕ × List ℕ) → ((c : List ℕ × List ℕ) → inner ≡ Some c → length c.0 < length xs) → cut_at_or_behind byte x xs inner ≡ Some cut → length cut.0 < length (x ∷ xs)
+front_at : (byte x : ℕ) (xs : List ℕ) (inner : Option (List ℕ × List ℕ)) (cut : List ℕ × List ℕ) → ((c : List ℕ × List ℕ) → inner ≡ Some c → length c.0 < length xs) → cut_at_or_behind byte x xs inner ≡ Some cut
+    → length cut.0 < length (x ∷ xs)
 front_at byte x xs None cut rest is = front_here (x == byte) xs (length xs) cut is
 front_at byte x xs (Some c) cut rest is =
     let same : (x ∷ c.0, c.1) ≡ cut = cc is in
@@ -94,7 +95,8 @@ dotted_on (suc n) start name parts few h is =
       | inr later ↦ there start (behind (dotted n) (vlan_parts start)) parts.lower (further n start (vlan_parts start) refl name parts few (λ lower less had. dotted_on n lower name parts less had is) later)
     ]
   where
-    further : (n : ℕ) (start : List ℕ) (o : Option VlanParts) → vlan_parts start ≡ o → (name : List ℕ) (parts : VlanParts) → length start ≤ suc n → ((lower : List ℕ) → length lower ≤ n → Contains (dotted n lower) name → Contains (dotted n lower) parts.lower) → Contains (behind (dotted n) o) name → Contains (behind (dotted n) o) parts.lower
+    further : (n : ℕ) (start : List ℕ) (o : Option VlanParts) → vlan_parts start ≡ o → (name : List ℕ) (parts : VlanParts) → length start ≤ suc n
+        → ((lower : List ℕ) → length lower ≤ n → Contains (dotted n lower) name → Contains (dotted n lower) parts.lower) → Contains (behind (dotted n) o) name → Contains (behind (dotted n) o) parts.lower
     further n start None from name parts few rest h = absurd (none_in_nil name h)
     further n start (Some q) from name parts few rest h = let less = lower_shorter start q from in rest q.lower (omega arith) h
 
@@ -117,7 +119,8 @@ lower_from : (rows : List NameRow) (name lower : List ℕ) → lower_in rows nam
 lower_from [] name lower is = inr (is_dotted name lower (vlan_parts name) refl is)
 lower_from (row ∷ rows) name lower is = from_here row rows name lower (bytes_eq row.name name) (lower_from rows name lower) is
   where
-    from_here : (row : NameRow) (rows : List NameRow) (name lower : List ℕ) (b : Bool) → (lower_in rows name ≡ Some lower → RowSays rows lower ⊎ IsDotted name lower) → (if b then lower_of_kind row.kind else lower_in rows name) ≡ Some lower → RowSays (row ∷ rows) lower ⊎ IsDotted name lower
+    from_here : (row : NameRow) (rows : List NameRow) (name lower : List ℕ) (b : Bool) → (lower_in rows name ≡ Some lower → RowSays rows lower ⊎ IsDotted name lower) → (if b then lower_of_kind row.kind else lower_in rows name) ≡ Some lower
+        → RowSays (row ∷ rows) lower ⊎ IsDotted name lower
     from_here row rows name lower true later is = inl (record { row = row; member = here row rows; says = is })
     from_here row rows name lower false later is = elim (later is) as (λ _. RowSays (row ∷ rows) lower ⊎ IsDotted name lower) [
       | inl said ↦ inl (record { row = said.row; member = there row rows said.row said.member; says = said.says })
@@ -204,6 +207,7 @@ pub standing_lower : (rows : List NameRow) (name : List ℕ) (more : List (List 
 standing_lower [] name more lower id is = absurd (rowless_over (rowless name).broken more lower id is)
 standing_lower (row ∷ rows) name more lower id is = lower_here row rows name more lower id (bytes_eq row.name name) is (standing_lower rows name more lower id)
   where
-    lower_here : (row : NameRow) (rows : List NameRow) (name : List ℕ) (more : List (List ℕ)) (lower : List ℕ) (id : ℕ) (b : Bool) → standing_of (if b then row else row_at rows name).kind (if b then row else row_at rows name).broken more ≡ Over lower id → (standing_of (row_at rows name).kind (row_at rows name).broken more ≡ Over lower id → lower_in rows name ≡ Some lower) → (if b then lower_of_kind row.kind else lower_in rows name) ≡ Some lower
+    lower_here : (row : NameRow) (rows : List NameRow) (name : List ℕ) (more : List (List ℕ)) (lower : List ℕ) (id : ℕ) (b : Bool) → standing_of (if b then row else row_at rows name).kind (if b then row else row_at rows name).broken more
+        ≡ Over lower id → (standing_of (row_at rows name).kind (row_at rows name).broken more ≡ Over lower id → lower_in rows name ≡ Some lower) → (if b then lower_of_kind row.kind else lower_in rows name) ≡ Some lower
     lower_here row rows name more lower id true is later = lower_of_standing row.kind row.broken more lower id is
     lower_here row rows name more lower id false is later = later is

@@ -114,8 +114,10 @@ module _ (moment : Moment) (what : DevEvent) (history : IsHistory moment) (apart
 
   none_told : notices_between inputs now ≡ []
   none_told =
-      ap (λ ns. map notice.Dropped (ordered nat_cmp ns) ++ (map (interface_notice inputs.conf) (filter (λ o. nat_le inputs.next o.number) inputs.interfaces) ++ map (radio_notice inputs.conf) (filter (λ o. nat_le inputs.next o.number) inputs.radios))) (none_lost (numbers_of inputs))
-      ∙ ap (λ os. map (interface_notice inputs.conf) os ++ map (radio_notice inputs.conf) (filter (λ o. nat_le inputs.next o.number) inputs.radios)) (none_new (λ o. o.number) inputs.next 1 inputs.interfaces (reached_numbered inputs reached).interfaces)
+      ap (λ ns. map notice.Dropped (ordered nat_cmp ns) ++ (map (interface_notice inputs.conf) (filter (λ o. nat_le inputs.next o.number) inputs.interfaces)
+      ++ map (radio_notice inputs.conf) (filter (λ o. nat_le inputs.next o.number) inputs.radios))) (none_lost (numbers_of inputs))
+      ∙ ap (λ os. map (interface_notice inputs.conf) os ++ map (radio_notice inputs.conf) (filter (λ o. nat_le inputs.next o.number) inputs.radios))
+      (none_new (λ o. o.number) inputs.next 1 inputs.interfaces (reached_numbered inputs reached).interfaces)
       ∙ ap (λ os. map (radio_notice inputs.conf) os) (none_new (λ o. o.number) inputs.next 1 inputs.radios (reached_numbered inputs reached).radios)
 
   pub told_then : notices moment.inputs (event.Device what) ≡ []

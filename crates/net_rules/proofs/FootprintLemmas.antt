@@ -137,7 +137,8 @@ record IsUnder (facts : Facts) (row : InterfaceRow) (name : List ℕ) : Type 0 w
   serves : used facts name ≡ true
   below : is_below facts row name ≡ true
 
-module _ (facts : Facts) (devices : Devices) (sound : IsSound facts.conf) (same_devices : (name : List ℕ) → facts.device name ≡ map.get devices name) (row : InterfaceRow) (held : Objects) (admitted : AreAllowed devices held) (has : (o : Object) → Has (footprint facts row) o → Has held o) where
+module _ (facts : Facts) (devices : Devices) (sound : IsSound facts.conf) (same_devices : (name : List ℕ) → facts.device name ≡ map.get devices name) (row : InterfaceRow) (held : Objects) (admitted : AreAllowed devices held)
+    (has : (o : Object) → Has (footprint facts row) o → Has held o) where
   -- a held link of a used name below the interface is of the footprint
   link_as : (name : List ℕ) (kind : LinkKind) (s : Standing) → standing_at facts name ≡ s → IsUnder facts row name → Has held (object.Link name kind) → Has (footprint facts row) (object.Link name kind)
   link_as name kind Broken is under h = absurd (not_broken facts sound name is (used_available facts sound name under.serves))
@@ -194,8 +195,10 @@ module _ (facts : Facts) (devices : Devices) (sound : IsSound facts.conf) (same_
         | inr at_bridge ↦ subst (IsUnder facts row) (only bridge place at_bridge) under
       ]
   place_of (object.Up name) place h of at = subst (IsUnder facts row) (only name place at) (record { serves = up_used name h; below = of })
-  place_of (object.Address dev cidr) place h of at = subst (IsUnder facts row) (only dev place at) (layer_under (object.Address dev cidr) dev (λ layer on. on) (up_used dev ((allowed facts devices sound same_devices).supported (object.Address dev cidr) h)) (among_member (given facts row) (object.Address dev cidr) of))
-  place_of (object.Route r) place h of at = subst (IsUnder facts row) (only r.dev place at) (layer_under (object.Route r) r.dev (λ layer on. on) (up_used r.dev ((allowed facts devices sound same_devices).supported (object.Route r) h)) (among_member (given facts row) (object.Route r) of))
+  place_of (object.Address dev cidr) place h of at = subst (IsUnder facts row) (only dev place at)
+      (layer_under (object.Address dev cidr) dev (λ layer on. on) (up_used dev ((allowed facts devices sound same_devices).supported (object.Address dev cidr) h)) (among_member (given facts row) (object.Address dev cidr) of))
+  place_of (object.Route r) place h of at = subst (IsUnder facts row) (only r.dev place at)
+      (layer_under (object.Route r) r.dev (λ layer on. on) (up_used r.dev ((allowed facts devices sound same_devices).supported (object.Route r) h)) (among_member (given facts row) (object.Route r) of))
 
   pub whole_part : (wanted : Objects) → ((o : Object) → Has (footprint facts row) o → Has wanted o) → IsWholePart held wanted (footprint facts row)
   whole_part wanted stays = record {

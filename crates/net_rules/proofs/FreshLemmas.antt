@@ -33,7 +33,8 @@ module _ {X V : Type 0} (give : Inputs → X → Inputs) (key : X → List ℕ) 
   fits_all [] may s fits = fits
   fits_all (x ∷ xs) may s fits = fits_all xs (λ y h. may y (there x xs y h)) (give s x) (keeps s x fits (may x (here x xs)))
 
-  one_step : (x : X) (xs : List X) (q : List ℕ) (b : Bool) → bytes_eq (key x) q ≡ b → found_in key xs (key x) ≡ None → (before : Option V) → first_some (option_and_then value (found_in key xs q)) (cond b (first_some (value x) before) before) ≡ first_some (option_and_then value (cond b (Some x) (found_in key xs q))) before
+  one_step : (x : X) (xs : List X) (q : List ℕ) (b : Bool) → bytes_eq (key x) q ≡ b → found_in key xs (key x) ≡ None → (before : Option V)
+      → first_some (option_and_then value (found_in key xs q)) (cond b (first_some (value x) before) before) ≡ first_some (option_and_then value (cond b (Some x) (found_in key xs q))) before
   one_step x xs q true is none before = ap (λ o. first_some (option_and_then value o) (first_some (value x) before)) (subst (λ k. found_in key xs k ≡ None) (bytes_same (key x) q is) none)
   one_step x xs q false is none before = refl
 
@@ -169,13 +170,15 @@ module _ (conf : Conf) (devices : List (List ℕ × Device)) where
         radios_stay (changed s (event.Radio radio number ports)) (changed_single s (event.Radio radio number ports) fits.single)
         (λ q. ap (option_map (λ o. o.ask)) (radio_found radio number ports s.radios q) ∙ answered_asks radio number ports (open_radio s.radios q) ∙ fits.are.radios q)
 
-    ports_at : (s : Inputs) (radio : List ℕ) (now : OpenRadio) (ports : List (Option (List ℕ))) → open_radio s.radios radio ≡ Some now → (q : List ℕ) (b : Bool) → bytes_eq radio q ≡ b → (x : Option OpenRadio) → open_radio s.radios q ≡ x → option_and_then (λ o. o.ports) (option_map (answered_radio radio now.number ports) x) ≡ cond b (Some ports) (option_and_then (λ o. o.ports) x)
+    ports_at : (s : Inputs) (radio : List ℕ) (now : OpenRadio) (ports : List (Option (List ℕ))) → open_radio s.radios radio ≡ Some now → (q : List ℕ) (b : Bool) → bytes_eq radio q ≡ b → (x : Option OpenRadio) → open_radio s.radios q ≡ x
+        → option_and_then (λ o. o.ports) (option_map (answered_radio radio now.number ports) x) ≡ cond b (Some ports) (option_and_then (λ o. o.ports) x)
     ports_at s radio now ports open_is q true is None found = cc (open_is, found, bytes_same radio q is)
     ports_at s radio now ports open_is q true is (Some p) found =
         let same_name : radio ≡ q = bytes_same radio q is in
         let same : p ≡ now = cc (open_is, found, same_name) in
         let named : p.ask.name ≡ radio = (found_member (λ o. o.ask.name) s.radios q p found).same ∙ sym same_name in
-        let passes : (bytes_eq p.ask.name radio && (p.number == now.number)) ≡ true = of_both (bytes_eq p.ask.name radio) (p.number == now.number) (same_bytes p.ask.name radio named) ((Decides-eqb p.number now.number).1 (ap (λ o. o.number) same)) in
+        let passes : (bytes_eq p.ask.name radio && (p.number == now.number)) ≡ true =
+        of_both (bytes_eq p.ask.name radio) (p.number == now.number) (same_bytes p.ask.name radio named) ((Decides-eqb p.number now.number).1 (ap (λ o. o.number) same)) in
         ap (λ b. (cond b (record p { ports = Some ports }) p).ports) passes
     ports_at s radio now ports open_is q false is None found = refl
     ports_at s radio now ports open_is q false is (Some p) found =
@@ -205,7 +208,8 @@ module _ (conf : Conf) (devices : List (List ℕ × Device)) where
     nothing_new true v = refl
     nothing_new false v = refl
 
-    radio_gives_by : (s : Inputs) (radio : List ℕ) (now : Option OpenRadio) (ports : Option (List (Option (List ℕ)))) (q : List ℕ) → IsTelling commands s → open_radio s.radios radio ≡ now → (now ≡ None → ⊥) → (facts_of (ports_given s radio now ports)).ports q ≡ cond (bytes_eq radio q) (first_some ports ((facts_of s).ports q)) ((facts_of s).ports q)
+    radio_gives_by : (s : Inputs) (radio : List ℕ) (now : Option OpenRadio) (ports : Option (List (Option (List ℕ)))) (q : List ℕ) → IsTelling commands s → open_radio s.radios radio ≡ now → (now ≡ None → ⊥)
+        → (facts_of (ports_given s radio now ports)).ports q ≡ cond (bytes_eq radio q) (first_some ports ((facts_of s).ports q)) ((facts_of s).ports q)
     radio_gives_by s radio None ports q fits is some = absurd (some refl)
     radio_gives_by s radio (Some now) None q fits is some = nothing_new (bytes_eq radio q) ((facts_of s).ports q)
     radio_gives_by s radio (Some now) (Some ports) q fits is some =
@@ -234,13 +238,15 @@ module _ (facts : Facts) where
         same = ap (λ (f : Facts). record f { answer = (facts_of now).answer }) fits.same;
       })
 
-  answer_at : (s : Inputs) (interface : List ℕ) (now : OpenInterface) (answer : Answer) → open_interface s.interfaces interface ≡ Some now → (q : List ℕ) (b : Bool) → bytes_eq interface q ≡ b → (x : Option OpenInterface) → open_interface s.interfaces q ≡ x → option_and_then (λ o. o.answer) (option_map (answered_interface interface now.number answer) x) ≡ cond b (Some answer) (option_and_then (λ o. o.answer) x)
+  answer_at : (s : Inputs) (interface : List ℕ) (now : OpenInterface) (answer : Answer) → open_interface s.interfaces interface ≡ Some now → (q : List ℕ) (b : Bool) → bytes_eq interface q ≡ b → (x : Option OpenInterface)
+      → open_interface s.interfaces q ≡ x → option_and_then (λ o. o.answer) (option_map (answered_interface interface now.number answer) x) ≡ cond b (Some answer) (option_and_then (λ o. o.answer) x)
   answer_at s interface now answer open_is q true is None found = cc (open_is, found, bytes_same interface q is)
   answer_at s interface now answer open_is q true is (Some p) found =
       let same_name : interface ≡ q = bytes_same interface q is in
       let same : p ≡ now = cc (open_is, found, same_name) in
       let named : p.ask.name ≡ interface = (found_member (λ o. o.ask.name) s.interfaces q p found).same ∙ sym same_name in
-      let passes : (bytes_eq p.ask.name interface && (p.number == now.number)) ≡ true = of_both (bytes_eq p.ask.name interface) (p.number == now.number) (same_bytes p.ask.name interface named) ((Decides-eqb p.number now.number).1 (ap (λ o. o.number) same)) in
+      let passes : (bytes_eq p.ask.name interface && (p.number == now.number)) ≡ true =
+      of_both (bytes_eq p.ask.name interface) (p.number == now.number) (same_bytes p.ask.name interface named) ((Decides-eqb p.number now.number).1 (ap (λ o. o.number) same)) in
       ap (λ b. (cond b (record p { answer = Some answer }) p).answer) passes
   answer_at s interface now answer open_is q false is None found = refl
   answer_at s interface now answer open_is q false is (Some p) found =
@@ -270,7 +276,8 @@ module _ (facts : Facts) where
   is_there ask None a h none = cc h
   is_there ask (Some o) a h none = cc none
 
-  interface_gives_by : (s : Inputs) (interface : List ℕ) (now : Option OpenInterface) (answer : Option Answer) (q : List ℕ) → IsAnswering facts s → open_interface s.interfaces interface ≡ now → (now ≡ None → ⊥) → (facts_of (answer_given s interface now answer)).answer q ≡ cond (bytes_eq interface q) (first_some answer ((facts_of s).answer q)) ((facts_of s).answer q)
+  interface_gives_by : (s : Inputs) (interface : List ℕ) (now : Option OpenInterface) (answer : Option Answer) (q : List ℕ) → IsAnswering facts s → open_interface s.interfaces interface ≡ now → (now ≡ None → ⊥)
+      → (facts_of (answer_given s interface now answer)).answer q ≡ cond (bytes_eq interface q) (first_some answer ((facts_of s).answer q)) ((facts_of s).answer q)
   interface_gives_by s interface None answer q fits is some = absurd (some refl)
   interface_gives_by s interface (Some now) None q fits is some = unchanged (bytes_eq interface q) ((facts_of s).answer q)
   interface_gives_by s interface (Some now) (Some answer) q fits is some =
@@ -278,7 +285,8 @@ module _ (facts : Facts) where
       ∙ ap (option_and_then (λ o. o.answer)) (interface_found interface now.number answer s.interfaces q)
       ∙ answer_at s interface now answer is q (bytes_eq interface q) refl (open_interface s.interfaces q) refl
 
-  interface_gives : (s : Inputs) (o : OpenInterface) (q : List ℕ) → IsAnswering facts s → MayAnswer o → (facts_of (interface_given s o)).answer q ≡ cond (bytes_eq o.ask.name q) (first_some o.answer ((facts_of s).answer q)) ((facts_of s).answer q)
+  interface_gives : (s : Inputs) (o : OpenInterface) (q : List ℕ) → IsAnswering facts s → MayAnswer o → (facts_of (interface_given s o)).answer q
+      ≡ cond (bytes_eq o.ask.name q) (first_some o.answer ((facts_of s).answer q)) ((facts_of s).answer q)
   unfolding MayAnswer
   interface_gives s o q fits may = interface_gives_by s o.ask.name (open_interface s.interfaces o.ask.name) o.answer q fits refl
       (is_there (λ x. x.ask) (open_interface s.interfaces o.ask.name) o.ask
@@ -306,11 +314,13 @@ module _ (inputs : Inputs) (kept : IsKept inputs) where
   loaded = subst (IsAsking inputs.conf first.devices) (sym loads_bare) (loaded_asks inputs.conf first.devices)
 
   commanded : IsAsking inputs.conf first.devices (fresh_commanded inputs)
-  commanded = fits_all command_given (λ c. c.interface) (λ c. Some c.up) (λ s. command_in s.commands) (IsAsking inputs.conf first.devices) (λ c. ⊤) (command_keeps inputs.conf first.devices) (command_gives inputs.conf first.devices) inputs.commands (λ c h. tt) (fresh_loaded inputs) loaded
+  commanded = fits_all command_given (λ c. c.interface) (λ c. Some c.up) (λ s. command_in s.commands) (IsAsking inputs.conf first.devices) (λ c. ⊤) (command_keeps inputs.conf first.devices) (command_gives inputs.conf first.devices)
+      inputs.commands (λ c h. tt) (fresh_loaded inputs) loaded
 
   commands_same : (q : List ℕ) → command_in (fresh_commanded inputs).commands q ≡ command_in inputs.commands q
   commands_same q =
-      given_all command_given (λ c. c.interface) (λ c. Some c.up) (λ s. command_in s.commands) (IsAsking inputs.conf first.devices) (λ c. ⊤) (command_keeps inputs.conf first.devices) (command_gives inputs.conf first.devices) inputs.commands kept.commands (λ c h. tt) (fresh_loaded inputs) loaded q
+      given_all command_given (λ c. c.interface) (λ c. Some c.up) (λ s. command_in s.commands) (IsAsking inputs.conf first.devices) (λ c. ⊤) (command_keeps inputs.conf first.devices) (command_gives inputs.conf first.devices) inputs.commands
+      kept.commands (λ c h. tt) (fresh_loaded inputs) loaded q
       ∙ ap (λ cs. first_some (option_and_then (λ c. Some c.up) (found_in (λ c. c.interface) inputs.commands q)) (command_in cs q)) (ap (λ s. s.commands) loads_bare ∙ loaded_commands inputs.conf first.devices)
       ∙ some_first (option_and_then (λ c. Some c.up) (found_in (λ c. c.interface) inputs.commands q)) ∙ some_of_map (λ c. c.up) (found_in (λ c. c.interface) inputs.commands q)
 
@@ -358,11 +368,13 @@ module _ (inputs : Inputs) (kept : IsKept inputs) where
   interface_may o h = sym (kept.are.interfaces o.ask.name) ∙ ap (option_map (λ x. x.ask)) (found_once (λ x. x.ask.name) inputs.interfaces kept.single.interfaces o h)
 
   answered : IsAnswering goal_facts (fresh_start inputs)
-  answered = fits_all interface_given (λ o. o.ask.name) (λ o. o.answer) (λ s. (facts_of s).answer) (IsAnswering goal_facts) (MayAnswer goal_facts) (interface_given_keeps goal_facts) (interface_gives goal_facts) inputs.interfaces interface_may (fresh_with_radios inputs) answering
+  answered = fits_all interface_given (λ o. o.ask.name) (λ o. o.answer) (λ s. (facts_of s).answer) (IsAnswering goal_facts) (MayAnswer goal_facts) (interface_given_keeps goal_facts) (interface_gives goal_facts) inputs.interfaces
+      interface_may (fresh_with_radios inputs) answering
 
   answers_same : (q : List ℕ) → (facts_of (fresh_start inputs)).answer q ≡ goal_facts.answer q
   answers_same q =
-      given_all interface_given (λ o. o.ask.name) (λ o. o.answer) (λ s. (facts_of s).answer) (IsAnswering goal_facts) (MayAnswer goal_facts) (interface_given_keeps goal_facts) (interface_gives goal_facts) inputs.interfaces kept.single.interfaces interface_may (fresh_with_radios inputs) answering q
+      given_all interface_given (λ o. o.ask.name) (λ o. o.answer) (λ s. (facts_of s).answer) (IsAnswering goal_facts) (MayAnswer goal_facts) (interface_given_keeps goal_facts) (interface_gives goal_facts) inputs.interfaces
+      kept.single.interfaces interface_may (fresh_with_radios inputs) answering q
       ∙ ap (first_some (option_and_then (λ o. o.answer) (open_interface inputs.interfaces q))) (told.no_answer q)
       ∙ some_first (option_and_then (λ o. o.answer) (open_interface inputs.interfaces q))
 

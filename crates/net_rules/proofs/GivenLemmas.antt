@@ -39,10 +39,11 @@ options_on row dev o h = elim (Contains-append_cases (map (object.Address dev) r
 
 answer_on : (dev : List ℕ) (answer : Option Answer) (o : Object) → Contains (of_answer dev answer) o → IsOn dev o
 answer_on dev None o h = absurd (none_in_nil o h)
-answer_on dev (Some answer) o h = elim (Contains-append_cases (map (object.Address dev) answer.addresses) (map (λ r. object.Route (record { target = r.target; via = r.via; dev = dev; metric = r.metric; table = 254 })) answer.routes) o h) as (λ _. IsOn dev o) [
-  | inl address ↦ mapped_on dev (object.Address dev) (λ x. refl) answer.addresses o address
-  | inr route ↦ mapped_on dev (λ r. object.Route (record { target = r.target; via = r.via; dev = dev; metric = r.metric; table = 254 })) (λ x. refl) answer.routes o route
-]
+answer_on dev (Some answer) o h = elim (Contains-append_cases (map (object.Address dev) answer.addresses) (map (λ r. object.Route (record { target = r.target; via = r.via; dev = dev; metric = r.metric; table = 254 })) answer.routes) o h) as
+    (λ _. IsOn dev o) [
+      | inl address ↦ mapped_on dev (object.Address dev) (λ x. refl) answer.addresses o address
+      | inr route ↦ mapped_on dev (λ r. object.Route (record { target = r.target; via = r.via; dev = dev; metric = r.metric; table = 254 })) (λ x. refl) answer.routes o route
+    ]
 
 own_on : (facts : Facts) (row : InterfaceRow) (dev : List ℕ) (o : Object) (b : Bool) → Contains (if b then of_options row dev else of_answer dev (answer_of facts row)) o → IsOn dev o
 own_on facts row dev o true h = options_on row dev o h

@@ -84,7 +84,8 @@ module _ (inputs : Inputs) where
       answered_by from.source.name (open_radio inputs.radios from.source.name) refl a.port (subst (Contains (unwrap_or ((facts_of inputs).ports from.source.name) [])) is second)
 
   -- a port that joins a bridge was answered
-  joined_device : (a : AnsweredPort) (j : RadioPort) (device : Option (List ℕ)) → option_and_then (λ bridge. cond (is_bridge inputs.conf bridge && not (is_named_port inputs.conf a.port)) (Some (record { bridge = bridge; port = a.port })) None) device ≡ Some j → a.port ≡ j.port
+  joined_device : (a : AnsweredPort) (j : RadioPort) (device : Option (List ℕ))
+      → option_and_then (λ bridge. cond (is_bridge inputs.conf bridge && not (is_named_port inputs.conf a.port)) (Some (record { bridge = bridge; port = a.port })) None) device ≡ Some j → a.port ≡ j.port
   joined_device a j None h = cc h
   joined_device a j (Some bridge) h = by_test (is_bridge inputs.conf bridge && not (is_named_port inputs.conf a.port)) h
     where
@@ -92,7 +93,9 @@ module _ (inputs : Inputs) where
       by_test true e = let same : record { bridge = bridge; port = a.port } ≡ j = cc e in ap (λ x. x.port) same
       by_test false e = cc e
 
-  joined_row : (a : AnsweredPort) (j : RadioPort) (row : Option InterfaceRow) → option_and_then (λ (r : InterfaceRow). option_and_then (λ bridge. cond (is_bridge inputs.conf bridge && not (is_named_port inputs.conf a.port)) (Some (record { bridge = bridge; port = a.port })) None) r.device) row ≡ Some j → a.port ≡ j.port
+  joined_row : (a : AnsweredPort) (j : RadioPort) (row : Option InterfaceRow)
+      → option_and_then (λ (r : InterfaceRow). option_and_then (λ bridge. cond (is_bridge inputs.conf bridge && not (is_named_port inputs.conf a.port)) (Some (record { bridge = bridge; port = a.port })) None) r.device) row ≡ Some j → a.port
+      ≡ j.port
   joined_row a j None h = cc h
   joined_row a j (Some row) h = joined_device a j row.device h
 
@@ -105,7 +108,8 @@ module _ (inputs : Inputs) where
       radio_reached name (subst (Contains of_radios) same (answered_reached given.source given.member))
 
   -- the device of an interface
-  found_port : (interface : List ℕ) (o : Option AnsweredPort) → find (λ (a : AnsweredPort). bytes_eq a.interface interface) (answered_ports (facts_of inputs)) ≡ o → (name : List ℕ) → option_map (λ (a : AnsweredPort). a.port) o ≡ Some name → Contains of_radios name
+  found_port : (interface : List ℕ) (o : Option AnsweredPort) → find (λ (a : AnsweredPort). bytes_eq a.interface interface) (answered_ports (facts_of inputs)) ≡ o → (name : List ℕ) → option_map (λ (a : AnsweredPort). a.port) o ≡ Some name
+      → Contains of_radios name
   found_port interface None is name h = cc h
   found_port interface (Some a) is name h =
       let found = found_member (λ (x : AnsweredPort). x.interface) (answered_ports (facts_of inputs)) interface a is in
@@ -120,7 +124,8 @@ module _ (inputs : Inputs) where
   own_reached row member name h = own_by row (within_firsts (λ (r : InterfaceRow). r.name) inputs.conf.interfaces row member) row.device refl name h
 
   -- the layer-3 device of an interface
-  answer_by : (interface : List ℕ) (o : Option OpenInterface) → open_interface inputs.interfaces interface ≡ o → (layer : List ℕ) → option_and_then (λ (a : Answer). a.device) (option_and_then (λ (x : OpenInterface). x.answer) o) ≡ Some layer → Contains of_layers layer
+  answer_by : (interface : List ℕ) (o : Option OpenInterface) → open_interface inputs.interfaces interface ≡ o → (layer : List ℕ) → option_and_then (λ (a : Answer). a.device) (option_and_then (λ (x : OpenInterface). x.answer) o)
+      ≡ Some layer → Contains of_layers layer
   answer_by interface None is layer h = cc h
   answer_by interface (Some o) is layer h =
       let found = found_member (λ (x : OpenInterface). x.ask.name) inputs.interfaces interface o is in
@@ -130,24 +135,34 @@ module _ (inputs : Inputs) where
   answer_reached row true layer h = cc h
   answer_reached row false layer h = answer_by row.name (open_interface inputs.interfaces row.name) refl layer h
 
-  layer_by : (row : InterfaceRow) → Contains (interfaces_of inputs.conf) row → (answered : Option (List ℕ)) → option_and_then (λ (a : Answer). a.device) (answer_of (facts_of inputs) row) ≡ answered → (name : List ℕ) → device_or_own answered (device_of (facts_of inputs) row) ≡ Some name → Contains (reached_names inputs) name
+  layer_by : (row : InterfaceRow) → Contains (interfaces_of inputs.conf) row → (answered : Option (List ℕ)) → option_and_then (λ (a : Answer). a.device) (answer_of (facts_of inputs) row) ≡ answered → (name : List ℕ)
+      → device_or_own answered (device_of (facts_of inputs) row) ≡ Some name → Contains (reached_names inputs) name
   layer_by row member None is name h = own_reached row member name h
   layer_by row member (Some layer) is name h = layer_reached name (answer_reached row (asks_nothing row.proto) name (is ∙ h))
 
-  known_cases : (name : List ℕ) → Contains (names_of inputs.conf ++ (map (λ j. j.port) (radio_ports (facts_of inputs)) ++ (filter_map (device_of (facts_of inputs)) (interfaces_of inputs.conf) ++ filter_map (interfaces.layer_of (facts_of inputs)) (interfaces_of inputs.conf)))) name → Contains (reached_names inputs) name
-  known_cases name h = elim (Contains-append_cases (names_of inputs.conf) (map (λ j. j.port) (radio_ports (facts_of inputs)) ++ (filter_map (device_of (facts_of inputs)) (interfaces_of inputs.conf) ++ filter_map (interfaces.layer_of (facts_of inputs)) (interfaces_of inputs.conf))) name h) as (λ _. Contains (reached_names inputs) name) [
-    | inl row ↦ row_reached name row
-    | inr others ↦ elim (Contains-append_cases (map (λ j. j.port) (radio_ports (facts_of inputs))) (filter_map (device_of (facts_of inputs)) (interfaces_of inputs.conf) ++ filter_map (interfaces.layer_of (facts_of inputs)) (interfaces_of inputs.conf)) name others) as (λ _. Contains (reached_names inputs) name) [
-      | inl port ↦ port_reached name port
-      | inr behind ↦ elim (Contains-append_cases (filter_map (device_of (facts_of inputs)) (interfaces_of inputs.conf)) (filter_map (interfaces.layer_of (facts_of inputs)) (interfaces_of inputs.conf)) name behind) as (λ _. Contains (reached_names inputs) name) [
-        | inl own ↦ let from = from_filter_map (device_of (facts_of inputs)) (interfaces_of inputs.conf) name own in own_reached from.source from.member name from.gives
-        | inr layer ↦ let from = from_filter_map (interfaces.layer_of (facts_of inputs)) (interfaces_of inputs.conf) name layer in layer_by from.source from.member (option_and_then (λ (a : Answer). a.device) (answer_of (facts_of inputs) from.source)) refl name from.gives
+  known_cases : (name : List ℕ) → Contains (names_of inputs.conf
+      ++ (map (λ j. j.port) (radio_ports (facts_of inputs)) ++ (filter_map (device_of (facts_of inputs)) (interfaces_of inputs.conf) ++ filter_map (interfaces.layer_of (facts_of inputs)) (interfaces_of inputs.conf)))) name
+      → Contains (reached_names inputs) name
+  known_cases name h = elim (Contains-append_cases (names_of inputs.conf)
+      (map (λ j. j.port) (radio_ports (facts_of inputs)) ++ (filter_map (device_of (facts_of inputs)) (interfaces_of inputs.conf) ++ filter_map (interfaces.layer_of (facts_of inputs)) (interfaces_of inputs.conf))) name h) as
+      (λ _. Contains (reached_names inputs) name) [
+        | inl row ↦ row_reached name row
+        | inr others ↦ elim (Contains-append_cases (map (λ j. j.port) (radio_ports (facts_of inputs)))
+            (filter_map (device_of (facts_of inputs)) (interfaces_of inputs.conf) ++ filter_map (interfaces.layer_of (facts_of inputs)) (interfaces_of inputs.conf)) name others) as (λ _. Contains (reached_names inputs) name) [
+              | inl port ↦ port_reached name port
+              | inr behind ↦ elim (Contains-append_cases (filter_map (device_of (facts_of inputs)) (interfaces_of inputs.conf)) (filter_map (interfaces.layer_of (facts_of inputs)) (interfaces_of inputs.conf)) name behind) as
+                  (λ _. Contains (reached_names inputs) name) [
+                    | inl own ↦ let from = from_filter_map (device_of (facts_of inputs)) (interfaces_of inputs.conf) name own in own_reached from.source from.member name from.gives
+                    | inr layer ↦ let from = from_filter_map (interfaces.layer_of (facts_of inputs)) (interfaces_of inputs.conf) name layer in
+                        layer_by from.source from.member (option_and_then (λ (a : Answer). a.device) (answer_of (facts_of inputs) from.source)) refl name from.gives
+                  ]
+            ]
       ]
-    ]
-  ]
 
   pub known_reached : (name : List ℕ) → Contains (known_names (facts_of inputs)) name → Contains (reached_names inputs) name
-  known_reached name h = known_cases name (within_firsts (λ (n : List ℕ). n) (names_of inputs.conf ++ (map (λ j. j.port) (radio_ports (facts_of inputs)) ++ (filter_map (device_of (facts_of inputs)) (interfaces_of inputs.conf) ++ filter_map (interfaces.layer_of (facts_of inputs)) (interfaces_of inputs.conf)))) name h)
+  known_reached name h = known_cases name (within_firsts (λ (n : List ℕ). n)
+      (names_of inputs.conf ++ (map (λ j. j.port) (radio_ports (facts_of inputs)) ++ (filter_map (device_of (facts_of inputs)) (interfaces_of inputs.conf) ++ filter_map (interfaces.layer_of (facts_of inputs)) (interfaces_of inputs.conf))))
+      name h)
 
   pub reached_test : (name : List ℕ) → Contains (reached_names inputs) name → is_reached inputs name ≡ true
   reached_test name h = of_any (λ other. bytes_eq other name) (reached_names inputs) name h (same_bytes name name refl)

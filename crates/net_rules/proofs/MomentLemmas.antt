@@ -69,7 +69,8 @@ set_keeps name on e = keeps (bytes_eq e.0 name)
     keeps true = refl
     keeps false = refl
 
-set_step : (name q : List ℕ) (on : Bool) (o : Option (List ℕ × Device)) → ((e : List ℕ × Device) → o ≡ Some e → e.0 ≡ q) → option_map (λ x. x.1) (option_map (carrier_set name on) o) ≡ cond (bytes_eq name q) (option_map (with_carrier on) (option_map (λ x. x.1) o)) (option_map (λ x. x.1) o)
+set_step : (name q : List ℕ) (on : Bool) (o : Option (List ℕ × Device)) → ((e : List ℕ × Device) → o ≡ Some e → e.0 ≡ q) → option_map (λ x. x.1) (option_map (carrier_set name on) o)
+    ≡ cond (bytes_eq name q) (option_map (with_carrier on) (option_map (λ x. x.1) o)) (option_map (λ x. x.1) o)
 set_step name q on None at = no_value Device (bytes_eq name q)
 set_step name q on (Some e) at = some_set (bytes_eq e.0 name) (bytes_eq name q) (ap (λ k. bytes_eq k name) (at e refl) ∙ either_way q name)
   where
@@ -105,7 +106,8 @@ devices_follow es (device.Carrier name on) =
     ∙ ap (λ o. cond (bytes_eq name q) (option_map (with_carrier on) o) o) (device_of_map es q)
     ∙ set_map (map_of es) name on q)
   where
-    set_found : (m : Devices) (name : List ℕ) (on : Bool) (q : List ℕ) (at : Option Device) → map.get m name ≡ at → (b : Bool) → bytes_eq name q ≡ b → cond b (option_map (with_carrier on) (map.get m q)) (map.get m q) ≡ map.get (option_map_or (λ d. map.insert m name (with_carrier on d)) at m) q
+    set_found : (m : Devices) (name : List ℕ) (on : Bool) (q : List ℕ) (at : Option Device) → map.get m name ≡ at → (b : Bool) → bytes_eq name q ≡ b → cond b (option_map (with_carrier on) (map.get m q)) (map.get m q)
+        ≡ map.get (option_map_or (λ d. map.insert m name (with_carrier on d)) at m) q
     set_found m name on q None is true same = let names : name ≡ q = bytes_same name q same in let none : map.get m q ≡ None = ap (map.get m) (sym names) ∙ is in ap (option_map (with_carrier on)) none ∙ sym none
     set_found m name on q None is false same = refl
     set_found m name on q (Some d) is true same =

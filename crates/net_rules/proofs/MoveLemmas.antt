@@ -58,7 +58,8 @@ module _ {S : Type 0} (p : S → Bool) where
   count_is [] = refl
   count_is (s ∷ ss) = by (p s) (count_is ss)
     where
-      by : (b : Bool) → length (filter p ss) ≡ length (flat_map (λ s. cond {A = List ℕ} (p s) (0 ∷ []) []) ss) → length (cond b (s ∷ filter p ss) (filter p ss)) ≡ length (cond {A = List ℕ} b (0 ∷ []) [] ++ flat_map (λ s. cond {A = List ℕ} (p s) (0 ∷ []) []) ss)
+      by : (b : Bool) → length (filter p ss) ≡ length (flat_map (λ s. cond {A = List ℕ} (p s) (0 ∷ []) []) ss) → length (cond b (s ∷ filter p ss) (filter p ss))
+          ≡ length (cond {A = List ℕ} b (0 ∷ []) [] ++ flat_map (λ s. cond {A = List ℕ} (p s) (0 ∷ []) []) ss)
       by true rest = ap suc rest
       by false rest = rest
 
@@ -68,6 +69,7 @@ module _ {S : Type 0} (p : S → Bool) where
   count_beside (x ∷ xs) [] size = absurd (omega (arith, size))
   count_beside {X} (x ∷ xs) (s ∷ ss) size = by (p s) (count_beside xs ss (omega (arith, size)))
     where
-      by : (b : Bool) → length (filter p ss) ≡ length (flat_map (λ (e : X × S). cond {A = List ℕ} (p e.1) (0 ∷ []) []) (zip xs ss)) → length (cond b (s ∷ filter p ss) (filter p ss)) ≡ length (cond {A = List ℕ} b (0 ∷ []) [] ++ flat_map (λ (e : X × S). cond {A = List ℕ} (p e.1) (0 ∷ []) []) (zip xs ss))
+      by : (b : Bool) → length (filter p ss) ≡ length (flat_map (λ (e : X × S). cond {A = List ℕ} (p e.1) (0 ∷ []) []) (zip xs ss)) → length (cond b (s ∷ filter p ss) (filter p ss))
+          ≡ length (cond {A = List ℕ} b (0 ∷ []) [] ++ flat_map (λ (e : X × S). cond {A = List ℕ} (p e.1) (0 ∷ []) []) (zip xs ss))
       by true rest = ap suc rest
       by false rest = rest

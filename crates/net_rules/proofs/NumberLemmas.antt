@@ -39,7 +39,8 @@ behind least middle bound p q [] ms h g = wider middle least bound bound p (omeg
 behind least middle bound p q (n ∷ ns) ms h g = let to = h.1 in (h.0, omega arith, behind (n + 1) middle bound (omega arith) q ns ms h.2 g)
 
 -- a filter leaves them rising
-filtered_step : {O : Type 0} (number : O → ℕ) (b : Bool) (o : O) (os : List O) (least bound : ℕ) → least ≤ number o → number o < bound → AreRising (number o + 1) bound (map number os) → AreRising least bound (map number (cond b (o ∷ os) os))
+filtered_step : {O : Type 0} (number : O → ℕ) (b : Bool) (o : O) (os : List O) (least bound : ℕ) → least ≤ number o → number o < bound → AreRising (number o + 1) bound (map number os)
+    → AreRising least bound (map number (cond b (o ∷ os) os))
 filtered_step number true o os least bound from to rest = (from, to, rest)
 filtered_step number false o os least bound from to rest = wider (number o + 1) least bound bound (omega arith) (omega arith) (map number os) rest
 
@@ -169,8 +170,10 @@ changed_numbered : (inputs : Inputs) (event : Event) → AreNumbered inputs → 
 changed_numbered inputs (event.Load conf) numbered = numbered_by inputs (changed inputs (event.Load conf)) refl refl refl numbered
 changed_numbered inputs (event.Device what) numbered = numbered_by inputs (changed inputs (event.Device what)) refl refl refl numbered
 changed_numbered inputs (event.Operator interface up) numbered = numbered_by inputs (changed inputs (event.Operator interface up)) refl refl refl numbered
-changed_numbered inputs (event.Answer interface number answer) numbered = numbered_by inputs (changed inputs (event.Answer interface number answer)) refl (same_numbers (λ o. o.number) (answered_interface interface number answer) (interface_number interface number answer) inputs.interfaces) refl numbered
-changed_numbered inputs (event.Radio radio number ports) numbered = numbered_by inputs (changed inputs (event.Radio radio number ports)) refl refl (same_numbers (λ o. o.number) (answered_radio radio number ports) (radio_number radio number ports) inputs.radios) numbered
+changed_numbered inputs (event.Answer interface number answer) numbered =
+    numbered_by inputs (changed inputs (event.Answer interface number answer)) refl (same_numbers (λ o. o.number) (answered_interface interface number answer) (interface_number interface number answer) inputs.interfaces) refl numbered
+changed_numbered inputs (event.Radio radio number ports) numbered =
+    numbered_by inputs (changed inputs (event.Radio radio number ports)) refl refl (same_numbers (λ o. o.number) (answered_radio radio number ports) (radio_number radio number ports) inputs.radios) numbered
 
 pub next_rises : (inputs : Inputs) (event : Event) → inputs.next ≤ (after inputs event).next
 unfolding after

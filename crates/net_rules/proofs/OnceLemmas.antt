@@ -18,7 +18,8 @@ abbrev pub kept_if : {X : Type 0} → (X → Bool) → Option X → Option X
 kept_if p None = None
 kept_if p (Some x) = cond (p x) (Some x) None
 
-filter_step : {X : Type 0} (key : X → List ℕ) (p : X → Bool) (x : X) (xs ys : List X) (q : List ℕ) (b d : Bool) → p x ≡ b → bytes_eq (key x) q ≡ d → found_in key xs (key x) ≡ None → found_in key ys q ≡ kept_if p (found_in key xs q) → found_in key (cond b (x ∷ ys) ys) q ≡ kept_if p (cond d (Some x) (found_in key xs q))
+filter_step : {X : Type 0} (key : X → List ℕ) (p : X → Bool) (x : X) (xs ys : List X) (q : List ℕ) (b d : Bool) → p x ≡ b → bytes_eq (key x) q ≡ d → found_in key xs (key x) ≡ None → found_in key ys q ≡ kept_if p (found_in key xs q)
+    → found_in key (cond b (x ∷ ys) ys) q ≡ kept_if p (cond d (Some x) (found_in key xs q))
 filter_step key p x xs ys q true true passes at once rest = ap (λ d. cond d (Some x) (found_in key ys q)) at ∙ ap (λ b. cond b (Some x) None) (sym passes)
 filter_step key p x xs ys q true false passes at once rest = ap (λ d. cond d (Some x) (found_in key ys q)) at ∙ rest
 filter_step key p x xs ys q false true passes at once rest =
@@ -42,7 +43,8 @@ pub once_filter : {X : Type 0} (key : X → List ℕ) (p : X → Bool) → (xs :
 once_filter key p [] once = tt
 once_filter key p (x ∷ xs) once = once_step key x (filter p xs) (p x) (found_filter key p xs once.1 (key x) ∙ kept_none p (found_in key xs (key x)) once.0) (once_filter key p xs once.1)
 
-pub once_map : {X : Type 0} (key : X → List ℕ) (f : X → X) → ((x : X) → key (f x) ≡ key x) → ((xs : List X) (q : List ℕ) → found_in key (map f xs) q ≡ option_map f (found_in key xs q)) → (xs : List X) → AreOnce key xs → AreOnce key (map f xs)
+pub once_map : {X : Type 0} (key : X → List ℕ) (f : X → X) → ((x : X) → key (f x) ≡ key x) → ((xs : List X) (q : List ℕ) → found_in key (map f xs) q ≡ option_map f (found_in key xs q)) → (xs : List X) → AreOnce key xs
+    → AreOnce key (map f xs)
 once_map key f keeps finds [] once = tt
 once_map key f keeps finds (x ∷ xs) once = (ap (found_in key (map f xs)) (keeps x) ∙ finds xs (key x) ∙ ap (option_map f) once.0, once_map key f keeps finds xs once.1)
 
@@ -69,7 +71,8 @@ firsts_step key x o p q false at h = h ∙ ap (λ b. cond b None p) at
 
 pub found_firsts : {X : Type 0} (key : X → List ℕ) → (xs : List X) (q : List ℕ) → found_in key (firsts key xs) q ≡ found_in key xs q
 found_firsts key [] q = refl
-found_firsts key (x ∷ xs) q = firsts_step key x (found_in key (filter (λ y. not (bytes_eq (key y) (key x))) (firsts key xs)) q) (found_in key xs q) q (bytes_eq (key x) q) refl (found_without key (key x) (firsts key xs) q ∙ ap (cond (bytes_eq (key x) q) None) (found_firsts key xs q))
+found_firsts key (x ∷ xs) q = firsts_step key x (found_in key (filter (λ y. not (bytes_eq (key y) (key x))) (firsts key xs)) q) (found_in key xs q) q (bytes_eq (key x) q) refl
+    (found_without key (key x) (firsts key xs) q ∙ ap (cond (bytes_eq (key x) q) None) (found_firsts key xs q))
 
 pub once_firsts : {X : Type 0} (key : X → List ℕ) → (xs : List X) → AreOnce key (firsts key xs)
 once_firsts key [] = tt
@@ -80,7 +83,8 @@ once_firsts key (x ∷ xs) = (
 
 -- what a function that keeps the key gives
 module _ {X Y : Type 0} (key : X → List ℕ) (name : Y → List ℕ) (f : X → Option Y) (keeps : (x : X) (y : Y) → f x ≡ Some y → name y ≡ key x) where
-  mapped_step : (x : X) (o : Option Y) (ys : List Y) (q : List ℕ) (d : Bool) (p : Option X) → f x ≡ o → bytes_eq (key x) q ≡ d → (d ≡ true → found_in name ys q ≡ None) → found_in name ys q ≡ option_and_then f p → found_in name (cons_option o ys) q ≡ option_and_then f (cond d (Some x) p)
+  mapped_step : (x : X) (o : Option Y) (ys : List Y) (q : List ℕ) (d : Bool) (p : Option X) → f x ≡ o → bytes_eq (key x) q ≡ d → (d ≡ true → found_in name ys q ≡ None) → found_in name ys q ≡ option_and_then f p
+      → found_in name (cons_option o ys) q ≡ option_and_then f (cond d (Some x) p)
   mapped_step x None ys q true p gives at none rest = none refl ∙ sym gives
   mapped_step x None ys q false p gives at none rest = rest
   mapped_step x (Some y) ys q true p gives at none rest = ap (λ d. cond d (Some y) (found_in name ys q)) (ap (λ k. bytes_eq k q) (keeps x y gives) ∙ at) ∙ sym gives

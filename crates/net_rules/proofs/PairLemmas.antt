@@ -49,7 +49,8 @@ module _ {X S Y : Type 0} (key : X → List ℕ) (f : X → List Y) (g : X × S 
       ∙ ap (λ b. cond (free (key y) && not (b || any)) (f y) []) (bytes_flip (key x) (key y))
       ∙ ap (λ b. cond b (f y) []) (split_test (free (key y)) (bytes_eq (key y) (key x)) any)
 
-  first_here : (free : List ℕ → Bool) (x : X) (xs : List X) (b : Bool) → free (key x) ≡ b → cond (b && not false) (f x) [] ++ flat_map f (filter (λ y. others free x (key y)) (firsts key xs)) ≡ flat_map f (cond b (x ∷ filter (λ y. free (key y)) (filter (λ y. not (bytes_eq (key y) (key x))) (firsts key xs))) (filter (λ y. free (key y)) (filter (λ y. not (bytes_eq (key y) (key x))) (firsts key xs))))
+  first_here : (free : List ℕ → Bool) (x : X) (xs : List X) (b : Bool) → free (key x) ≡ b → cond (b && not false) (f x) [] ++ flat_map f (filter (λ y. others free x (key y)) (firsts key xs))
+      ≡ flat_map f (cond b (x ∷ filter (λ y. free (key y)) (filter (λ y. not (bytes_eq (key y) (key x))) (firsts key xs))) (filter (λ y. free (key y)) (filter (λ y. not (bytes_eq (key y) (key x))) (firsts key xs))))
   first_here free x xs true is = ap (λ ys. f x ++ flat_map f ys) (sym (filter_twice (λ y. free (key y)) (λ y. not (bytes_eq (key y) (key x))) (firsts key xs)))
   first_here free x xs false is = ap (flat_map f) (sym (filter_twice (λ y. free (key y)) (λ y. not (bytes_eq (key y) (key x))) (firsts key xs)))
 

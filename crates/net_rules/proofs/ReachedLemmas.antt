@@ -39,10 +39,12 @@ radio_keeps radio number ports o = by_test (bytes_eq o.ask.name radio && (o.numb
     by_test true = refl
     by_test false = refl
 
-pub interface_found : (interface : List ℕ) (number : ℕ) (answer : Answer) (xs : List OpenInterface) (q : List ℕ) → open_interface (map (answered_interface interface number answer) xs) q ≡ option_map (answered_interface interface number answer) (open_interface xs q)
+pub interface_found : (interface : List ℕ) (number : ℕ) (answer : Answer) (xs : List OpenInterface) (q : List ℕ) → open_interface (map (answered_interface interface number answer) xs) q
+    ≡ option_map (answered_interface interface number answer) (open_interface xs q)
 interface_found interface number answer xs q = found_mapped (λ o. o.ask.name) (answered_interface interface number answer) (λ o. ap (λ a. a.name) (answered_keeps interface number answer o)) xs q
 
-pub radio_found : (radio : List ℕ) (number : ℕ) (ports : List (Option (List ℕ))) (xs : List OpenRadio) (q : List ℕ) → open_radio (map (answered_radio radio number ports) xs) q ≡ option_map (answered_radio radio number ports) (open_radio xs q)
+pub radio_found : (radio : List ℕ) (number : ℕ) (ports : List (Option (List ℕ))) (xs : List OpenRadio) (q : List ℕ) → open_radio (map (answered_radio radio number ports) xs) q
+    ≡ option_map (answered_radio radio number ports) (open_radio xs q)
 radio_found radio number ports xs q = found_mapped (λ o. o.ask.name) (answered_radio radio number ports) (λ o. ap (λ a. a.name) (radio_keeps radio number ports o)) xs q
 
 -- the first step keeps the asks single
@@ -61,7 +63,8 @@ changed_single inputs (event.Radio radio number ports) single = record {
 
 -- a list without a key, and with one value of it more, has each key once
 one_more : {X : Type 0} (key : X → List ℕ) (x : X) (xs : List X) → AreOnce key xs → AreOnce key (filter (λ y. not (bytes_eq (key y) (key x))) xs ++ x ∷ [])
-one_more {X} key x xs once = once_behind key (filter (λ y. not (bytes_eq (key y) (key x))) xs) (x ∷ []) (once_filter key (λ y. not (bytes_eq (key y) (key x))) xs once) (refl, tt) (λ q y h. by_key q (bytes_eq (key x) q) refl y (sym (found_without key (key x) xs q) ∙ h))
+one_more {X} key x xs once = once_behind key (filter (λ y. not (bytes_eq (key y) (key x))) xs) (x ∷ []) (once_filter key (λ y. not (bytes_eq (key y) (key x))) xs once) (refl, tt)
+    (λ q y h. by_key q (bytes_eq (key x) q) refl y (sym (found_without key (key x) xs q) ∙ h))
   where
     by_key : (q : List ℕ) (b : Bool) → bytes_eq (key x) q ≡ b → (y : X) → cond (bytes_eq (key x) q) None (found_in key xs q) ≡ Some y → cond (bytes_eq (key x) q) (Some x) None ≡ None
     by_key q true at y h = cc (sym (ap (λ c. cond c None (found_in key xs q)) at) ∙ h)
@@ -145,7 +148,8 @@ left_alone : {X : Type 0} (b : Bool) (x y : X) → (b ≡ true → ⊥) → cond
 left_alone true x y h = absurd (h refl)
 left_alone false x y h = refl
 
-pub stale_interface : (inputs : Inputs) → IsReached inputs → (interface : List ℕ) (number : ℕ) (answer : Answer) → ((o : OpenInterface) → open_interface inputs.interfaces interface ≡ Some o → o.number ≡ number → ⊥) → after inputs (event.Answer interface number answer) ≡ inputs
+pub stale_interface : (inputs : Inputs) → IsReached inputs → (interface : List ℕ) (number : ℕ) (answer : Answer) → ((o : OpenInterface) → open_interface inputs.interfaces interface ≡ Some o → o.number ≡ number → ⊥)
+    → after inputs (event.Answer interface number answer) ≡ inputs
 stale_interface inputs reached interface number answer stale =
     let kept = reached_kept inputs reached in
     let alike : map (answered_interface interface number answer) inputs.interfaces ≡ inputs.interfaces = mapped_alike (answered_interface interface number answer) inputs.interfaces (λ o member.
@@ -153,7 +157,8 @@ stale_interface inputs reached interface number answer stale =
     stale o (subst (λ n. open_interface inputs.interfaces n ≡ Some o) named (found_once (λ x. x.ask.name) inputs.interfaces kept.single.interfaces o member)) same))) in
     after_answer inputs interface number answer kept.single kept.are ∙ ap (λ xs. record inputs { interfaces = xs }) alike
 
-pub stale_radio : (inputs : Inputs) → IsReached inputs → (radio : List ℕ) (number : ℕ) (ports : List (Option (List ℕ))) → ((o : OpenRadio) → open_radio inputs.radios radio ≡ Some o → o.number ≡ number → ⊥) → after inputs (event.Radio radio number ports) ≡ inputs
+pub stale_radio : (inputs : Inputs) → IsReached inputs → (radio : List ℕ) (number : ℕ) (ports : List (Option (List ℕ))) → ((o : OpenRadio) → open_radio inputs.radios radio ≡ Some o → o.number ≡ number → ⊥)
+    → after inputs (event.Radio radio number ports) ≡ inputs
 unfolding after
 stale_radio inputs reached radio number ports stale =
     let kept = reached_kept inputs reached in

@@ -41,7 +41,8 @@ pub record IsBridgeRow (facts : Facts) (name : List ℕ) (empty : Bool) (ports :
   pub sound : (row_at facts.conf.names name).broken ≡ false
   pub all : own ++ radio_ports_of facts name ≡ ports
 
-bridge_by : (facts : Facts) (name : List ℕ) (empty : Bool) (ports : List (List ℕ)) (kind : NameKind) (broken : Bool) → kind_at facts.conf name ≡ kind → (row_at facts.conf.names name).broken ≡ broken → standing_of kind broken (radio_ports_of facts name) ≡ Ports empty ports → IsBridgeRow facts name empty ports
+bridge_by : (facts : Facts) (name : List ℕ) (empty : Bool) (ports : List (List ℕ)) (kind : NameKind) (broken : Bool) → kind_at facts.conf name ≡ kind → (row_at facts.conf.names name).broken ≡ broken
+    → standing_of kind broken (radio_ports_of facts name) ≡ Ports empty ports → IsBridgeRow facts name empty ports
 bridge_by facts name empty ports Plain broken is breaks h = cc h
 bridge_by facts name empty ports (Bridge none own) true is breaks h = cc h
 bridge_by facts name empty ports (Bridge none own) false is breaks h =
@@ -61,7 +62,8 @@ pub record IsVlanRow (facts : Facts) (name lower : List ℕ) (id : ℕ) : Type 0
   pub sound : (row_at facts.conf.names name).broken ≡ false
   pub made : kind_at facts.conf name ≡ Vlan (Some lower) id
 
-vlan_by : (facts : Facts) (name lower : List ℕ) (id : ℕ) (more : List (List ℕ)) (kind : NameKind) (broken : Bool) → kind_at facts.conf name ≡ kind → (row_at facts.conf.names name).broken ≡ broken → standing_of kind broken more ≡ Over lower id → IsVlanRow facts name lower id
+vlan_by : (facts : Facts) (name lower : List ℕ) (id : ℕ) (more : List (List ℕ)) (kind : NameKind) (broken : Bool) → kind_at facts.conf name ≡ kind → (row_at facts.conf.names name).broken ≡ broken → standing_of kind broken more
+    ≡ Over lower id → IsVlanRow facts name lower id
 vlan_by facts name lower id more Plain broken is breaks h = cc h
 vlan_by facts name lower id more (Bridge none own) true is breaks h = cc h
 vlan_by facts name lower id more (Bridge none own) false is breaks h = cc h
@@ -129,7 +131,8 @@ false_by_not : (b : Bool) → not b ≡ true → b ≡ false
 false_by_not true h = cc h
 false_by_not false h = refl
 
-joins_bridge : (facts : Facts) (answered : AnsweredPort) (joins : RadioPort) (bridge : List ℕ) (b : Bool) → (is_bridge facts.conf bridge && not (is_named_port facts.conf answered.port)) ≡ b → cond b (Some (record { bridge = bridge; port = answered.port })) None ≡ Some joins → Joins facts answered joins
+joins_bridge : (facts : Facts) (answered : AnsweredPort) (joins : RadioPort) (bridge : List ℕ) (b : Bool) → (is_bridge facts.conf bridge && not (is_named_port facts.conf answered.port)) ≡ b
+    → cond b (Some (record { bridge = bridge; port = answered.port })) None ≡ Some joins → Joins facts answered joins
 joins_bridge facts answered joins bridge true is h =
     record {
       same_port = cc h;
@@ -174,15 +177,19 @@ named_in : (rows : List NameRow) (bridge port : List ℕ) → Contains (ports_of
 named_in [] bridge port h = absurd (none_owned (is_some (vlan_parts bridge)) port h)
 named_in (row ∷ rows) bridge port h = named_here row rows bridge port (bytes_eq row.name bridge) h (named_in rows bridge port)
   where
-    named_here : (row : NameRow) (rows : List NameRow) (bridge port : List ℕ) (b : Bool) → Contains (ports_of_kind (if b then row else row_at rows bridge).kind) port → (Contains (ports_of_kind (row_at rows bridge).kind) port → list_any (λ r. list_any (λ other. bytes_eq other port) (ports_of_kind r.kind)) rows ≡ true) → list_any (λ r. list_any (λ other. bytes_eq other port) (ports_of_kind r.kind)) (row ∷ rows) ≡ true
-    named_here row rows bridge port true h later = of_left (list_any (λ other. bytes_eq other port) (ports_of_kind row.kind)) (list_any (λ r. list_any (λ other. bytes_eq other port) (ports_of_kind r.kind)) rows) (of_any (λ other. bytes_eq other port) (ports_of_kind row.kind) port h (same_bytes port port refl))
+    named_here : (row : NameRow) (rows : List NameRow) (bridge port : List ℕ) (b : Bool) → Contains (ports_of_kind (if b then row else row_at rows bridge).kind) port
+        → (Contains (ports_of_kind (row_at rows bridge).kind) port → list_any (λ r. list_any (λ other. bytes_eq other port) (ports_of_kind r.kind)) rows ≡ true)
+        → list_any (λ r. list_any (λ other. bytes_eq other port) (ports_of_kind r.kind)) (row ∷ rows) ≡ true
+    named_here row rows bridge port true h later = of_left (list_any (λ other. bytes_eq other port) (ports_of_kind row.kind)) (list_any (λ r. list_any (λ other. bytes_eq other port) (ports_of_kind r.kind)) rows)
+        (of_any (λ other. bytes_eq other port) (ports_of_kind row.kind) port h (same_bytes port port refl))
     named_here row rows bridge port false h later = of_right (list_any (λ other. bytes_eq other port) (ports_of_kind row.kind)) (list_any (λ r. list_any (λ other. bytes_eq other port) (ports_of_kind r.kind)) rows) (later h)
 
 owned_named : (conf : Conf) (bridge port : List ℕ) → RowOwns conf bridge port → is_named_port conf port ≡ true
 owned_named conf bridge port h = named_in conf.names bridge port h
 
 -- the ports of a bridge are its own of the rows and those of radios
-pub port_cases : (facts : Facts) (bridge port : List ℕ) (empty : Bool) (ports : List (List ℕ)) → standing_at facts bridge ≡ Ports empty ports → Contains ports port → RowOwns facts.conf bridge port ⊎ Contains (radio_ports_of facts bridge) port
+pub port_cases : (facts : Facts) (bridge port : List ℕ) (empty : Bool) (ports : List (List ℕ)) → standing_at facts bridge ≡ Ports empty ports → Contains ports port
+    → RowOwns facts.conf bridge port ⊎ Contains (radio_ports_of facts bridge) port
 port_cases facts bridge port empty ports is h =
     let row = bridge_row facts bridge empty ports is in
     elim (Contains-append_cases row.own (radio_ports_of facts bridge) port (subst (λ ps. Contains ps port) (sym row.all) h)) as (λ _. RowOwns facts.conf bridge port ⊎ Contains (radio_ports_of facts bridge) port) [
@@ -212,7 +219,9 @@ upper_in : (rows : List NameRow) (more : List (List ℕ)) (name lower : List ℕ
 upper_in [] more name lower h = absurd (rowless_alone (is_some (vlan_parts name)) more lower h)
 upper_in (row ∷ rows) more name lower h = upper_here row rows more name lower (bytes_eq row.name name) refl h (upper_in rows more name lower)
   where
-    upper_here : (row : NameRow) (rows : List NameRow) (more : List (List ℕ)) (name lower : List ℕ) (b : Bool) → bytes_eq row.name name ≡ b → Contains (lowers_of (standing_of (if b then row else row_at rows name).kind (if b then row else row_at rows name).broken more)) lower → (Contains (lowers_of (standing_of (row_at rows name).kind (row_at rows name).broken more)) lower → Contains (map (λ r. r.name) rows) name) → Contains (row.name ∷ map (λ r. r.name) rows) name
+    upper_here : (row : NameRow) (rows : List NameRow) (more : List (List ℕ)) (name lower : List ℕ) (b : Bool) → bytes_eq row.name name ≡ b
+        → Contains (lowers_of (standing_of (if b then row else row_at rows name).kind (if b then row else row_at rows name).broken more)) lower
+        → (Contains (lowers_of (standing_of (row_at rows name).kind (row_at rows name).broken more)) lower → Contains (map (λ r. r.name) rows) name) → Contains (row.name ∷ map (λ r. r.name) rows) name
     upper_here row rows more name lower true is h later = subst (Contains (row.name ∷ map (λ r. r.name) rows)) (bytes_same row.name name is) (here row.name (map (λ r. r.name) rows))
     upper_here row rows more name lower false is h later = there row.name (map (λ r. r.name) rows) name (later h)
 
@@ -275,7 +284,8 @@ module _ (facts : Facts) (sound : IsSound facts.conf) where
       port_no_bridge bridge port empty ports is h (bridge_test (kind_at facts.conf port) other_empty row.own row.kind)
 
   -- a port has one owner
-  pub one_owner : (bridge other port : List ℕ) (empty other_empty : Bool) (ports other_ports : List (List ℕ)) → standing_at facts bridge ≡ Ports empty ports → Contains ports port → standing_at facts other ≡ Ports other_empty other_ports → Contains other_ports port → bridge ≡ other
+  pub one_owner : (bridge other port : List ℕ) (empty other_empty : Bool) (ports other_ports : List (List ℕ)) → standing_at facts bridge ≡ Ports empty ports → Contains ports port → standing_at facts other ≡ Ports other_empty other_ports
+      → Contains other_ports port → bridge ≡ other
   one_owner bridge other port empty other_empty ports other_ports is h again g =
       elim (port_cases facts bridge port empty ports is h) as (λ _. bridge ≡ other) [
         | inl own ↦ elim (port_cases facts other port other_empty other_ports again g) as (λ _. bridge ≡ other) [

@@ -39,13 +39,16 @@ use Rattle.net_rules.proofs.MomentLemmas.{device_of_map, devices_follow, conf_af
 pub inputs_allowed : (inputs : Inputs) → IsSound inputs.conf → AreAllowed (devices_of inputs) (want_of inputs)
 inputs_allowed inputs sound = allowed (facts_of inputs) (devices_of inputs) sound (device_of_map inputs.devices)
 
-pub untouched : (facts : Facts) (devices : Devices) → IsSound facts.conf → ((name : List ℕ) → facts.device name ≡ map.get devices name) → (row : InterfaceRow) (held : Objects) → AreAllowed devices held → AreWithin (footprint facts row) held → (wanted : Objects) → AreWithin (footprint facts row) wanted → (others : Devices) (calls : List Call) → AreCalls others held wanted calls → (call : Call) → Contains calls call → Has (footprint facts row) (object_of call) → ⊥
+pub untouched : (facts : Facts) (devices : Devices) → IsSound facts.conf → ((name : List ℕ) → facts.device name ≡ map.get devices name) → (row : InterfaceRow) (held : Objects) → AreAllowed devices held → AreWithin (footprint facts row) held
+    → (wanted : Objects) → AreWithin (footprint facts row) wanted → (others : Devices) (calls : List Call) → AreCalls others held wanted calls → (call : Call) → Contains calls call → Has (footprint facts row) (object_of call) → ⊥
 untouched facts devices sound same row held admits has wanted stays others calls are call member h =
     let part = whole_part facts devices sound same row held admits has wanted stays in
     no_call others held wanted call (has (object_of call) h) (stays (object_of call) h) (part_is_off held wanted (footprint facts row) part (object_of call) h) (are.sound call member)
 
 -- by the name of an interface
-untouched_by : (inputs : Inputs) (row : Option InterfaceRow) (held wanted : Objects) → IsSound inputs.conf → AreAllowed (devices_of inputs) held → AreWithin (option_map_or (footprint (facts_of inputs)) row set.empty) held → AreWithin (option_map_or (footprint (facts_of inputs)) row set.empty) wanted → (others : Devices) (calls : List Call) → AreCalls others held wanted calls → (call : Call) → Contains calls call → Has (option_map_or (footprint (facts_of inputs)) row set.empty) (object_of call) → ⊥
+untouched_by : (inputs : Inputs) (row : Option InterfaceRow) (held wanted : Objects) → IsSound inputs.conf → AreAllowed (devices_of inputs) held → AreWithin (option_map_or (footprint (facts_of inputs)) row set.empty) held
+    → AreWithin (option_map_or (footprint (facts_of inputs)) row set.empty) wanted → (others : Devices) (calls : List Call) → AreCalls others held wanted calls → (call : Call) → Contains calls call
+    → Has (option_map_or (footprint (facts_of inputs)) row set.empty) (object_of call) → ⊥
 untouched_by inputs None held wanted sound admits has stays = λ others calls are call member h. none_in_empty (object_of call) h
 untouched_by inputs (Some row) held wanted sound admits has stays = untouched (facts_of inputs) (devices_of inputs) sound (device_of_map inputs.devices) row held admits has wanted stays
 
@@ -56,7 +59,8 @@ wanted_by inputs (Some row) o h = (of_footprint (facts_of inputs) row o h).0
 footprint_wanted : (inputs : Inputs) (name : List ℕ) → AreWithin (footprint_named inputs name) (want_of inputs)
 footprint_wanted inputs name = wanted_by inputs (interface_named inputs.conf name)
 
-pub untouched_between : (before now : Inputs) (name : List ℕ) (devices : Devices) (calls : List Call) → IsSound before.conf → footprint_named before name ≡ footprint_named now name → AreCalls devices (want_of before) (want_of now) calls → (call : Call) → Contains calls call → Has (footprint_named before name) (object_of call) → ⊥
+pub untouched_between : (before now : Inputs) (name : List ℕ) (devices : Devices) (calls : List Call) → IsSound before.conf → footprint_named before name ≡ footprint_named now name → AreCalls devices (want_of before) (want_of now) calls
+    → (call : Call) → Contains calls call → Has (footprint_named before name) (object_of call) → ⊥
 untouched_between before now name devices calls sound same are =
     untouched_by before (interface_named before.conf name) (want_of before) (want_of now) sound (inputs_allowed before sound) (footprint_wanted before name)
     (λ o h. footprint_wanted now name o (subst (λ s. Has s o) same h)) devices calls are
@@ -74,7 +78,8 @@ module _ (some wanted : Objects) (within : AreWithin some wanted) (apart : (a b 
       (of_not (replaces o x) (λ taken. not_it (subst (Has some) (sym (apart o x (puts o refl) (within x h) (replaces_excludes o x taken))) h))))
   call_keeps held (Take o mtu mac) among puts not_it x h = has_without held o x (among x h) (λ same. not_it (subst (Has some) same h))
 
-  calls_keep : (held : Objects) (calls : List Call) → AreWithin some held → ((o : Object) → Contains calls (Put o) → Has wanted o) → ((call : Call) → Contains calls call → Has some (object_of call) → ⊥) → AreWithin some (after_calls held calls)
+  calls_keep : (held : Objects) (calls : List Call) → AreWithin some held → ((o : Object) → Contains calls (Put o) → Has wanted o) → ((call : Call) → Contains calls call → Has some (object_of call) → ⊥)
+      → AreWithin some (after_calls held calls)
   calls_keep held [] among puts not_it = among
   calls_keep held (call ∷ calls) among puts not_it =
       calls_keep (after_call held call) calls (call_keeps held call among (λ o is. puts o (subst (Contains (call ∷ calls)) is (here call calls))) (not_it call (here call calls)))
@@ -97,7 +102,8 @@ sound_as moment (event.Radio radio number ports) sound comes = sound
 
 allowed_as : (moment : Moment) (event : Event) → AreAllowed (devices_of moment.inputs) moment.held → MayCome moment event → AreAllowed (map_of (present_after moment.inputs event)) (held_after moment.held event)
 allowed_as moment (event.Load conf) admits comes = admits
-allowed_as moment (event.Device what) admits comes = subst (λ d. AreAllowed d (held_after moment.held (event.Device what))) (sym (devices_follow moment.inputs.devices what)) (events_keep (devices_of moment.inputs) moment.held what admits comes)
+allowed_as moment (event.Device what) admits comes = subst (λ d. AreAllowed d (held_after moment.held (event.Device what))) (sym (devices_follow moment.inputs.devices what))
+    (events_keep (devices_of moment.inputs) moment.held what admits comes)
 allowed_as moment (event.Operator interface up) admits comes = admits
 allowed_as moment (event.Answer interface number answer) admits comes = admits
 allowed_as moment (event.Radio radio number ports) admits comes = admits
@@ -124,7 +130,8 @@ module _ (name : List ℕ) (some : Objects) where
       untouched_by moment.inputs (interface_named moment.inputs.conf name) moment.held (want_of moment.inputs) keeps.sound keeps.admits (λ o of. keeps.among o (own o of))
       (footprint_wanted moment.inputs name) (devices_of moment.inputs) calls are call member (subst (λ s. Has s (object_of call)) (sym keeps.same) h)
 
-  keeps_settled : (moment : Moment) (made rest : List Call) → Keeps name some moment → AreCalls (devices_of moment.inputs) moment.held (want_of moment.inputs) (made ++ rest) → Keeps name some (record moment { held = after_calls moment.held made })
+  keeps_settled : (moment : Moment) (made rest : List Call) → Keeps name some moment → AreCalls (devices_of moment.inputs) moment.held (want_of moment.inputs) (made ++ rest)
+      → Keeps name some (record moment { held = after_calls moment.held made })
   keeps_settled moment made rest keeps are =
       let wanted_allowed = inputs_allowed moment.inputs keeps.sound in
       record {
@@ -147,7 +154,8 @@ module _ (name : List ℕ) (some : Objects) where
         | inr later ↦ named_none (record m { held = after_calls m.held made }) more (keeps_settled m made rest keeps are) stretch call later h
       ]
 
-pub none_named : (moment : Moment) (name : List ℕ) (calls : List Call) → IsSound moment.inputs.conf → moment.held ≡ want_of moment.inputs → IsStretch name (footprint_named moment.inputs name) moment calls → (call : Call) → Contains calls call → Has (footprint_named moment.inputs name) (object_of call) → ⊥
+pub none_named : (moment : Moment) (name : List ℕ) (calls : List Call) → IsSound moment.inputs.conf → moment.held ≡ want_of moment.inputs → IsStretch name (footprint_named moment.inputs name) moment calls → (call : Call)
+    → Contains calls call → Has (footprint_named moment.inputs name) (object_of call) → ⊥
 none_named moment name calls sound settled stretch =
     named_none name (footprint_named moment.inputs name) moment calls (record {
       sound = sound;

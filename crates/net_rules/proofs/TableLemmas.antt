@@ -26,7 +26,8 @@ found_behind key [] ys name = refl
 found_behind key (x ∷ xs) ys name = ap (cond (bytes_eq (key x) name) (Some x)) (found_behind key xs ys name) ∙ first_step (bytes_eq (key x) name) x (found_in key xs name) (found_in key ys name)
 
 -- without those of a key
-without_step : {X : Type 0} (key : X → List ℕ) (gone q : List ℕ) (x : X) (xs : List X) (b : Bool) → bytes_eq (key x) gone ≡ b → found_in key (filter (λ y. not (bytes_eq (key y) gone)) xs) q ≡ cond (bytes_eq gone q) None (found_in key xs q) → found_in key (cond (not b) (x ∷ filter (λ y. not (bytes_eq (key y) gone)) xs) (filter (λ y. not (bytes_eq (key y) gone)) xs)) q ≡ cond (bytes_eq gone q) None (cond (bytes_eq (key x) q) (Some x) (found_in key xs q))
+without_step : {X : Type 0} (key : X → List ℕ) (gone q : List ℕ) (x : X) (xs : List X) (b : Bool) → bytes_eq (key x) gone ≡ b → found_in key (filter (λ y. not (bytes_eq (key y) gone)) xs) q ≡ cond (bytes_eq gone q) None (found_in key xs q)
+    → found_in key (cond (not b) (x ∷ filter (λ y. not (bytes_eq (key y) gone)) xs) (filter (λ y. not (bytes_eq (key y) gone)) xs)) q ≡ cond (bytes_eq gone q) None (cond (bytes_eq (key x) q) (Some x) (found_in key xs q))
 without_step key gone q x xs true is rest =
     let same : key x ≡ gone = bytes_same (key x) gone is in
     rest ∙ drops (bytes_eq gone q) x (found_in key xs q) ∙ ap (λ k. cond (bytes_eq gone q) None (cond (bytes_eq k q) (Some x) (found_in key xs q))) (sym same)
@@ -67,7 +68,8 @@ pub record IsFound {X : Type 0} (key : X → List ℕ) (xs : List X) (name : Lis
   pub member : Contains xs x
   pub same : key x ≡ name
 
-found_step : {X : Type 0} (key : X → List ℕ) (y : X) (ys : List X) (name : List ℕ) (x : X) (b : Bool) → bytes_eq (key y) name ≡ b → cond b (Some y) (found_in key ys name) ≡ Some x → (found_in key ys name ≡ Some x → IsFound key ys name x) → IsFound key (y ∷ ys) name x
+found_step : {X : Type 0} (key : X → List ℕ) (y : X) (ys : List X) (name : List ℕ) (x : X) (b : Bool) → bytes_eq (key y) name ≡ b → cond b (Some y) (found_in key ys name) ≡ Some x → (found_in key ys name ≡ Some x → IsFound key ys name x)
+    → IsFound key (y ∷ ys) name x
 found_step key y ys name x true is h rest = let same : y ≡ x = cc h in subst (IsFound key (y ∷ ys) name) same (record { member = here y ys; same = bytes_same (key y) name is })
 found_step key y ys name x false is h rest = let later = rest h in record { member = there y ys x later.member; same = later.same }
 

@@ -53,7 +53,8 @@ abbrev number : OpenInterface → ℕ
 number o = o.number
 
 -- asks of which some are left, and others opened
-module _ (os new : List OpenInterface) (rs : List ℕ) (next : ℕ) (p : OpenInterface → Bool) (rising : AreRising 1 next (map number os)) (apart : (n : ℕ) → Contains (map number os) n → Contains rs n → ⊥) (above : (o : OpenInterface) → Contains new o → next ≤ o.number) where
+module _ (os new : List OpenInterface) (rs : List ℕ) (next : ℕ) (p : OpenInterface → Bool) (rising : AreRising 1 next (map number os)) (apart : (n : ℕ) → Contains (map number os) n → Contains rs n → ⊥)
+    (above : (o : OpenInterface) → Contains new o → next ≤ o.number) where
   abbrev current : List ℕ
   current = map number (filter p os ++ new) ++ rs
 
@@ -139,7 +140,8 @@ module _ (before now : Inputs) (touched : List ℕ → Bool) (reached : IsReache
   opened_new = opened_above now.next (touched_asks now touched left)
 
   lost_named : map (λ o. o.number) (filter (λ o. not (is_left o)) now.interfaces) ≡ lost_numbers (facts_of now) touched now.interfaces
-  lost_named = ap (map (λ o. o.number)) (filter_alike (λ (o : OpenInterface). not (is_left o)) (λ (o : OpenInterface). touched o.ask.name && not (is_needed (facts_of now) o)) now.interfaces (λ o h. negated (touched o.ask.name) (is_needed (facts_of now) o)))
+  lost_named = ap (map (λ o. o.number)) (filter_alike (λ (o : OpenInterface). not (is_left o)) (λ (o : OpenInterface). touched o.ask.name && not (is_needed (facts_of now) o)) now.interfaces
+      (λ o h. negated (touched o.ask.name) (is_needed (facts_of now) o)))
 
   lost_told : ordered nat_cmp (filter (λ n. not (list_any (λ m. m == n) (numbers_of asked_now))) (numbers_of before)) ≡ lost_numbers (facts_of now) touched now.interfaces
   lost_told =

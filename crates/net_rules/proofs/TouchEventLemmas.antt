@@ -105,7 +105,8 @@ module _ (inputs : Inputs) (interface : List ℕ) (up : Bool) where
   unfolding available link
   row_need row other = ap (λ (command : Option Bool). cond (need_by row command && not (asks_nothing row.proto)) (Some (interface_ask (facts_of inputs) row)) None) (command_found row.name other)
 
-  found_need : (name : List ℕ) → bytes_eq name interface ≡ false → (found : Option InterfaceRow) → interface_named inputs.conf name ≡ found → option_and_then (interface_need (facts_of commanded)) found ≡ option_and_then (interface_need (facts_of inputs)) found
+  found_need : (name : List ℕ) → bytes_eq name interface ≡ false → (found : Option InterfaceRow) → interface_named inputs.conf name ≡ found → option_and_then (interface_need (facts_of commanded)) found
+      ≡ option_and_then (interface_need (facts_of inputs)) found
   found_need name off None is = refl
   found_need name off (Some row) is = row_need row (λ same.
       let at = (found_member (λ (r : InterfaceRow). r.name) inputs.conf.interfaces name row is).same in
@@ -141,8 +142,10 @@ module _ (inputs : Inputs) (interface : List ℕ) (number : ℕ) (answer : Answe
 
   none_told : notices_between inputs answered ≡ []
   none_told =
-      ap (λ ns. map notice.Dropped (ordered nat_cmp (filter (λ n. not (list_any (λ m. m == n) (numbers_of answered))) ns)) ++ (map (interface_notice inputs.conf) (filter (λ o. nat_le inputs.next o.number) answered.interfaces) ++ map (radio_notice inputs.conf) (filter (λ o. nat_le inputs.next o.number) inputs.radios))) all_same
-      ∙ ap (λ ns. map notice.Dropped (ordered nat_cmp ns) ++ (map (interface_notice inputs.conf) (filter (λ o. nat_le inputs.next o.number) answered.interfaces) ++ map (radio_notice inputs.conf) (filter (λ o. nat_le inputs.next o.number) inputs.radios))) (none_lost (numbers_of answered) (numbers_of answered) (λ n h. h))
+      ap (λ ns. map notice.Dropped (ordered nat_cmp (filter (λ n. not (list_any (λ m. m == n) (numbers_of answered))) ns))
+      ++ (map (interface_notice inputs.conf) (filter (λ o. nat_le inputs.next o.number) answered.interfaces) ++ map (radio_notice inputs.conf) (filter (λ o. nat_le inputs.next o.number) inputs.radios))) all_same
+      ∙ ap (λ ns. map notice.Dropped (ordered nat_cmp ns) ++ (map (interface_notice inputs.conf) (filter (λ o. nat_le inputs.next o.number) answered.interfaces)
+      ++ map (radio_notice inputs.conf) (filter (λ o. nat_le inputs.next o.number) inputs.radios))) (none_lost (numbers_of answered) (numbers_of answered) (λ n h. h))
       ∙ ap (λ os. map (interface_notice inputs.conf) os ++ map (radio_notice inputs.conf) (filter (λ o. nat_le inputs.next o.number) inputs.radios))
       (none_new (λ o. o.number) inputs.next 1 answered.interfaces (subst (AreRising 1 inputs.next) (sym numbers_same) (reached_numbered inputs reached).interfaces))
       ∙ ap (λ os. map (radio_notice inputs.conf) os) (none_new (λ o. o.number) inputs.next 1 inputs.radios (reached_numbered inputs reached).radios)

@@ -157,7 +157,8 @@ module _ (facts : Facts) (sound : IsSound facts.conf) where
       let w : IsWantedMaster facts e.port bridge = record { ports = ports; bridge_used = b; own = subst (Contains ports) (bytes_same found.passing e.port found.passes) found.member; port_used = counts.0 } in
       subst (IsWanted facts) from.same (IsWantedPortVlan.entry row e set (within_filter (entry_counts facts ports) row.entries e from.member) w)
 
-  of_local : (bridge : List ℕ) (ports : List (List ℕ)) (row : VlanRow) → IsUsedBridge facts bridge ports → IsSetOn facts bridge row → (local : Bool) → row.local ≡ local → (o : Object) → Contains (local_vlan bridge row.id local) o → IsWanted facts o
+  of_local : (bridge : List ℕ) (ports : List (List ℕ)) (row : VlanRow) → IsUsedBridge facts bridge ports → IsSetOn facts bridge row → (local : Bool) → row.local ≡ local → (o : Object) → Contains (local_vlan bridge row.id local) o
+      → IsWanted facts o
   of_local bridge ports row b set false is o h = absurd (none_in_nil o h)
   of_local bridge ports row b set true is o h = subst (IsWanted facts) (only (object.Vlan bridge bridge row.id false false) o h) (IsWantedPortVlan.itself row ports set is b)
 

@@ -1,6 +1,7 @@
 -- What an event makes of the inputs, in four steps: one field changes; radios lose their asks;
 -- interfaces lose theirs; and new asks get numbers.
-use Rattle.std.specs.Prelude.{ℕ, ◌+◌, List, [], ◌∷◌, ◌++◌, map, filter, length, Bool, false, not, ◌&&◌, Option, Some, None, is_some, is_none, if◌then◌else◌, bytes_eq, ◌==◌}
+use Rattle.std.specs.Prelude.{ℕ, ◌+◌, List, [], ◌∷◌, ◌++◌, map, filter, length, Bool, false, not, ◌&&◌, Option, Some}
+use Rattle.std.specs.Prelude.{None, is_some, is_none, if◌then◌else◌, bytes_eq, ◌==◌}
 use Rattle.std.specs.List.{filter_map}
 use Rattle.std.specs.Option.{option_and_then}
 use Rattle.kern_model.specs.declared.object.Device.{Device}

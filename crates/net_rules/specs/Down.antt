@@ -1,5 +1,6 @@
 -- Where VLANs lead down to, whether a fault breaks them or not.
-use Rattle.std.specs.Prelude.{ℕ, zero, suc, ◌≡◌, List, [], ◌∷◌, length, Bool, Option, Some, None, if◌then◌else◌, bytes_eq}
+use Rattle.std.specs.Prelude.{ℕ, zero, suc, ◌≡◌, List, [], ◌∷◌, length, Bool, Option, Some, None, if◌then◌else◌}
+use Rattle.std.specs.Prelude.{bytes_eq}
 use Rattle.std.specs.List.{flat_map, filter_map}
 use Rattle.kern_model.specs.Standing.{Step, lead_up}
 use Rattle.net_rows.specs.Dotted.{vlan_parts}

@@ -1,6 +1,7 @@
 -- The ports of radios, which handlers tell: the bridges that they join, and the interfaces of which
 -- they are the device.
-use Rattle.std.specs.Prelude.{ℕ, List, [], map, filter, not, ◌&&◌, Option, Some, None, if◌then◌else◌, unwrap_or, bytes_eq}
+use Rattle.std.specs.Prelude.{ℕ, List, [], map, filter, not, ◌&&◌, Option, Some, None, if◌then◌else◌, unwrap_or}
+use Rattle.std.specs.Prelude.{bytes_eq}
 use Rattle.std.specs.List.{filter_map, flat_map, zip, find}
 use Rattle.std.specs.Option.{option_map, option_and_then}
 use Rattle.net_rows.specs.declared.rows.InterfaceRow.{InterfaceRow}

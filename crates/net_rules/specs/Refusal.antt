@@ -1,5 +1,6 @@
 -- Which events are refused for what the inputs are, and what the others come to.
-use Rattle.std.specs.Prelude.{ℕ, List, length, Bool, true, false, not, ◌||◌, Option, Some, None, is_some, is_none, nat_lt, nat_le, ◌==◌}
+use Rattle.std.specs.Prelude.{ℕ, List, length, Bool, true, false, not, ◌||◌, Option, Some, None, is_some, is_none}
+use Rattle.std.specs.Prelude.{nat_lt, nat_le, ◌==◌}
 use Rattle.std.specs.FinSet as set
 use Rattle.std.specs.List.{list_any}
 use Rattle.std.specs.Option.{option_map_or}

@@ -1,5 +1,6 @@
 -- What a network wants of the kernel.
-use Rattle.std.specs.Prelude.{ℕ, List, [], ◌∷◌, ◌++◌, map, filter, replicate, Bool, true, false, not, ◌&&◌, Option, Some, None, if◌then◌else◌, bytes_eq}
+use Rattle.std.specs.Prelude.{ℕ, List, [], ◌∷◌, ◌++◌, map, filter, replicate, Bool, true, false, not, ◌&&◌, Option}
+use Rattle.std.specs.Prelude.{Some, None, if◌then◌else◌, bytes_eq}
 use Rattle.std.specs.List.{flat_map, filter_map, list_any}
 use Rattle.net_addr.specs.declared.address.Addr.{Addr}
 use Rattle.net_addr.specs.declared.address.Addr.TheVariants as family
@@ -16,7 +17,8 @@ use Rattle.net_rows.specs.declared.rows.VlanEntry.{VlanEntry}
 use Rattle.net_rules.specs.declared.answer.Answer.{Answer}
 use Rattle.net_rules.specs.Facts.{Facts}
 use Rattle.net_rules.specs.Firsts.{firsts}
-use Rattle.net_rules.specs.Rows.{row_at, names_of, interfaces_of, vlans_of, is_filtering, is_faultless, is_static, is_place_of}
+use Rattle.net_rules.specs.Rows.{row_at, names_of, interfaces_of, vlans_of, is_filtering, is_faultless, is_static}
+use Rattle.net_rules.specs.Rows.{is_place_of}
 use Rattle.net_rules.specs.RadioPorts.{device_of, radio_ports}
 use Rattle.net_rules.specs.Standing.{Standing, Broken, Alone, Over, Ports, standing_at}
 use Rattle.net_rules.specs.Interfaces.{is_up, layer_of, answer_of}

@@ -1,5 +1,6 @@
 // Laws of the definitions. Each body is empty, and the contract is the law.
-ghost use Rattle.std.specs.Prelude.{◌≡◌, ◌↔◌, ◌++◌, [], ℕ, List, Bool, false, map, Contains, bytes_eq};
+ghost use Rattle.std.specs.Prelude.{◌≡◌, ◌↔◌, ◌++◌, [], ℕ, List, Bool, false, map, Contains};
+ghost use Rattle.std.specs.Prelude.{bytes_eq};
 ghost use Rattle.kern_model.specs.declared.object.DevEvent.{DevEvent};
 ghost use Rattle.net_rows.specs.declared.rows.InterfaceRow.{InterfaceRow};
 ghost use Rattle.net_rules.specs.declared.answer.Answer.{Answer};
@@ -19,10 +20,12 @@ ghost use Rattle.net_rules.specs.Notices.{interface_notice, notices_between, not
 ghost use Rattle.net_rules.specs.Fresh.{IsReached};
 ghost use Rattle.net_rules.specs.Reach.{name_of};
 ghost use Rattle.net_rules.specs.Above.{IsAbove, IsOffBase, DiffersAt};
-ghost use Rattle.net_rules.specs.Touched.{HasSameAsks, NeedsStay, left_asks, lost_numbers, touched_asks, asked_of};
+ghost use Rattle.net_rules.specs.Touched.{HasSameAsks, NeedsStay, left_asks, lost_numbers};
+ghost use Rattle.net_rules.specs.Touched.{touched_asks, asked_of};
 
-/// Where rows, open asks and the needs of interfaces that are not touched stay, the asks of touched interfaces alone follow their needs.
-/// What is told then is which of them were lost and which were opened, and the asks of all other interfaces stay with their answers.
+/// Where rows, open asks and the needs of interfaces that are not touched stay, the asks of touched
+/// interfaces alone follow their needs. What is told then is which of them were lost and which were
+/// opened, and the asks of all other interfaces stay with their answers.
 pub fn asks_follow_touched_needs()
     ensures asked { (before now : Inputs) (touched : List ℕ → Bool) → IsReached before
         → HasSameAsks before now → NeedsStay (facts_of before) (facts_of now) touched
@@ -37,8 +40,9 @@ pub fn asks_follow_touched_needs()
         ≡ open_interface inputs.interfaces name }
 {}
 
-/// What happens to a device leaves alone what stands on what, the names that are not above it, the needs and claims of interfaces on
-/// these, and what they give. Where each interface that is not touched is on such a name, or on none, the needs of these stay.
+/// What happens to a device leaves alone what stands on what, the names that are not above it, the
+/// needs and claims of interfaces on these, and what they give. Where each interface that is not
+/// touched is on such a name, or on none, the needs of these stay.
 pub fn devices_touch_what_is_above()
     ensures event { (inputs : Inputs) (what : DevEvent) → DiffersAt (name_of what)
         (facts_of inputs) (facts_of (changed inputs (event.Device what))) }
@@ -64,7 +68,8 @@ pub fn devices_touch_what_is_above()
         → IsOffBase before base (device_of before row)) → NeedsStay before now touched }
 {}
 
-/// A command touches the interface that it names. An answer touches no ask, and nothing is told of it.
+/// A command touches the interface that it names. An answer touches no ask, and nothing is told of
+/// it.
 pub fn commands_and_answers_touch_one()
     ensures command { (inputs : Inputs) (interface : List ℕ) (up : Bool) → NeedsStay
         (facts_of inputs) (facts_of (changed inputs (event.Operator interface up)))

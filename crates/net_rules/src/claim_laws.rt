@@ -1,5 +1,6 @@
 // Laws of the definitions. Each body is empty, and the contract is the law.
-ghost use Rattle.std.specs.Prelude.{◌≡◌, ◌≤◌, ◌<◌, ◌+◌, ℕ, List, Option, Some, filter, length, slice_get, slice_set, true};
+ghost use Rattle.std.specs.Prelude.{◌≡◌, ◌≤◌, ◌<◌, ◌+◌, ℕ, List, Option, Some, filter, length};
+ghost use Rattle.std.specs.Prelude.{slice_get, slice_set, true};
 ghost use Rattle.net_rows.specs.declared.rows.InterfaceRow.{InterfaceRow};
 ghost use Rattle.net_rules.specs.declared.answer.Answer.{Answer};
 ghost use Rattle.net_rules.specs.Facts.{Facts};
@@ -12,8 +13,9 @@ ghost use Rattle.net_rules.specs.declared.state.InterfaceState.{InterfaceState};
 ghost use Rattle.net_rules.specs.Claims.{uses_by, claim_of, claims_of};
 ghost use Rattle.net_rules.specs.States.{IsStateOf, AreStates};
 
-/// The claims that are counted over what interfaces are by facts are the interfaces that use a name. Where one interface becomes
-/// another, those that use the name before and after move by one. There are no more than interfaces, and one where one uses the name.
+/// The claims that are counted over what interfaces are by facts are the interfaces that use a
+/// name. Where one interface becomes another, those that use the name before and after move by one.
+/// There are no more than interfaces, and one where one uses the name.
 pub fn claims_are_counted()
     ensures users { (facts : Facts) (states : List InterfaceState)
         → AreStates facts facts.conf.interfaces states → (name : List ℕ)
@@ -35,7 +37,8 @@ pub fn used_names_are_available()
         → (name : List ℕ) → uses_by name st ≡ true → available facts name ≡ true }
 {}
 
-/// Other answers change nothing of an interface that has the same answer, and never its device, nor whether it is claimed and ready.
+/// Other answers change nothing of an interface that has the same answer, and never its device, nor
+/// whether it is claimed and ready.
 pub fn answers_touch_one()
     ensures device { (facts : Facts) (answer : List ℕ → Option Answer) (row : InterfaceRow)
         → device_of (record facts { answer = answer }) row ≡ device_of facts row }

@@ -19,7 +19,8 @@ pub struct OpenInterface {
     pub answer: Option<Answer>,
 }
 
-/// An open ask of a radio, with its latest answer: for each of its rows the port, where there is one.
+/// An open ask of a radio, with its latest answer: for each of its rows the port, where there is
+/// one.
 #[derive(Drop)]
 pub struct OpenRadio {
     pub number: u64,
@@ -39,6 +40,7 @@ pub struct Inputs {
     pub interfaces: Items<OpenInterface>,
     /// By rising number.
     pub radios: Items<OpenRadio>,
-    /// The number of the next ask, from 1. The definitions count without end; `AreCountable` is the premise that it is below 2^63.
+    /// The number of the next ask, from 1. The definitions count without end; `AreCountable` is the
+    /// premise that it is below 2^63.
     pub next: u64,
 }

@@ -1,5 +1,6 @@
 // Laws of the definitions. Each body is empty, and the contract is the law.
-ghost use Rattle.std.specs.Prelude.{◌≡◌, ◌↔◌, ℕ, List, length, Bool, Option, Some, None, Contains, true, ◌+◌, ◌<◌, ◌≤◌};
+ghost use Rattle.std.specs.Prelude.{◌≡◌, ◌↔◌, ℕ, List, length, Bool, Option, Some, None, Contains};
+ghost use Rattle.std.specs.Prelude.{true, ◌+◌, ◌<◌, ◌≤◌};
 ghost use Rattle.std.specs.FinMap as map;
 ghost use Rattle.kern_model.specs.declared.object.Object.{Object};
 ghost use Rattle.kern_model.specs.declared.object.Call.{Call};
@@ -35,7 +36,8 @@ ghost use Rattle.net_rules.specs.Moment.{Moment, devices_of, want_of, footprint_
 ghost use Rattle.net_rules.specs.Refusal.{refusal, moved};
 ghost use Rattle.net_rules.specs.Moment.{AreWithin, IsStretch, IsHistory, IsOrderly};
 
-/// Over sound rows eight levels are enough: a name is available, has link and is used as what is below and above it says.
+/// Over sound rows eight levels are enough: a name is available, has link and is used as what is
+/// below and above it says.
 pub fn answers_follow_the_rows()
     ensures available { (facts : Facts) → IsSound facts.conf
         → (name : List ℕ) → available facts name ≡ opens_at facts (available facts) name }
@@ -45,8 +47,8 @@ pub fn answers_follow_the_rows()
         → (name : List ℕ) → used facts name ≡ serves_at facts (used facts) name }
 {}
 
-/// Nothing else answers so: what follows the rows among names that have with each one those below it, or those above it, gives there
-/// the same answers.
+/// Nothing else answers so: what follows the rows among names that have with each one those below
+/// it, or those above it, gives there the same answers.
 pub fn no_other_answers_follow_the_rows()
     ensures available { (facts : Facts) → IsSound facts.conf → (among : List ℕ → Bool)
         (answer : List ℕ → Bool) → AreClosedDown facts among
@@ -74,7 +76,8 @@ pub fn objects_are_wanted()
         → (o : Object) → Has (want facts) o ↔ IsWanted facts o }
 {}
 
-/// What sound rows want is allowed by the kernel beside the present devices, whatever commands and answers there are.
+/// What sound rows want is allowed by the kernel beside the present devices, whatever commands and
+/// answers there are.
 pub fn want_is_allowed()
     ensures { (facts : Facts) (devices : Devices) → IsSound facts.conf
         → ((name : List ℕ) → facts.device name ≡ map.get devices name)
@@ -93,15 +96,17 @@ pub fn inputs_want_what_is_allowed()
         → AreAllowed (devices_of inputs) (want_of inputs) }
 {}
 
-/// What the handler of an interface is asked depends on no answer of a handler of an interface. What that of a radio is asked depends
-/// on its row alone, since `radio_need` is given nothing else.
+/// What the handler of an interface is asked depends on no answer of a handler of an interface.
+/// What that of a radio is asked depends on its row alone, since `radio_need` is given nothing
+/// else.
 pub fn no_answer_changes_a_need()
     ensures { (facts : Facts) (answer : List ℕ → Option Answer) (row : InterfaceRow)
         → interface_need (record facts { answer = answer }) row ≡ interface_need facts row }
 {}
 
-/// Whatever events come and wherever settlings stop, what is held and what is wanted is allowed by the kernel. Each call of a settling
-/// is admitted in its turn, and behind all of them the kernel holds exactly what is wanted, which is what a fresh start wants.
+/// Whatever events come and wherever settlings stop, what is held and what is wanted is allowed by
+/// the kernel. Each call of a settling is admitted in its turn, and behind all of them the kernel
+/// holds exactly what is wanted, which is what a fresh start wants.
 pub fn every_history_is_orderly()
     ensures kept { (moment : Moment) → IsHistory moment → IsOrderly moment }
     ensures admitted { (moment : Moment) (calls : List Call) → IsHistory moment
@@ -115,14 +120,15 @@ pub fn every_history_is_orderly()
         → after_calls moment.held calls ≡ want_of (fresh_start moment.inputs) }
 {}
 
-/// VLANs lead from a name down to a base exactly where the test of it says so, however long their chain is.
+/// VLANs lead from a name down to a base exactly where the test of it says so, however long their
+/// chain is.
 pub fn what_vlans_lead_to_is_tested()
     ensures { (rows : List NameRow) (name base : List ℕ)
         → (leads_down rows name base ≡ true) ↔ LeadsDown rows base name }
 {}
 
-/// A device event that is not refused may happen to the kernel. So every event leads from a history to a history, refused or not, as long
-/// as loaded rows are sound.
+/// A device event that is not refused may happen to the kernel. So every event leads from a history
+/// to a history, refused or not, as long as loaded rows are sound.
 pub fn events_that_are_not_refused_may_come()
     ensures device { (moment : Moment) (what : DevEvent)
         → refusal moment (event.Device what) ≡ None
@@ -138,8 +144,9 @@ pub fn footprints_are_what_is_below()
         → Has (footprint facts row) o ↔ (Has (want facts) o × IsOf facts row o) }
 {}
 
-/// Where an allowed set of held objects and a wanted one both have the footprint of an interface, no call between them names an object
-/// of it. The held ones need not have been wanted as a whole: a settling may have stopped.
+/// Where an allowed set of held objects and a wanted one both have the footprint of an interface,
+/// no call between them names an object of it. The held ones need not have been wanted as a whole:
+/// a settling may have stopped.
 pub fn footprint_is_not_touched()
     ensures { (facts : Facts) (devices : Devices) (row : InterfaceRow) (held wanted : Objects)
         → IsSound facts.conf → ((name : List ℕ) → facts.device name ≡ map.get devices name)
@@ -149,7 +156,8 @@ pub fn footprint_is_not_touched()
         → Has (footprint facts row) (object_of call) → ⊥ }
 {}
 
-/// A footprint that is the same in what two inputs want is named by no call from the one to the other.
+/// A footprint that is the same in what two inputs want is named by no call from the one to the
+/// other.
 pub fn same_footprint_is_not_touched()
     ensures { (before now : Inputs) (name : List ℕ) (devices : Devices) (calls : List Call)
         → IsSound before.conf → footprint_named before name ≡ footprint_named now name
@@ -157,8 +165,8 @@ pub fn same_footprint_is_not_touched()
         → Contains calls call → Has (footprint_named before name) (object_of call) → ⊥ }
 {}
 
-/// From a settled moment on, no call of a stretch over which the footprint of an interface stayed names an object of it, whatever
-/// events come and wherever settlings stop.
+/// From a settled moment on, no call of a stretch over which the footprint of an interface stayed
+/// names an object of it, whatever events come and wherever settlings stop.
 pub fn no_call_names_what_stayed()
     ensures { (moment : Moment) (name : List ℕ) (calls : List Call)
         → IsSound moment.inputs.conf → moment.held ≡ want_of moment.inputs
@@ -166,14 +174,14 @@ pub fn no_call_names_what_stayed()
         → Contains calls call → Has (footprint_named moment.inputs name) (object_of call) → ⊥ }
 {}
 
-/// Whatever events come, behind each one every interface and every radio has an open ask exactly where it has a need, and that ask is
-/// its need.
+/// Whatever events come, behind each one every interface and every radio has an open ask exactly
+/// where it has a need, and that ask is its need.
 pub fn asks_are_the_needs()
     ensures { (inputs : Inputs) → IsReached inputs → AreAsked inputs }
 {}
 
-/// Each open ask has a number of its own below the next one, which never falls: no number is given twice. An event raises it by one at
-/// most for each interface and each radio of the rows.
+/// Each open ask has a number of its own below the next one, which never falls: no number is given
+/// twice. An event raises it by one at most for each interface and each radio of the rows.
 pub fn no_number_is_given_twice()
     ensures numbered { (inputs : Inputs) → IsReached inputs → AreNumbered inputs }
     ensures rises { (inputs : Inputs) (event : Event) → inputs.next ≤ (after inputs event).next }
@@ -194,8 +202,9 @@ pub fn stale_answers_change_nothing()
         → after inputs (event.Radio radio number ports) ≡ inputs }
 {}
 
-/// A fresh start comes to the same facts, and so wants the same: from nothing each present device comes, the rows are loaded, each last
-/// command is given, then the latest answers of radios, and then those of interfaces, to the asks that are open by then.
+/// A fresh start comes to the same facts, and so wants the same: from nothing each present device
+/// comes, the rows are loaded, each last command is given, then the latest answers of radios, and
+/// then those of interfaces, to the asks that are open by then.
 pub fn a_fresh_start_wants_the_same()
     ensures facts { (inputs : Inputs) → IsReached inputs
         → facts_of (fresh_start inputs) ≡ facts_of inputs }

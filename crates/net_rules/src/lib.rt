@@ -1,5 +1,5 @@
-//! What a network wants of the kernel, as definitions over its rows, with their laws: which names rows reach, which interfaces an event
-//! touches, and the claims of names, counted over interfaces.
+//! What a network wants of the kernel, as definitions over its rows, with their laws: which names
+//! rows reach, which interfaces an event touches, and the claims of names, counted over interfaces.
 #![tactic(auto)]
 
 mod answer;

@@ -16,8 +16,8 @@ pub fn known_names_are_reached()
         → Contains (reached_names inputs) name }
 {}
 
-/// What happens to a device whose name no row reaches changes the present devices alone: what is wanted stays, and there is nothing to
-/// tell.
+/// What happens to a device whose name no row reaches changes the present devices alone: what is
+/// wanted stays, and there is nothing to tell.
 pub fn devices_apart_change_nothing_else()
     ensures inputs { (moment : Moment) (what : DevEvent) → IsHistory moment
         → is_reached moment.inputs (name_of what) ≡ false

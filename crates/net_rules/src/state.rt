@@ -7,7 +7,8 @@ use kern_model::DevName;
 /// What an interface is, as of the last look.
 #[derive(Clone, Copy)]
 pub struct InterfaceState {
-    /// Whether its row is the first of its name. Another row is neither claimed nor up, and has no ask.
+    /// Whether its row is the first of its name. Another row is neither claimed nor up, and has no
+    /// ask.
     pub is_first: bool,
     pub device: Option<DevName>,
     /// Its layer-3 device.

@@ -61,7 +61,8 @@ module _ (calls rest : List Call) (call : Call) (before between after : Outside)
   asked_more s asked = subst (Records before.asked after.asked) (sym (done_one_more s.settled.made call)) (records_more before.asked between.asked after.asked (map done_call s.settled.made) (done_call call ∷ []) s.asked asked)
 
   -- the next call was made, and its line written
-  pub settled_more : SettledAlone calls (call ∷ rest) before between → after.objects ≡ after_call between.objects call → Grows between.calls after.calls (call ∷ []) → Records between.asked after.asked (done_call call ∷ []) → Grows between.out after.out (whole_line call) → SettledAlone calls rest before after
+  pub settled_more : SettledAlone calls (call ∷ rest) before between → after.objects ≡ after_call between.objects call → Grows between.calls after.calls (call ∷ []) → Records between.asked after.asked (done_call call ∷ [])
+      → Grows between.out after.out (whole_line call) → SettledAlone calls rest before after
   settled_more s did logged asked written = record {
     settled = record {
       made = s.settled.made ++ call ∷ [];
@@ -73,7 +74,8 @@ module _ (calls rest : List Call) (call : Call) (before between after : Outside)
   }
 
   -- it was made, and its line not written
-  pub stops_at_line : SettledAlone calls (call ∷ rest) before between → after.objects ≡ after_call between.objects call → Grows between.calls after.calls (call ∷ []) → Records between.asked after.asked (done_call call ∷ []) → GrowsByFront between.out after.out (whole_line call) → Rose before.out_faults after.out_faults → StopsAtLine calls rest before after
+  pub stops_at_line : SettledAlone calls (call ∷ rest) before between → after.objects ≡ after_call between.objects call → Grows between.calls after.calls (call ∷ []) → Records between.asked after.asked (done_call call ∷ [])
+      → GrowsByFront between.out after.out (whole_line call) → Rose before.out_faults after.out_faults → StopsAtLine calls rest before after
   stops_at_line s did logged asked written rose = record {
     earlier = s.settled.made;
     last = call;
@@ -88,7 +90,8 @@ module _ (calls rest : List Call) (call : Call) (before between after : Outside)
   }
 
   -- it failed
-  pub stops_at_call : SettledAlone calls (call ∷ rest) before between → after.objects ≡ between.objects → after.calls ≡ between.calls → after.out ≡ between.out → Records between.asked after.asked (failed_call call ∷ []) → Rose before.kernel_faults after.kernel_faults → StopsAtCall calls (call ∷ rest) before after
+  pub stops_at_call : SettledAlone calls (call ∷ rest) before between → after.objects ≡ between.objects → after.calls ≡ between.calls → after.out ≡ between.out → Records between.asked after.asked (failed_call call ∷ [])
+      → Rose before.kernel_faults after.kernel_faults → StopsAtCall calls (call ∷ rest) before after
   stops_at_call s held logged out asked rose = record {
     failed = call;
     others = rest;

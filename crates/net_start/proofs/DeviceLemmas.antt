@@ -1,5 +1,6 @@
 -- Devices that come one after the other.
-use Rattle.std.proofs.Common.{arith, ℕ, zero, suc, ◌≡◌, ◌≢◌, ◌<◌, ◌≤◌, ◌+◌, ◌⊎◌, inl, inr, List, [], ◌∷◌, ◌++◌, take, drop, length, get_or, true, false, Bool, Option, Some, map as mapped, refl, ap, sym, subst, ◌∙◌, Contains, cond, filter, add-zero, append-nil, length-append}
+use Rattle.std.proofs.Common.{arith, ℕ, zero, suc, ◌≡◌, ◌≢◌, ◌<◌, ◌≤◌, ◌+◌, ◌⊎◌, inl, inr, List, [], ◌∷◌, ◌++◌, take, drop, length, get_or, true, false, Bool, Option, Some, map as mapped, refl, ap, sym, subst, ◌∙◌, Contains, cond, filter}
+use Rattle.std.proofs.Common.{add-zero, append-nil, length-append}
 use Rattle.std.specs.Prelude.{◌||◌, not, is_some}
 use Rattle.std.proofs.lemmas.List.{take_more, take-append-drop}
 use Rattle.std.specs.Ordering.{nat_cmp, eq_by_cmp, is_eq}
@@ -96,7 +97,8 @@ map_one_more : {X Y : Type 0} (f : X → Y) → (xs : List X) (x : X) → mapped
 map_one_more f [] x = refl
 map_one_more f (y ∷ ys) x = ap (λ zs. f y ∷ zs) (map_one_more f ys x)
 
-additions_more : (names : List (List ℕ)) (name : List ℕ) (before after : Devices) (done : Bool) → ((q : List ℕ) → Contains names q → is_present after q ≡ is_present before q) → is_present after name ≡ done → additions after (names ++ name ∷ []) ≡ additions before names ++ asked.Event (comes name) done ∷ []
+additions_more : (names : List (List ℕ)) (name : List ℕ) (before after : Devices) (done : Bool) → ((q : List ℕ) → Contains names q → is_present after q ≡ is_present before q) → is_present after name ≡ done
+    → additions after (names ++ name ∷ []) ≡ additions before names ++ asked.Event (comes name) done ∷ []
 additions_more names name before after done same is =
     map_one_more (λ n. asked.Event (comes n) (is_present after n)) names name
     ∙ ap (λ b. additions after names ++ asked.Event (comes name) b ∷ []) is
@@ -107,7 +109,8 @@ pub came_none : (devices : Devices) (faults : ℕ) → devices ≡ map.empty →
 came_none devices faults bare = record { present = bare; absent = omega arith }
 
 -- of the names and one more that came those are present, and this one
-pub present_more : (names : List (List ℕ)) (name : List ℕ) (devices devices' : Devices) → is_present devices' name ≡ true → ((q : List ℕ) → Contains names q → is_present devices' q ≡ is_present devices q) → present_of devices' (names ++ name ∷ []) ≡ present_of devices names ++ name ∷ []
+pub present_more : (names : List (List ℕ)) (name : List ℕ) (devices devices' : Devices) → is_present devices' name ≡ true → ((q : List ℕ) → Contains names q → is_present devices' q ≡ is_present devices q)
+    → present_of devices' (names ++ name ∷ []) ≡ present_of devices names ++ name ∷ []
 present_more names name devices devices' is same =
     filter-append (is_present devices') names (name ∷ []) ∙ ap (λ b. filter (is_present devices') names ++ cond b (name ∷ []) []) is ∙ ap (λ xs. xs ++ name ∷ []) (filter_agrees (is_present devices') (is_present devices) names same)
 
@@ -121,19 +124,22 @@ pub came_later : (names : List (List ℕ)) (devices : Devices) (before between n
 came_later names devices before between now later came = record { present = came.present; absent = let risen = came.absent in omega arith }
 
 -- one more device came
-pub came_more : (names : List (List ℕ)) (name : List ℕ) (devices devices' : Devices) (before between now : ℕ) → (Contains names name → ⊥) → is_present devices' name ≡ true → ((q : List ℕ) → Contains names q → is_present devices' q ≡ is_present devices q) → devices' ≡ after_event devices (comes name) → between ≤ now → Came names devices before between → Came (names ++ name ∷ []) devices' before now
+pub came_more : (names : List (List ℕ)) (name : List ℕ) (devices devices' : Devices) (before between now : ℕ) → (Contains names name → ⊥) → is_present devices' name ≡ true
+    → ((q : List ℕ) → Contains names q → is_present devices' q ≡ is_present devices q) → devices' ≡ after_event devices (comes name) → between ≤ now → Came names devices before between → Came (names ++ name ∷ []) devices' before now
 came_more names name devices devices' before between now new is same did later came =
     let one : filter (is_present devices') (names ++ name ∷ []) ≡ filter (is_present devices) names ++ name ∷ [] =
     filter-append (is_present devices') names (name ∷ []) ∙ ap (λ b. filter (is_present devices') names ++ cond b (name ∷ []) []) is ∙ ap (λ xs. xs ++ name ∷ []) (filter_agrees (is_present devices') (is_present devices) names same) in
     let count : absent_count devices' (names ++ name ∷ []) ≡ absent_count devices names =
-    count_one_more (λ n. not (is_present devices' n)) names name ∙ ap (λ b. absent_count devices' names + cond (not b) 1 0) is ∙ add-zero (absent_count devices' names) ∙ count_agrees (λ n. not (is_present devices' n)) (λ n. not (is_present devices n)) names (λ q m. ap not (same q m)) in
+    count_one_more (λ n. not (is_present devices' n)) names name ∙ ap (λ b. absent_count devices' names + cond (not b) 1 0) is ∙ add-zero (absent_count devices' names)
+    ∙ count_agrees (λ n. not (is_present devices' n)) (λ n. not (is_present devices n)) names (λ q m. ap not (same q m)) in
     record {
       present = did ∙ ap (λ d. after_event d (comes name)) came.present ∙ sym (with_one_more map.empty (filter (is_present devices) names) name) ∙ ap (with_devices map.empty) (sym one);
       absent = let risen = came.absent in omega arith;
     }
 
 -- one more device did not come
-pub came_not : (names : List (List ℕ)) (name : List ℕ) (devices devices' : Devices) (before between now : ℕ) → is_present devices name ≡ false → devices' ≡ devices → Rose between now → Came names devices before between → Came (names ++ name ∷ []) devices' before now
+pub came_not : (names : List (List ℕ)) (name : List ℕ) (devices devices' : Devices) (before between now : ℕ) → is_present devices name ≡ false → devices' ≡ devices → Rose between now → Came names devices before between
+    → Came (names ++ name ∷ []) devices' before now
 came_not names name devices devices' before between now absent did rose came =
     let one : filter (is_present devices) (names ++ name ∷ []) ≡ filter (is_present devices) names =
     filter-append (is_present devices) names (name ∷ []) ∙ ap (λ b. filter (is_present devices) names ++ cond b (name ∷ []) []) absent ∙ append-nil (filter (is_present devices) names) in
@@ -173,7 +179,8 @@ module _ (names : List (List ℕ)) (index : ℕ) (name : List ℕ) (distinct : A
       subst (λ xs. Came xs after first now) (sym one_more) (came_not (take index names) name before after first between now absent did rose came)
 
   -- neither it nor the others were tried
-  pub came_so_far : (before after : Devices) (asked_first asked_between asked_now : Option (List Asked)) (first between now : ℕ) → after ≡ before → asked_now ≡ asked_between → between ≤ now → Came (take index names) before first between → Records asked_first asked_between (additions before (take index names)) → CameInFront names after asked_first asked_now first now
+  pub came_so_far : (before after : Devices) (asked_first asked_between asked_now : Option (List Asked)) (first between now : ℕ) → after ≡ before → asked_now ≡ asked_between → between ≤ now → Came (take index names) before first between
+      → Records asked_first asked_between (additions before (take index names)) → CameInFront names after asked_first asked_now first now
   came_so_far before after asked_first asked_between asked_now first between now did same later came so_far = record {
     front = take index names;
     back = drop index names;
@@ -191,7 +198,8 @@ module _ (names : List (List ℕ)) (index : ℕ) (name : List ℕ) (distinct : A
       (λ q member. ap (λ d. is_present d q) did ∙ others_stay before (take index names) name q _ new member)
       did later came)
 
-  pub asked_next : (before after : Devices) (first between now : Option (List Asked)) → after ≡ after_event before (comes name) → Records first between (additions before (take index names)) → Records between now (asked.Event (comes name) true ∷ []) → Records first now (additions after (take (index + 1) names))
+  pub asked_next : (before after : Devices) (first between now : Option (List Asked)) → after ≡ after_event before (comes name) → Records first between (additions before (take index names))
+      → Records between now (asked.Event (comes name) true ∷ []) → Records first now (additions after (take (index + 1) names))
   asked_next before after first between now did so_far more =
       let new : Contains (take index names) name → ⊥ = not_before names index name distinct inside is in
       subst (Records first now) (sym (ap (additions after) one_more ∙ additions_more (take index names) name before after true
@@ -199,7 +207,8 @@ module _ (names : List (List ℕ)) (index : ℕ) (name : List ℕ) (distinct : A
       (ap (λ d. is_present d name) did ∙ now_there before name _)))
       (records_more first between now (additions before (take index names)) (asked.Event (comes name) true ∷ []) so_far more)
 
-  pub asked_in_vain : (before after : Devices) (first between now : Option (List Asked)) → after ≡ before → is_present before name ≡ false → Records first between (additions before (take index names)) → Records between now (asked.Event (comes name) false ∷ []) → Records first now (additions after (take (index + 1) names))
+  pub asked_in_vain : (before after : Devices) (first between now : Option (List Asked)) → after ≡ before → is_present before name ≡ false → Records first between (additions before (take index names))
+      → Records between now (asked.Event (comes name) false ∷ []) → Records first now (additions after (take (index + 1) names))
   asked_in_vain before after first between now did absent so_far more =
       subst (Records first now) (sym (ap (additions after) one_more ∙ additions_more (take index names) name before after false
       (λ q member. ap (λ d. is_present d q) did)

@@ -22,13 +22,15 @@ use plane_io::{Memory, Sink};
 use std::alloc::Global;
 use uci_tree::Package;
 
-/// Adds the named devices to a kernel that has none, in their order, and brings the network of the package up on those that it took: each
-/// call is made and its line written, and then the lines of the asks. A device that the kernel does not take is absent.
+/// Adds the named devices to a kernel that has none, in their order, and brings the network of the
+/// package up on those that it took: each call is made and its line written, and then the lines of
+/// the asks. A device that the kernel does not take is absent.
 ///
 /// # Errors
 ///
-/// `KernelFailed` at the first call that fails: the lines of the calls before and of the asks are written. `WriteFailed` at the first line
-/// that is not written, or not wholly. `Memory`: then no call was made and nothing was written, but devices may have been added.
+/// `KernelFailed` at the first call that fails: the lines of the calls before and of the asks are
+/// written. `WriteFailed` at the first line that is not written, or not wholly. `Memory`: then no
+/// call was made and nothing was written, but devices may have been added.
 pub fn bring_network_up<K: Kernel, O: Sink>(
     alloc: Global,
     names: &[DevName],

@@ -14,7 +14,8 @@ use std::alloc::Global;
 /// The MTU of an Ethernet device, in bytes (RFC 894).
 pub const ETHERNET_MTU: u32 = 1500;
 
-/// Tells a new plane and its kernel that these devices came, in their order. A device that the kernel did not take is absent.
+/// Tells a new plane and its kernel that these devices came, in their order. A device that the
+/// kernel did not take is absent.
 pub(crate) fn add_devices<K: Kernel>(
     alloc: Global,
     names: &[DevName],

@@ -1,5 +1,5 @@
-//! Brings a network up from nothing: named devices come, the rows of a package are loaded, and one settling makes the kernel hold what
-//! they want.
+//! Brings a network up from nothing: named devices come, the rows of a package are loaded, and one
+//! settling makes the kernel hold what they want.
 #![tactic(auto)]
 
 mod asks;

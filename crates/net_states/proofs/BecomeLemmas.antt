@@ -70,7 +70,8 @@ module _ (inputs : Inputs) where
       | inr other ↦ noted.each q r st at other.1
     ]
 
-    at_hand_at : AreNoted inputs states → (q : ℕ) (r : InterfaceRow) (st : InterfaceState) → slice_get inputs.conf.interfaces q ≡ Some r → slice_get now.list.items q ≡ Some st → st.is_first ≡ true → asks_nothing r.proto ≡ false → st.number ≡ None → IsAtHand r (slice_get states.spare.items q)
+    at_hand_at : AreNoted inputs states → (q : ℕ) (r : InterfaceRow) (st : InterfaceState) → slice_get inputs.conf.interfaces q ≡ Some r → slice_get now.list.items q ≡ Some st → st.is_first ≡ true → asks_nothing r.proto ≡ false → st.number
+        ≡ None → IsAtHand r (slice_get states.spare.items q)
     at_hand_at noted q r st at here is_it asks none = elim (stood q st here) as (λ _. IsAtHand r (slice_get states.spare.items q)) [
       | inl it ↦
           noted.at_hand q r old at (ap (slice_get states.list.items) it.0 ∙ is)
@@ -133,14 +134,16 @@ module _ (inputs : Inputs) where
       let told = (both (is_ready facts row) (asks_nothing row.proto || served) up).1 in
       elim (either (asks_nothing row.proto) served told) as (λ _. needs_no_answer facts row ≡ true) [
         | inl own ↦ of_left (asks_nothing row.proto) (is_some (answer_of facts row)) own
-        | inr by_answer ↦ of_right (asks_nothing row.proto) (is_some (answer_of facts row)) (answered (answer_of facts row) (both (is_answered_up (answer_of facts row)) (serves_layer facts (device_of facts row) (layer_of facts row)) by_answer).0)
+        | inr by_answer ↦ of_right (asks_nothing row.proto) (is_some (answer_of facts row))
+            (answered (answer_of facts row) (both (is_answered_up (answer_of facts row)) (serves_layer facts (device_of facts row) (layer_of facts row)) by_answer).0)
       ]
 
   places_by : (gs : Gifts) (row : InterfaceRow) (up : Bool) (layer : Option (List ℕ)) → (up ≡ true → HavePlaces gs (given_by (facts_of inputs) row layer)) → HavePlaces gs (if up then given_by (facts_of inputs) row layer else [])
   places_by gs row true layer has = has refl
   places_by gs row false layer has = λ o member. absurd (none_in_nil o member)
 
-  has_places : (gs : Gifts) → HasGiftRoom inputs gs → (place : ℕ) (row : InterfaceRow) (new : InterfaceState) → slice_get inputs.conf.interfaces place ≡ Some row → is_first inputs.conf.interfaces place row.name ≡ true → IsStateOf (facts_of inputs) row new → HavePlaces gs (gives (facts_of inputs) row new)
+  has_places : (gs : Gifts) → HasGiftRoom inputs gs → (place : ℕ) (row : InterfaceRow) (new : InterfaceState) → slice_get inputs.conf.interfaces place ≡ Some row → is_first inputs.conf.interfaces place row.name ≡ true
+      → IsStateOf (facts_of inputs) row new → HavePlaces gs (gives (facts_of inputs) row new)
   has_places gs room place row new at first is =
       places_by gs row new.is_up new.layer
       (λ up. subst (λ (layer : Option (List ℕ)). HavePlaces gs (given_by (facts_of inputs) row layer)) (sym is.layer)
@@ -150,11 +153,13 @@ module _ (inputs : Inputs) where
   device_as true row st is noted = noted
   device_as false row st is noted = cc is
 
-  pub device_noted : (states : States) → IsTied inputs states → (place : ℕ) (row : InterfaceRow) (st : InterfaceState) → slice_get inputs.conf.interfaces place ≡ Some row → slice_get states.list.items place ≡ Some st → st.is_first ≡ true → st.device ≡ device_of (facts_of inputs) row
+  pub device_noted : (states : States) → IsTied inputs states → (place : ℕ) (row : InterfaceRow) (st : InterfaceState) → slice_get inputs.conf.interfaces place ≡ Some row → slice_get states.list.items place ≡ Some st → st.is_first ≡ true
+      → st.device ≡ device_of (facts_of inputs) row
   device_noted states tied place row st at is first = (device_as st.is_first row st first (tied.noted.each place row st at is)).device
 
   -- it is what it is by the inputs
-  pub can_next : (states : States) (c : Course) → IsTied inputs states → IsCountedBy inputs states.list.items c → (place : ℕ) (row : InterfaceRow) (old new : InterfaceState) → slice_get inputs.conf.interfaces place ≡ Some row → slice_get states.list.items place ≡ Some old → old.is_first ≡ true → IsNext inputs row old new → CanBecome inputs c row old new
+  pub can_next : (states : States) (c : Course) → IsTied inputs states → IsCountedBy inputs states.list.items c → (place : ℕ) (row : InterfaceRow) (old new : InterfaceState) → slice_get inputs.conf.interfaces place ≡ Some row
+      → slice_get states.list.items place ≡ Some old → old.is_first ≡ true → IsNext inputs row old new → CanBecome inputs c row old new
   can_next states c tied counted place row old new at is first next = record {
     first = next.first;
     device = next.is.device ∙ sym (device_noted states tied place row old at is first);
@@ -174,7 +179,8 @@ module _ (inputs : Inputs) where
   idle_as true noted row st same is st_noted = cc (same, is)
 
   -- the first row of a name follows once it is next, and another follows as it is
-  pub follows_next : (states : States) (list : List InterfaceState) → IsTied inputs states → (place : ℕ) (row : InterfaceRow) (old new : InterfaceState) → slice_get inputs.conf.interfaces place ≡ Some row → slice_get states.list.items place ≡ Some old → old.is_first ≡ true → IsNext inputs row old new → list ≡ slice_set states.list.items place new → Follows inputs place states.list.items list
+  pub follows_next : (states : States) (list : List InterfaceState) → IsTied inputs states → (place : ℕ) (row : InterfaceRow) (old new : InterfaceState) → slice_get inputs.conf.interfaces place ≡ Some row → slice_get states.list.items place
+      ≡ Some old → old.is_first ≡ true → IsNext inputs row old new → list ≡ slice_set states.list.items place new → Follows inputs place states.list.items list
   follows_next states list tied place row old new at is first next listed = record {
     new = new;
     list = listed;

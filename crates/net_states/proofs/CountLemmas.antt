@@ -88,7 +88,8 @@ module _ (inputs : Inputs) where
   pub givers_few : (states : List InterfaceState) (gs : Gifts) → HasGivers facts inputs.conf.interfaces states gs → HasGiftRoom inputs gs → (o : Object) → givers_of gs o ≤ 1024 * 2 ^ 50
   givers_few states gs has room o =
       let all : givers_of gs o ≡ times_in o (all_gives facts inputs.conf.interfaces states) = has o in
-      let few : times_in o (all_gives facts inputs.conf.interfaces states) ≤ length inputs.conf.interfaces * 2 ^ 50 = times_most (λ (e : InterfaceRow × InterfaceState). gives facts e.0 e.1) inputs.conf.interfaces states (2 ^ 50) o (λ row st member. gives_few gs room row st member) in
+      let few : times_in o (all_gives facts inputs.conf.interfaces states) ≤ length inputs.conf.interfaces * 2 ^ 50 =
+      times_most (λ (e : InterfaceRow × InterfaceState). gives facts e.0 e.1) inputs.conf.interfaces states (2 ^ 50) o (λ row st member. gives_few gs room row st member) in
       let most : length inputs.conf.interfaces * 2 ^ 50 ≤ 1024 * 2 ^ 50 = thousand (length inputs.conf.interfaces) (2 ^ 50) room.rows in
       omega (arith, all, few, most)
 
@@ -101,13 +102,15 @@ module _ (inputs : Inputs) where
         omega (arith, all, part)
 
     -- what it gives now is given in place of what it gave
-    pub givers_moved : (gs : Gifts) → HasGivers facts inputs.conf.interfaces states gs → HavePlaces gs (given_as row new) → HasGivers facts inputs.conf.interfaces (slice_set states place new) (fold given_once_more (fold given_once_less gs (given_as row old)) (given_as row new))
+    pub givers_moved : (gs : Gifts) → HasGivers facts inputs.conf.interfaces states gs → HavePlaces gs (given_as row new)
+        → HasGivers facts inputs.conf.interfaces (slice_set states place new) (fold given_once_more (fold given_once_less gs (given_as row old)) (given_as row new))
     givers_moved gs has places = λ o.
         let less : Gifts = fold given_once_less gs (given_as row old) in
         let there : HavePlaces less (given_as row new) = λ other member. places_stay gs less other (less_bare gs (given_as row old)) ∙ places other member in
         let all : givers_of gs o ≡ times_in o (all_gives facts inputs.conf.interfaces states) = has o in
         let part : times_in o (given_as row old) ≤ givers_of gs o = is_given gs has o in
-        let listed : times_in o (all_gives facts inputs.conf.interfaces (slice_set states place new)) + times_in o (given_as row old) ≡ times_in o (all_gives facts inputs.conf.interfaces states) + times_in o (given_as row new) = times_move (λ (e : InterfaceRow × InterfaceState). gives facts e.0 e.1) inputs.conf.interfaces states place row old new o at is in
+        let listed : times_in o (all_gives facts inputs.conf.interfaces (slice_set states place new)) + times_in o (given_as row old) ≡ times_in o (all_gives facts inputs.conf.interfaces states) + times_in o (given_as row new) =
+        times_move (λ (e : InterfaceRow × InterfaceState). gives facts e.0 e.1) inputs.conf.interfaces states place row old new o at is in
         let taken : givers_of less o ≡ givers_of gs o - times_in o (given_as row old) = withdrawn_list gs (given_as row old) o in
         let put : givers_of (fold given_once_more less (given_as row new)) o ≡ givers_of less o + times_in o (given_as row new) = given_list less (given_as row new) o there in
         omega (arith, all, part, listed, taken, put)
@@ -121,7 +124,8 @@ module _ (inputs : Inputs) where
   }
 
   -- an interface that gives little more can give it once what it gave is withdrawn
-  pub may_give : (states : List InterfaceState) (gs : Gifts) → HasGivers facts inputs.conf.interfaces states gs → HasGiftRoom inputs gs → (row : InterfaceRow) (st : InterfaceState) (gone : List Object) → Contains inputs.conf.interfaces row → (o : Object) → givers_of (fold given_once_less gs gone) o + length (given_as row st) ≤ 2 ^ 62
+  pub may_give : (states : List InterfaceState) (gs : Gifts) → HasGivers facts inputs.conf.interfaces states gs → HasGiftRoom inputs gs → (row : InterfaceRow) (st : InterfaceState) (gone : List Object) → Contains inputs.conf.interfaces row
+      → (o : Object) → givers_of (fold given_once_less gs gone) o + length (given_as row st) ≤ 2 ^ 62
   may_give states gs has room row st gone member o =
       let most : givers_of gs o ≤ 1024 * 2 ^ 50 = givers_few states gs has room o in
       let less : givers_of (fold given_once_less gs gone) o ≡ givers_of gs o - times_in o gone = withdrawn_list gs gone o in

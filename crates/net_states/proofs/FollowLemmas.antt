@@ -33,18 +33,21 @@ module _ (inputs : Inputs) where
   ]
 
   -- the one at its place follows
-  at_place : (place q : ℕ) (before now : List InterfaceState) (row : InterfaceRow) (st : InterfaceState) (f : Follows inputs place before now) → slice_get inputs.conf.interfaces q ≡ Some row → q ≡ place → st ≡ f.new → IsStateAs (is_first inputs.conf.interfaces q row.name) (facts_of inputs) row st
+  at_place : (place q : ℕ) (before now : List InterfaceState) (row : InterfaceRow) (st : InterfaceState) (f : Follows inputs place before now) → slice_get inputs.conf.interfaces q ≡ Some row → q ≡ place → st ≡ f.new
+      → IsStateAs (is_first inputs.conf.interfaces q row.name) (facts_of inputs) row st
   at_place place q before now row st f at same is =
       subst (λ (s : InterfaceState). IsStateAs (is_first inputs.conf.interfaces q row.name) (facts_of inputs) row s) (sym is)
       (subst (λ k. IsStateAs (is_first inputs.conf.interfaces k row.name) (facts_of inputs) row f.new) (sym same) (f.is row (ap (slice_get inputs.conf.interfaces) (sym same) ∙ at)))
 
   pub follow_one : (place : ℕ) (rest : List ℕ) (before now : List InterfaceState) → FollowBut inputs (place ∷ rest) before → Follows inputs place before now → FollowBut inputs rest now
-  follow_one place rest before now follow f = λ q row st at here other. elim (get_of_set before place q f.new st (ap (λ (ss : List InterfaceState). slice_get ss q) (sym f.list) ∙ here)) as (λ _. IsStateAs (is_first inputs.conf.interfaces q row.name) (facts_of inputs) row st) [
-    | inl it ↦ at_place place q before now row st f at it.0 it.1
-    | inr apart ↦ follow q row st at apart.1 (ap (λ b. b || has rest q) (is_not q place apart.0) ∙ other)
-  ]
+  follow_one place rest before now follow f = λ q row st at here other. elim (get_of_set before place q f.new st (ap (λ (ss : List InterfaceState). slice_get ss q) (sym f.list) ∙ here)) as
+      (λ _. IsStateAs (is_first inputs.conf.interfaces q row.name) (facts_of inputs) row st) [
+        | inl it ↦ at_place place q before now row st f at it.0 it.1
+        | inr apart ↦ follow q row st at apart.1 (ap (λ b. b || has rest q) (is_not q place apart.0) ∙ other)
+      ]
 
-  pub follow_next : (places : List ℕ) (n place : ℕ) (before now : List InterfaceState) → slice_get places n ≡ Some place → FollowBut inputs (drop n places) before → Follows inputs place before now → FollowBut inputs (drop (n + 1) places) now
+  pub follow_next : (places : List ℕ) (n place : ℕ) (before now : List InterfaceState) → slice_get places n ≡ Some place → FollowBut inputs (drop n places) before → Follows inputs place before now
+      → FollowBut inputs (drop (n + 1) places) now
   follow_next places n place before now is follow f = follow_one place (drop (n + 1) places) before now (subst (λ (ps : List ℕ). FollowBut inputs ps before) (left_is places n place is) follow) f
 
   pub all_follow : (states : States) (places : List ℕ) → places ≡ [] → IsTied inputs states → FollowBut inputs places states.list.items → AreStatesOf inputs states
@@ -61,10 +64,11 @@ module _ (inputs : Inputs) where
   none_below list = λ q row st at here below. absurd (omega (arith, below))
 
   pub below_more : (place : ℕ) (before now : List InterfaceState) → FollowBelow place before → Follows inputs place before now → FollowBelow (place + 1) now
-  below_more place before now follow f = λ q row st at here below. elim (get_of_set before place q f.new st (ap (λ (ss : List InterfaceState). slice_get ss q) (sym f.list) ∙ here)) as (λ _. IsStateAs (is_first inputs.conf.interfaces q row.name) (facts_of inputs) row st) [
-    | inl it ↦ at_place place q before now row st f at it.0 it.1
-    | inr apart ↦ follow q row st at apart.1 (by_order q place apart.0 below)
-  ]
+  below_more place before now follow f = λ q row st at here below. elim (get_of_set before place q f.new st (ap (λ (ss : List InterfaceState). slice_get ss q) (sym f.list) ∙ here)) as
+      (λ _. IsStateAs (is_first inputs.conf.interfaces q row.name) (facts_of inputs) row st) [
+        | inl it ↦ at_place place q before now row st f at it.0 it.1
+        | inr apart ↦ follow q row st at apart.1 (by_order q place apart.0 below)
+      ]
     where
       by_order : (q p : ℕ) → (q ≡ p → ⊥) → q < p + 1 → q < p
       by_order q p apart below = omega (arith, apart, below)

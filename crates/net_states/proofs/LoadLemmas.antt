@@ -1,5 +1,6 @@
 -- What is kept of interfaces before any of them claims or gives something.
-use Rattle.std.proofs.Common.{arith, ℕ, zero, suc, ◌+◌, ◌≡◌, ◌<◌, ◌≤◌, ◌⊎◌, inl, inr, List, [], ◌∷◌, ◌++◌, length, map, take, get_or, slice_get, Bool, true, false, cond, not, is_none, Option, Some, None, refl, ap, sym, subst, ◌∙◌, vec_capacity}
+use Rattle.std.proofs.Common.{arith, ℕ, zero, suc, ◌+◌, ◌≡◌, ◌<◌, ◌≤◌, ◌⊎◌, inl, inr, List, [], ◌∷◌, ◌++◌, length, map, take, get_or, slice_get, Bool, true, false, cond, not, is_none, Option, Some, None, refl, ap, sym, subst, ◌∙◌}
+use Rattle.std.proofs.Common.{vec_capacity}
 use Rattle.std.specs.Prelude.{◌&&◌, ◌==◌}
 use Rattle.std.proofs.lemmas.List.{length_push, length-take-le}
 use Rattle.std.proofs.lemmas.Option.{slice_get_within, slice_get-get_or, slice_get_read, slice_get_cases, same_Some}
@@ -59,7 +60,8 @@ beside_more {X} {Y} is xs ys i x y within read before new =
     subst (λ (z : List X). AreBeside is z (ys ++ y ∷ [])) (sym (more_is xs i x within read))
     (beside_push is (take i xs) ys x y before (subst (λ (k : ℕ). is k x y) (sym size) new))
 
-pub pushed_beside : {X Y : Type 0} (is : ℕ → X → Y → Type 0) (xs : List X) (old new : List Y) (i : ℕ) (x : X) (y : Y) → i < length xs → x ≡ get_or xs i x → AreBeside is (take i xs) old → is i x y → new ≡ old ++ y ∷ [] → AreBeside is (take (i + 1) xs) new
+pub pushed_beside : {X Y : Type 0} (is : ℕ → X → Y → Type 0) (xs : List X) (old new : List Y) (i : ℕ) (x : X) (y : Y) → i < length xs → x ≡ get_or xs i x → AreBeside is (take i xs) old → is i x y → new ≡ old ++ y ∷ []
+    → AreBeside is (take (i + 1) xs) new
 pushed_beside {X} {Y} is xs old new i x y within read before one pushed =
     subst (λ (z : List Y). AreBeside is (take (i + 1) xs) z) (sym pushed) (beside_more is xs old i x y within read before one)
 
@@ -90,7 +92,8 @@ first_by_place rows place row at = by (is_first rows place row.name) refl
 
 -- ---- what is kept of a row
 
-pub noted_idle : (inputs : Inputs) (place : ℕ) (row : InterfaceRow) (st : InterfaceState) → st.is_first ≡ is_first inputs.conf.interfaces place row.name → st.device ≡ device_of (facts_of inputs) row → st.number ≡ cond {A = Option ℕ} st.is_first (number_of inputs row.name) None → st.is_claimed ≡ false → st.is_up ≡ false → IsNotedIdle inputs place row st
+pub noted_idle : (inputs : Inputs) (place : ℕ) (row : InterfaceRow) (st : InterfaceState) → st.is_first ≡ is_first inputs.conf.interfaces place row.name → st.device ≡ device_of (facts_of inputs) row → st.number
+    ≡ cond {A = Option ℕ} st.is_first (number_of inputs row.name) None → st.is_claimed ≡ false → st.is_up ≡ false → IsNotedIdle inputs place row st
 noted_idle inputs place row st first device number claimed up = record {
   first = first;
   noted = by st.is_first number;
@@ -101,7 +104,8 @@ noted_idle inputs place row st first device number claimed up = record {
     by true number = record { device = device; number = number }
     by false number = record { idle = record { claimed = claimed; up = up }; number = number }
 
-pub is_at_hand : (row : InterfaceRow) (st : InterfaceState) (kept : Option (Option InterfaceAsk)) (ask : Option InterfaceAsk) → kept ≡ Some ask → ask ≡ spare_ask row st → st.is_first ≡ true → asks_nothing row.proto ≡ false → st.number ≡ None → IsAtHand row kept
+pub is_at_hand : (row : InterfaceRow) (st : InterfaceState) (kept : Option (Option InterfaceAsk)) (ask : Option InterfaceAsk) → kept ≡ Some ask → ask ≡ spare_ask row st → st.is_first ≡ true → asks_nothing row.proto ≡ false → st.number
+    ≡ None → IsAtHand row kept
 is_at_hand row st kept ask here is first asks none =
     let all : (st.is_first && (is_none st.number && not (asks_nothing row.proto))) ≡ true =
     ap (λ b. b && (is_none st.number && not (asks_nothing row.proto))) first
@@ -119,7 +123,8 @@ spare_of states place row st ask within read is other here =
 
 -- ---- all is kept
 
-pub tied : (inputs : Inputs) (states : States) → IsReachOf inputs states.reach → AreOwnAsks inputs → AreBeside (IsNotedIdle inputs) inputs.conf.interfaces states.list.items → AreBeside (IsSpare states.list.items) inputs.conf.interfaces states.spare.items → length inputs.conf.interfaces ≤ vec_capacity states.lost → IsTied inputs states
+pub tied : (inputs : Inputs) (states : States) → IsReachOf inputs states.reach → AreOwnAsks inputs → AreBeside (IsNotedIdle inputs) inputs.conf.interfaces states.list.items
+    → AreBeside (IsSpare states.list.items) inputs.conf.interfaces states.spare.items → length inputs.conf.interfaces ≤ vec_capacity states.lost → IsTied inputs states
 tied inputs states reach own noted spare room = record {
   reach = reach;
   own = own;
@@ -137,7 +142,8 @@ tied inputs states reach own noted spare room = record {
   room = room;
 }
 
-pub tied_by : (inputs : Inputs) (states : States) (rows : List InterfaceRow) (seen : List InterfaceState) → rows ≡ inputs.conf.interfaces → seen ≡ states.list.items → IsReachOf inputs states.reach → AreOwnAsks inputs → AreBeside (IsNotedIdle inputs) rows states.list.items → AreBeside (IsSpare seen) rows states.spare.items → length rows ≤ vec_capacity states.lost → IsTied inputs states
+pub tied_by : (inputs : Inputs) (states : States) (rows : List InterfaceRow) (seen : List InterfaceState) → rows ≡ inputs.conf.interfaces → seen ≡ states.list.items → IsReachOf inputs states.reach → AreOwnAsks inputs
+    → AreBeside (IsNotedIdle inputs) rows states.list.items → AreBeside (IsSpare seen) rows states.spare.items → length rows ≤ vec_capacity states.lost → IsTied inputs states
 tied_by inputs states rows seen all same reach own noted spare room =
     tied inputs states reach own
     (subst (λ (z : List InterfaceRow). AreBeside (IsNotedIdle inputs) z states.list.items) all noted)

@@ -14,8 +14,8 @@ use Rattle.net_gifts.specs.Giving.{gives, HavePlaces}
 abbrev pub idle : InterfaceState → InterfaceState
 idle st = record st { is_claimed = false; is_up = false }
 
--- An interface may become another: its device and its ask stay, the graph knows the names that it uses then, and there is a place for
--- what it gives then. A row that is not the first of its name stays idle.
+-- An interface may become another: its device and its ask stay, the graph knows the names that it uses then, and there
+-- is a place for what it gives then. A row that is not the first of its name stays idle.
 pub record CanBecome (inputs : Inputs) (c : Course) (row : InterfaceRow) (old new : InterfaceState) : Type 0 where
   pub first : new.is_first ≡ old.is_first
   pub device : new.device ≡ old.device

@@ -1,5 +1,6 @@
 -- What is counted over interfaces: the claims of a graph, and the givers of addresses and routes above it.
-use Rattle.std.specs.Prelude.{ℕ, ◌≡◌, ◌≤◌, ◌^◌, List, length, Contains, Bool, true, ◌||◌, Option, Some, is_some, slice_get}
+use Rattle.std.specs.Prelude.{ℕ, ◌≡◌, ◌≤◌, ◌^◌, List, length, Contains, Bool, true, ◌||◌, Option, Some, is_some}
+use Rattle.std.specs.Prelude.{slice_get}
 use Rattle.net_rows.specs.declared.rows.InterfaceRow.{InterfaceRow}
 use Rattle.net_rules.specs.declared.inputs.Inputs.{Inputs}
 use Rattle.net_rules.specs.Facts.{Facts}
@@ -31,8 +32,8 @@ pub record IsCounted (inputs : Inputs) (states : List InterfaceState) (c : Cours
 abbrev pub needs_no_answer : Facts → InterfaceRow → Bool
 needs_no_answer facts row = asks_nothing row.proto || is_some (answer_of facts row)
 
--- There is a place for what each first row of a name gives once it is up, where it needs no further answer for that. Rows are few, and
--- what each gives is.
+-- There is a place for what each first row of a name gives once it is up, where it needs no further answer for that.
+-- Rows are few, and what each gives is.
 pub record HasGiftRoom (inputs : Inputs) (gs : Gifts) : Type 0 where
   pub places : (place : ℕ) (row : InterfaceRow) → slice_get inputs.conf.interfaces place ≡ Some row
       → is_first inputs.conf.interfaces place row.name ≡ true
@@ -42,7 +43,8 @@ pub record HasGiftRoom (inputs : Inputs) (gs : Gifts) : Type 0 where
       → length (given_by (facts_of inputs) row layer) ≤ 2 ^ 50
   pub rows : length inputs.conf.interfaces ≤ 1024
 
--- A graph and the gifts above it are counted over interfaces beside the inputs, and have room for what these may become.
+-- A graph and the gifts above it are counted over interfaces beside the inputs, and have room for what these may
+-- become.
 pub record IsCountedBy (inputs : Inputs) (states : List InterfaceState) (c : Course) : Type 0 where
   pub agrees : AgreesWith inputs c.graph.known
   pub counted : IsCounted inputs states c

@@ -1,5 +1,6 @@
 -- What is kept of interfaces beside inputs.
-use Rattle.std.specs.Prelude.{ℕ, ◌≡◌, ◌≤◌, List, length, Contains, Bool, true, false, Option, Some, None, slice_get, vec_capacity}
+use Rattle.std.specs.Prelude.{ℕ, ◌≡◌, ◌≤◌, List, length, Contains, Bool, true, false, Option, Some, None, slice_get}
+use Rattle.std.specs.Prelude.{vec_capacity}
 use Rattle.std.specs.Option.{option_map}
 use Rattle.net_rows.specs.declared.rows.InterfaceRow.{InterfaceRow}
 use Rattle.net_rules.specs.declared.ask.InterfaceAsk.{InterfaceAsk}
@@ -49,7 +50,8 @@ AreOwnAsks inputs =
     (o : OpenInterface) (row : InterfaceRow) → Contains inputs.interfaces o
     → interface_named inputs.conf o.ask.name ≡ Some row → o.ask ≡ interface_ask (facts_of inputs) row
 
--- At each place there is what is kept of its row. A first row that a handler serves has its ask at hand while none is open.
+-- At each place there is what is kept of its row. A first row that a handler serves has its ask at hand while none is
+-- open.
 pub record AreNoted (inputs : Inputs) (states : States) : Type 0 where
   pub size : length states.list.items ≡ length inputs.conf.interfaces
   pub spare_size : length states.spare.items ≡ length inputs.conf.interfaces
@@ -64,8 +66,8 @@ pub record AreNoted (inputs : Inputs) (states : States) : Type 0 where
       → st.is_first ≡ true → asks_nothing row.proto ≡ false → st.number ≡ None
       → IsAtHand row (slice_get states.spare.items place)
 
--- What reaches what is that of the inputs, what is kept at each place is that of its row, and there is room for the number of an
--- ask of each interface. Nothing is said of what interfaces are.
+-- What reaches what is that of the inputs, what is kept at each place is that of its row, and there is room for the
+-- number of an ask of each interface. Nothing is said of what interfaces are.
 pub record IsTied (inputs : Inputs) (states : States) : Type 0 where
   pub reach : IsReachOf inputs states.reach
   pub own : AreOwnAsks inputs

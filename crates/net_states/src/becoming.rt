@@ -1,5 +1,7 @@
-//! Interfaces become what they are by the inputs. Claims and gifts move with them. None of this takes memory.
-ghost use Rattle.std.specs.Prelude.{◌≡◌, ◌<◌, ◌≤◌, ◌+◌, ◌^◌, ℕ, Contains, Some, fold, length, slice_get, slice_set, true};
+//! Interfaces become what they are by the inputs. Claims and gifts move with them. None of this
+//! takes memory.
+ghost use Rattle.std.specs.Prelude.{◌≡◌, ◌<◌, ◌≤◌, ◌+◌, ◌^◌, ℕ, Contains, Some, fold, length};
+ghost use Rattle.std.specs.Prelude.{slice_get, slice_set, true};
 ghost use Rattle.kern_model.specs.declared.object.Object.{Object};
 ghost use Rattle.net_rows.specs.declared.rows.InterfaceRow.{InterfaceRow};
 ghost use Rattle.net_rules.specs.Inputs.{facts_of};

@@ -1,7 +1,8 @@
 use net_reach::Reach;
 use net_rules::{InterfaceAsk, InterfaceState};
 
-/// What each interface is as of the last look, and what reaches what. Lists are by the place of an interface among the rows.
+/// What each interface is as of the last look, and what reaches what. Lists are by the place of an
+/// interface among the rows.
 #[derive(Drop)]
 pub struct States {
     pub reach: Reach,

@@ -1,5 +1,6 @@
 -- What is shown of devices.
-use Rattle.std.specs.Prelude.{ℕ, List, [], ◌∷◌, ◌++◌, map, filter, codes, Bool, true, false, not, ◌&&◌, ◌||◌, Option, Some, None, is_some, if◌then◌else◌, bytes_eq}
+use Rattle.std.specs.Prelude.{ℕ, List, [], ◌∷◌, ◌++◌, map, filter, codes, Bool, true, false, not, ◌&&◌, ◌||◌, Option}
+use Rattle.std.specs.Prelude.{Some, None, is_some, if◌then◌else◌, bytes_eq}
 use Rattle.std.specs.List.{find, flat_map}
 use Rattle.serde_json.specs.Data.{Data, boolean, object, member, no_members}
 use Rattle.net_rows.specs.declared.fault_name.FaultName.{FaultName}

@@ -23,17 +23,21 @@ use Rattle.net_view.proofs.NameLemmas.{or_none, adds_name, names_more}
 
 -- ---- the first answer for an interface
 
-pub first_of : (answers : List PortAnswer) (interface : List ℕ) → option_map (λ (a : PortAnswer). a.port) (named (λ (a : PortAnswer). a.interface) answers interface) ≡ option_map (λ (a : AnsweredPort). a.port) (find (λ (a : AnsweredPort). bytes_eq a.interface interface) (map as_answered answers))
+pub first_of : (answers : List PortAnswer) (interface : List ℕ) → option_map (λ (a : PortAnswer). a.port) (named (λ (a : PortAnswer). a.interface) answers interface)
+    ≡ option_map (λ (a : AnsweredPort). a.port) (find (λ (a : AnsweredPort). bytes_eq a.interface interface) (map as_answered answers))
 first_of [] interface = refl
-first_of (answer ∷ answers) interface = one (bytes_eq answer.interface interface) (named (λ (a : PortAnswer). a.interface) answers interface) (find (λ (a : AnsweredPort). bytes_eq a.interface interface) (map as_answered answers)) (first_of answers interface)
+first_of (answer ∷ answers) interface = one (bytes_eq answer.interface interface) (named (λ (a : PortAnswer). a.interface) answers interface) (find (λ (a : AnsweredPort). bytes_eq a.interface interface) (map as_answered answers))
+    (first_of answers interface)
   where
-    one : (b : Bool) (found : Option PortAnswer) (other : Option AnsweredPort) → option_map (λ (a : PortAnswer). a.port) found ≡ option_map (λ (a : AnsweredPort). a.port) other → option_map (λ (a : PortAnswer). a.port) (cond b (Some answer) found) ≡ option_map (λ (a : AnsweredPort). a.port) (cond b (Some (as_answered answer)) other)
+    one : (b : Bool) (found : Option PortAnswer) (other : Option AnsweredPort) → option_map (λ (a : PortAnswer). a.port) found ≡ option_map (λ (a : AnsweredPort). a.port) other
+        → option_map (λ (a : PortAnswer). a.port) (cond b (Some answer) found) ≡ option_map (λ (a : AnsweredPort). a.port) (cond b (Some (as_answered answer)) other)
     one true found other h = refl
     one false found other h = h
 
 -- ---- one answer more
 
-pub joined_more : {X Y Z : Type 0} (f : Z → Option Y) (image : X → Z) (xs : List X) (i : ℕ) (x : X) → i < length xs → x ≡ get_or xs i x → filter_map f (map image (take (i + 1) xs)) ≡ filter_map f (map image (take i xs)) ++ option_to_list (f (image x))
+pub joined_more : {X Y Z : Type 0} (f : Z → Option Y) (image : X → Z) (xs : List X) (i : ℕ) (x : X) → i < length xs → x ≡ get_or xs i x → filter_map f (map image (take (i + 1) xs)) ≡ filter_map f (map image (take i xs))
+    ++ option_to_list (f (image x))
 joined_more {X} {Y} {Z} f image xs i x within is =
     ap (λ (z : List X). filter_map f (map image z)) (more_is xs i x within is)
     ∙ ap (filter_map f) (map-append image (take i xs) (x ∷ []))
@@ -49,7 +53,8 @@ joined_more {X} {Y} {Z} f image xs i x within is =
 any_push : (all : List RadioPort) (j : RadioPort) (q : List ℕ) → list_any (λ (k : RadioPort). bytes_eq k.port q) (all ++ j ∷ []) ≡ (list_any (λ (k : RadioPort). bytes_eq k.port q) all || bytes_eq j.port q)
 any_push all j q = list_any-append (λ (k : RadioPort). bytes_eq k.port q) all (j ∷ []) ∙ ap (λ b. list_any (λ (k : RadioPort). bytes_eq k.port q) all || b) (or_none (bytes_eq j.port q))
 
-already : (all : List RadioPort) (j : RadioPort) → list_any (λ (k : RadioPort). bytes_eq k.port j.port) all ≡ true → (q : List ℕ) (b : Bool) → bytes_eq j.port q ≡ b → list_any (λ (k : RadioPort). bytes_eq k.port q) all ≡ (list_any (λ (k : RadioPort). bytes_eq k.port q) all || b)
+already : (all : List RadioPort) (j : RadioPort) → list_any (λ (k : RadioPort). bytes_eq k.port j.port) all ≡ true → (q : List ℕ) (b : Bool) → bytes_eq j.port q ≡ b → list_any (λ (k : RadioPort). bytes_eq k.port q) all
+    ≡ (list_any (λ (k : RadioPort). bytes_eq k.port q) all || b)
 already all j had q true same =
     let here : list_any (λ (k : RadioPort). bytes_eq k.port q) all ≡ true = subst (λ n. list_any (λ (k : RadioPort). bytes_eq k.port n) all ≡ true) (bytes_same j.port q same) had in
     ap (λ b. b) here ∙ sym (ap (λ b. b || true) here)
@@ -63,12 +68,15 @@ join_already all joins join b is test holds =
       ports = λ q. is.ports q ∙ already all (as_joined join) had q (bytes_eq join.port q) refl ∙ sym (any_push all (as_joined join) q);
     }
 
-pub join_more : (all : List RadioPort) (joins now : Joins) (join : PortJoin) (b : Bool) → AreJoins all joins → b ≡ contains (slice_cmp nat_cmp) joins.ports join.port → b ≡ false → now.list.items ≡ joins.list.items ++ join ∷ [] → ((q : List ℕ) → contains (slice_cmp nat_cmp) now.ports q ≡ cond (is_at (slice_cmp nat_cmp join.port) q) true (contains (slice_cmp nat_cmp) joins.ports q)) → AreJoins (all ++ as_joined join ∷ []) now
+pub join_more : (all : List RadioPort) (joins now : Joins) (join : PortJoin) (b : Bool) → AreJoins all joins → b ≡ contains (slice_cmp nat_cmp) joins.ports join.port → b ≡ false → now.list.items ≡ joins.list.items ++ join ∷ []
+    → ((q : List ℕ) → contains (slice_cmp nat_cmp) now.ports q ≡ cond (is_at (slice_cmp nat_cmp join.port) q) true (contains (slice_cmp nat_cmp) joins.ports q)) → AreJoins (all ++ as_joined join ∷ []) now
 join_more all joins now join b is test fails pushed put =
     let had : list_any (λ (k : RadioPort). bytes_eq k.port join.port) all ≡ false = sym (is.ports join.port) ∙ sym test ∙ fails in
     record {
-      list = ap (map as_joined) pushed ∙ map-append as_joined joins.list.items (join ∷ []) ∙ ap (λ (z : List RadioPort). z ++ as_joined join ∷ []) is.list ∙ sym (firsts_push (λ (k : RadioPort). k.port) all (as_joined join) ∙ ap (λ c. firsts (λ (k : RadioPort). k.port) all ++ cond c [] (as_joined join ∷ [])) had);
-      ports = names_more joins.ports now.ports (λ q. list_any (λ (k : RadioPort). bytes_eq k.port q) all) (λ q. bytes_eq join.port q) (λ q. list_any (λ (k : RadioPort). bytes_eq k.port q) (all ++ as_joined join ∷ [])) is.ports (adds_name joins.ports now.ports join.port put) (any_push all (as_joined join));
+      list = ap (map as_joined) pushed ∙ map-append as_joined joins.list.items (join ∷ []) ∙ ap (λ (z : List RadioPort). z ++ as_joined join ∷ []) is.list
+          ∙ sym (firsts_push (λ (k : RadioPort). k.port) all (as_joined join) ∙ ap (λ c. firsts (λ (k : RadioPort). k.port) all ++ cond c [] (as_joined join ∷ [])) had);
+      ports = names_more joins.ports now.ports (λ q. list_any (λ (k : RadioPort). bytes_eq k.port q) all) (λ q. bytes_eq join.port q) (λ q. list_any (λ (k : RadioPort). bytes_eq k.port q) (all ++ as_joined join ∷ [])) is.ports
+          (adds_name joins.ports now.ports join.port put) (any_push all (as_joined join));
     }
 
 pub join_none : (all : List RadioPort) (joins : Joins) → AreJoins all joins → AreJoins (all ++ []) joins
@@ -76,7 +84,8 @@ join_none all joins is = subst (λ z. AreJoins z joins) (sym (append-nil all)) i
 
 -- ---- lists by bridge
 
-pub joining_push : (bridge : List ℕ) (joins : List PortJoin) (i : ℕ) (join : PortJoin) → i < length joins → join ≡ get_or joins i join → ports_joining bridge (map as_joined (take (i + 1) joins)) ≡ ports_joining bridge (map as_joined (take i joins)) ++ cond (bytes_eq join.bridge bridge) (join.port ∷ []) []
+pub joining_push : (bridge : List ℕ) (joins : List PortJoin) (i : ℕ) (join : PortJoin) → i < length joins → join ≡ get_or joins i join → ports_joining bridge (map as_joined (take (i + 1) joins))
+    ≡ ports_joining bridge (map as_joined (take i joins)) ++ cond (bytes_eq join.bridge bridge) (join.port ∷ []) []
 joining_push bridge joins i join within is =
     let on : RadioPort → Bool = λ j. bytes_eq j.bridge bridge in
     let port : RadioPort → List ℕ = λ j. j.port in
@@ -92,7 +101,9 @@ joining_push bridge joins i join within is =
     one false = refl
 
 -- a list that was taken out, and put back with one more
-pub grown : {X : Type 0} (old mid new : BTreeMap (List ℕ) (Vec X Global)) (name : List ℕ) (x : X) (group more : Vec X Global) → group.items ≡ group_in old name → more.items ≡ group.items ++ x ∷ [] → ((q : List ℕ) → get (slice_cmp nat_cmp) mid q ≡ cond (is_at (slice_cmp nat_cmp name) q) None (get (slice_cmp nat_cmp) old q)) → ((q : List ℕ) → get (slice_cmp nat_cmp) new q ≡ cond (is_at (slice_cmp nat_cmp name) q) (Some more) (get (slice_cmp nat_cmp) mid q)) → (q : List ℕ) → group_in new q ≡ group_in old q ++ cond (bytes_eq name q) (x ∷ []) []
+pub grown : {X : Type 0} (old mid new : BTreeMap (List ℕ) (Vec X Global)) (name : List ℕ) (x : X) (group more : Vec X Global) → group.items ≡ group_in old name → more.items ≡ group.items ++ x ∷ []
+    → ((q : List ℕ) → get (slice_cmp nat_cmp) mid q ≡ cond (is_at (slice_cmp nat_cmp name) q) None (get (slice_cmp nat_cmp) old q))
+    → ((q : List ℕ) → get (slice_cmp nat_cmp) new q ≡ cond (is_at (slice_cmp nat_cmp name) q) (Some more) (get (slice_cmp nat_cmp) mid q)) → (q : List ℕ) → group_in new q ≡ group_in old q ++ cond (bytes_eq name q) (x ∷ []) []
 grown {X} old mid new name x group more had pushed out back q =
     ap list_of (back q ∙ ap (λ (z : Option (Vec X Global)). cond (is_at (slice_cmp nat_cmp name) q) (Some more) z) (out q))
     ∙ at (bytes_eq name q) refl

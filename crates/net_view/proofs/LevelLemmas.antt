@@ -41,7 +41,8 @@ none_opens : (present : Bool) (parts : Option VlanParts) (below : List ℕ → B
 none_opens present None below more = refl
 none_opens present (Some parts) below more = sym (and_false present)
 
-none_links : (carrier ready : Bool) (parts : Option VlanParts) (below : List ℕ → Bool) (more : List (List ℕ)) → links carrier ready below (standing_of (cond (is_some parts) (Vlan None 0) Plain) (is_some parts) more) ≡ (carrier && is_none parts)
+none_links : (carrier ready : Bool) (parts : Option VlanParts) (below : List ℕ → Bool) (more : List (List ℕ)) → links carrier ready below (standing_of (cond (is_some parts) (Vlan None 0) Plain) (is_some parts) more)
+    ≡ (carrier && is_none parts)
 none_links carrier ready None below more = sym (and_true carrier)
 none_links carrier ready (Some parts) below more = sym (and_false carrier)
 
@@ -55,7 +56,8 @@ links_without_row facts below name none =
     sym (ap (λ r. links (has_carrier facts name) (available facts name) below (standing_of_row r (radio_ports_of facts name))) (row_is_none facts.conf.names name none)
     ∙ none_links (has_carrier facts name) (available facts name) (vlan_parts name) below (radio_ports_of facts name))
 
-step_without_row : (facts : Facts) (question : Question) (below : List ℕ → Bool) (name : List ℕ) → ◌≡◌ {A = Option NameRow} None (named (λ r. r.name) facts.conf.names name) → without_row facts question name ≡ step_of facts question below name
+step_without_row : (facts : Facts) (question : Question) (below : List ℕ → Bool) (name : List ℕ) → ◌≡◌ {A = Option NameRow} None (named (λ r. r.name) facts.conf.names name) → without_row facts question name
+    ≡ step_of facts question below name
 step_without_row facts asked.Available below name none = opens_without_row facts below name none
 step_without_row facts asked.Link below name none = links_without_row facts below name none
 
@@ -63,14 +65,16 @@ positive : (n : ℕ) (b : Bool) → nat_lt 0 (suc n) ≡ b → nat_lt 0 (suc n) 
 positive n true h = h
 positive n false h = let low = above_test 0 (suc n) h in absurd (omega arith)
 
-pub told_without_row : (facts : Facts) (question : Question) (levels : ℕ) (name : List ℕ) → ◌≡◌ {A = Option NameRow} None (named (λ r. r.name) facts.conf.names name) → (nat_lt 0 levels && without_row facts question name) ≡ by_levels levels (step_of facts question) name
+pub told_without_row : (facts : Facts) (question : Question) (levels : ℕ) (name : List ℕ) → ◌≡◌ {A = Option NameRow} None (named (λ r. r.name) facts.conf.names name) → (nat_lt 0 levels && without_row facts question name)
+    ≡ by_levels levels (step_of facts question) name
 unfolding by_levels
 told_without_row facts question zero name none = refl
 told_without_row facts question (suc levels) name none = ap (λ b. b && without_row facts question name) (positive levels (nat_lt 0 (suc levels)) refl) ∙ step_without_row facts question (by_levels levels (step_of facts question)) name none
 
 -- ---- a name with a row
 
-told_step : (test : List ℕ → Bool) (other name : List ℕ) (names : List (List ℕ)) (b : Bool) → bytes_eq other name ≡ b → (p : Option ℕ) (place : ℕ) → cond {A = Option ℕ} b (Some 0) (option_map (λ k. suc k) p) ≡ Some place → ((k : ℕ) → p ≡ Some k → get_or (map test names) k false ≡ test name) → get_or (map test (other ∷ names)) place false ≡ test name
+told_step : (test : List ℕ → Bool) (other name : List ℕ) (names : List (List ℕ)) (b : Bool) → bytes_eq other name ≡ b → (p : Option ℕ) (place : ℕ) → cond {A = Option ℕ} b (Some 0) (option_map (λ k. suc k) p) ≡ Some place
+    → ((k : ℕ) → p ≡ Some k → get_or (map test names) k false ≡ test name) → get_or (map test (other ∷ names)) place false ≡ test name
 told_step test other name names true same p place h later = let first : 0 ≡ place = cc h in subst (λ k. get_or (map test (other ∷ names)) k false ≡ test name) first (ap test (bytes_same other name same))
 told_step test other name names false same None place h later = cc h
 told_step test other name names false same (Some k) place h later = let next : suc k ≡ place = cc h in subst (λ n. get_or (map test (other ∷ names)) n false ≡ test name) next (later k refl)
@@ -80,20 +84,24 @@ told_at test [] name place h = cc h
 told_at test (other ∷ names) name place h =
     told_step test other name names (bytes_eq other name) refl (place_of names name) place (sym (position-cons (λ o. bytes_eq o name) other names) ∙ h) (λ k found. told_at test names name k found)
 
-pub told_by_row : (facts : Facts) (told : Told) (places : BTreeMap (List ℕ) ℕ) (name : List ℕ) (place : ℕ) (answers : List Bool) (answer : Bool) → IsTold facts told → HasPlaces places (names_of facts.conf) → Some place ≡ get (slice_cmp nat_cmp) places name → answers ≡ told.by_row.items → answer ≡ get_or answers place false → answer ≡ test_of facts told name
+pub told_by_row : (facts : Facts) (told : Told) (places : BTreeMap (List ℕ) ℕ) (name : List ℕ) (place : ℕ) (answers : List Bool) (answer : Bool) → IsTold facts told → HasPlaces places (names_of facts.conf) → Some place
+    ≡ get (slice_cmp nat_cmp) places name → answers ≡ told.by_row.items → answer ≡ get_or answers place false → answer ≡ test_of facts told name
 told_by_row facts told places name place answers answer is has found all read =
     read ∙ ap (λ (z : List Bool). get_or z place false) (all ∙ is) ∙ told_at (test_of facts told) (names_of facts.conf) name place (sym (found ∙ has name))
 
-pub told_by_none : (facts : Facts) (told : Told) (places : BTreeMap (List ℕ) ℕ) (name : List ℕ) → HasPlaces places (names_of facts.conf) → None ≡ get (slice_cmp nat_cmp) places name → (nat_lt 0 told.levels && without_row facts told.question name) ≡ test_of facts told name
+pub told_by_none : (facts : Facts) (told : Told) (places : BTreeMap (List ℕ) ℕ) (name : List ℕ) → HasPlaces places (names_of facts.conf) → None ≡ get (slice_cmp nat_cmp) places name
+    → (nat_lt 0 told.levels && without_row facts told.question name) ≡ test_of facts told name
 told_by_none facts told places name has none =
     told_without_row facts told.question told.levels name (ap (option_and_then (slice_get facts.conf.names)) (none ∙ has name) ∙ at_place (λ row. row.name) facts.conf.names name)
 
 -- ---- one step
 
-pub opens_with_row : (facts : Facts) (below : List ℕ → Bool) (name : List ℕ) (row : NameRow) → Some row ≡ named (λ r. r.name) facts.conf.names name → opens (is_present facts name) below (standing_of_row row (radio_ports_of facts name)) ≡ opens_at facts below name
+pub opens_with_row : (facts : Facts) (below : List ℕ → Bool) (name : List ℕ) (row : NameRow) → Some row ≡ named (λ r. r.name) facts.conf.names name → opens (is_present facts name) below (standing_of_row row (radio_ports_of facts name))
+    ≡ opens_at facts below name
 opens_with_row facts below name row is = sym (ap (λ r. opens (is_present facts name) below (standing_of_row r (radio_ports_of facts name))) (row_is facts.conf.names name row is))
 
-pub links_with_row : (facts : Facts) (below : List ℕ → Bool) (name : List ℕ) (row : NameRow) (ready : Bool) → ready ≡ available facts name → Some row ≡ named (λ r. r.name) facts.conf.names name → links (has_carrier facts name) ready below (standing_of_row row (radio_ports_of facts name)) ≡ links_at facts below name
+pub links_with_row : (facts : Facts) (below : List ℕ → Bool) (name : List ℕ) (row : NameRow) (ready : Bool) → ready ≡ available facts name → Some row ≡ named (λ r. r.name) facts.conf.names name
+    → links (has_carrier facts name) ready below (standing_of_row row (radio_ports_of facts name)) ≡ links_at facts below name
 links_with_row facts below name row ready now is =
     ap (λ b. links (has_carrier facts name) b below (standing_of_row row (radio_ports_of facts name))) now
     ∙ sym (ap (λ r. links (has_carrier facts name) (available facts name) below (standing_of_row r (radio_ports_of facts name))) (row_is facts.conf.names name row is))
@@ -112,10 +120,12 @@ broken_opens present below row more broken = broken_kind present below row.kind 
 pub plain_opens : (present : Bool) (below : List ℕ → Bool) (row : NameRow) (more : List (List ℕ)) → row.kind ≡ Plain → row.broken ≡ false → present ≡ opens present below (standing_of_row row more)
 plain_opens present below row more kind sound = sym (ap (opens present below) (standing_is row Plain false more kind sound) ∙ and_true present)
 
-pub bridge_opens : (present : Bool) (below : List ℕ → Bool) (row : NameRow) (empty : Bool) (ports more : List (List ℕ)) → row.kind ≡ Bridge empty ports → row.broken ≡ false → (not present && (empty || list_any below (ports ++ more))) ≡ opens present below (standing_of_row row more)
+pub bridge_opens : (present : Bool) (below : List ℕ → Bool) (row : NameRow) (empty : Bool) (ports more : List (List ℕ)) → row.kind ≡ Bridge empty ports → row.broken ≡ false → (not present && (empty || list_any below (ports ++ more)))
+    ≡ opens present below (standing_of_row row more)
 bridge_opens present below row empty ports more kind sound = sym (ap (opens present below) (standing_is row (Bridge empty ports) false more kind sound))
 
-pub vlan_opens : (present : Bool) (below : List ℕ → Bool) (row : NameRow) (lower : Option (List ℕ)) (id : ℕ) (more : List (List ℕ)) → row.kind ≡ Vlan lower id → row.broken ≡ false → (not present && below_option below lower) ≡ opens present below (standing_of_row row more)
+pub vlan_opens : (present : Bool) (below : List ℕ → Bool) (row : NameRow) (lower : Option (List ℕ)) (id : ℕ) (more : List (List ℕ)) → row.kind ≡ Vlan lower id → row.broken ≡ false → (not present && below_option below lower)
+    ≡ opens present below (standing_of_row row more)
 vlan_opens present below row lower id more kind sound = over lower ∙ sym (ap (opens present below) (standing_is row (Vlan lower id) false more kind sound))
   where
     over : (lower : Option (List ℕ)) → (not present && below_option below lower) ≡ opens present below (standing_of (Vlan lower id) false more)
@@ -126,11 +136,13 @@ vlan_opens present below row lower id more kind sound = over lower ∙ sym (ap (
 pub plain_links : (carrier ready : Bool) (below : List ℕ → Bool) (row : NameRow) (more : List (List ℕ)) → row.kind ≡ Plain → carrier ≡ links carrier ready below (standing_of_row row more)
 plain_links carrier ready below row more kind = sym (ap (links carrier ready below) (standing_is row Plain row.broken more kind refl))
 
-pub bridge_links : (carrier ready : Bool) (below : List ℕ → Bool) (row : NameRow) (empty : Bool) (ports more : List (List ℕ)) → row.kind ≡ Bridge empty ports → (broken : Bool) → row.broken ≡ broken → (not broken && (ready && list_any below (ports ++ more))) ≡ links carrier ready below (standing_of_row row more)
+pub bridge_links : (carrier ready : Bool) (below : List ℕ → Bool) (row : NameRow) (empty : Bool) (ports more : List (List ℕ)) → row.kind ≡ Bridge empty ports → (broken : Bool) → row.broken ≡ broken
+    → (not broken && (ready && list_any below (ports ++ more))) ≡ links carrier ready below (standing_of_row row more)
 bridge_links carrier ready below row empty ports more kind true broken = sym (ap (links carrier ready below) (standing_is row (Bridge empty ports) true more kind broken))
 bridge_links carrier ready below row empty ports more kind false broken = sym (ap (links carrier ready below) (standing_is row (Bridge empty ports) false more kind broken))
 
-pub vlan_links : (carrier ready : Bool) (below : List ℕ → Bool) (row : NameRow) (lower : Option (List ℕ)) (id : ℕ) (more : List (List ℕ)) → row.kind ≡ Vlan lower id → (broken : Bool) → row.broken ≡ broken → (not broken && (ready && below_option below lower)) ≡ links carrier ready below (standing_of_row row more)
+pub vlan_links : (carrier ready : Bool) (below : List ℕ → Bool) (row : NameRow) (lower : Option (List ℕ)) (id : ℕ) (more : List (List ℕ)) → row.kind ≡ Vlan lower id → (broken : Bool) → row.broken ≡ broken
+    → (not broken && (ready && below_option below lower)) ≡ links carrier ready below (standing_of_row row more)
 vlan_links carrier ready below row lower id more kind true broken = sym (ap (links carrier ready below) (standing_is row (Vlan lower id) true more kind broken))
 vlan_links carrier ready below row None id more kind false broken = and_false ready ∙ sym (ap (links carrier ready below) (standing_is row (Vlan None id) false more kind broken))
 vlan_links carrier ready below row (Some lower) id more kind false broken = sym (ap (links carrier ready below) (standing_is row (Vlan (Some lower) id) false more kind broken))
@@ -148,7 +160,8 @@ level_up step level [] = refl
 level_up step level (row ∷ rows) = ap (λ (z : List Bool). step (by_levels level step) row.name ∷ z) (level_up step level rows)
 
 -- answers that are made of those of one level less
-pub one_level_more : (facts : Facts) (question : Question) (level : ℕ) (below told : Told) (names : List NameRow) → IsToldBy facts question level below → names ≡ facts.conf.names → told.question ≡ question → told.levels ≡ level + 1 → told.by_row.items ≡ map (λ (row : NameRow). step_of facts question (test_of facts below) row.name) names → IsToldBy facts question (level + 1) told
+pub one_level_more : (facts : Facts) (question : Question) (level : ℕ) (below told : Told) (names : List NameRow) → IsToldBy facts question level below → names ≡ facts.conf.names → told.question ≡ question → told.levels ≡ level + 1
+    → told.by_row.items ≡ map (λ (row : NameRow). step_of facts question (test_of facts below) row.name) names → IsToldBy facts question (level + 1) told
 one_level_more facts question level below told names is all asks levels made = record {
   question = asks;
   levels = levels;

@@ -23,7 +23,8 @@ places_push old new names name place has noted is other =
     ∙ sym (position-push (λ title. bytes_eq title other) names name)
 
 -- one more name of a list of rows
-pub places_go_on : {X : Type 0} (name_of : X → List ℕ) (old new : BTreeMap (List ℕ) ℕ) (rows : List X) (place : ℕ) (row : X) → HasPlaces old (map name_of (take place rows)) → HasNoted old new (name_of row) place → place < length rows → row ≡ get_or rows place row → HasPlaces new (map name_of (take (place + 1) rows))
+pub places_go_on : {X : Type 0} (name_of : X → List ℕ) (old new : BTreeMap (List ℕ) ℕ) (rows : List X) (place : ℕ) (row : X) → HasPlaces old (map name_of (take place rows)) → HasNoted old new (name_of row) place → place < length rows → row
+    ≡ get_or rows place row → HasPlaces new (map name_of (take (place + 1) rows))
 places_go_on {X} name_of old new rows place row has noted within is =
     let count : place ≡ length (map name_of (take place rows)) = sym (length-map (take place rows) name_of ∙ length-take-le place rows (omega arith)) in
     let more : take (place + 1) rows ≡ take place rows ++ row ∷ [] = take_more rows place row within ∙ ap (λ (z : X). take place rows ++ z ∷ []) (sym is) in
@@ -31,7 +32,8 @@ places_go_on {X} name_of old new rows place row has noted within is =
     subst (HasPlaces new) (sym names) (places_push old new (map name_of (take place rows)) (name_of row) place has noted count)
 
 -- what is at the place of a name is the first of that name
-at_step : {X : Type 0} (b : Bool) (x : X) (xs : List X) (place : Option ℕ) (found : Option X) → option_and_then (slice_get xs) place ≡ found → option_and_then (slice_get (x ∷ xs)) (cond {A = Option ℕ} b (Some 0) (option_map (λ k. suc k) place)) ≡ cond b (Some x) found
+at_step : {X : Type 0} (b : Bool) (x : X) (xs : List X) (place : Option ℕ) (found : Option X) → option_and_then (slice_get xs) place ≡ found
+    → option_and_then (slice_get (x ∷ xs)) (cond {A = Option ℕ} b (Some 0) (option_map (λ k. suc k) place)) ≡ cond b (Some x) found
 at_step true x xs place found h = refl
 at_step false x xs None found h = h
 at_step false x xs (Some k) found h = h
@@ -48,7 +50,8 @@ read_at now xs i None h = sym (slice_get_past xs i h.3)
 read_at now xs i (Some x) h = sym (slice_get_read xs (length xs) i (now x) refl h.3.0 h.1)
 
 -- the same by a map of the places
-pub by_map : {X : Type 0} (key : X → List ℕ) (xs : List X) (name : List ℕ) (places : BTreeMap (List ℕ) ℕ) (place : ℕ) (seen : List X) (r : Option (Bor X)) → HasPlaces places (map key xs) → Some place ≡ get (slice_cmp nat_cmp) places name → seen ≡ xs → IsItemAt seen place r → option_copied r ≡ named key xs name
+pub by_map : {X : Type 0} (key : X → List ℕ) (xs : List X) (name : List ℕ) (places : BTreeMap (List ℕ) ℕ) (place : ℕ) (seen : List X) (r : Option (Bor X)) → HasPlaces places (map key xs) → Some place ≡ get (slice_cmp nat_cmp) places name
+    → seen ≡ xs → IsItemAt seen place r → option_copied r ≡ named key xs name
 by_map {X} key xs name places place seen r has is all read =
     read_at (λ (x : Bor X). x.now) seen place r read
     ∙ ap (λ (z : List X). slice_get z place) all

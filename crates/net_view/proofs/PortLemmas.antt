@@ -61,7 +61,8 @@ bridge_without_row (Some parts) = refl
 
 -- ---- what is told of a radio
 
-pub told_of_radio : (inputs : Inputs) (radio : RadioRow) (found : Option OpenRadio) → found ≡ named (λ (o : OpenRadio). o.ask.name) inputs.radios radio.name → filter_map (port_of_pair (facts_of inputs)) (zip (enabled radio.rows) (unwrap_or (option_and_then (λ (o : OpenRadio). o.ports) found) [])) ≡ ports_of_radio (facts_of inputs) radio
+pub told_of_radio : (inputs : Inputs) (radio : RadioRow) (found : Option OpenRadio) → found ≡ named (λ (o : OpenRadio). o.ask.name) inputs.radios radio.name
+    → filter_map (port_of_pair (facts_of inputs)) (zip (enabled radio.rows) (unwrap_or (option_and_then (λ (o : OpenRadio). o.ports) found) [])) ≡ ports_of_radio (facts_of inputs) radio
 told_of_radio inputs radio found is = ap (λ (f : Option OpenRadio). filter_map (port_of_pair (facts_of inputs)) (zip (enabled radio.rows) (unwrap_or (option_and_then (λ (o : OpenRadio). o.ports) f) []))) is
 
 pub zip_nil : {X Y : Type 0} → (xs : List X) → ◌≡◌ {A = List (X × Y)} [] (zip xs [])
@@ -72,17 +73,20 @@ pub no_ports : (facts : Facts) (rows : List WifiRow) (before : List AnsweredPort
 no_ports facts rows before = sym (ap (λ z. before ++ filter_map (port_of_pair facts) z) (sym (zip_nil (enabled rows))) ∙ append-nil before)
 
 -- the device of an interface that names none
-pub device_by_port : (facts : Facts) (row : InterfaceRow) (port : Option (List ℕ)) (answered : List AnsweredPort) → row.device ≡ None → answered ≡ answered_ports facts → port ≡ option_map (λ (a : AnsweredPort). a.port) (find (λ (a : AnsweredPort). bytes_eq a.interface row.name) answered) → port ≡ device_of facts row
+pub device_by_port : (facts : Facts) (row : InterfaceRow) (port : Option (List ℕ)) (answered : List AnsweredPort) → row.device ≡ None → answered ≡ answered_ports facts → port
+    ≡ option_map (λ (a : AnsweredPort). a.port) (find (λ (a : AnsweredPort). bytes_eq a.interface row.name) answered) → port ≡ device_of facts row
 device_by_port facts row port answered none all is =
     is ∙ ap (λ (z : List AnsweredPort). option_map (λ (a : AnsweredPort). a.port) (find (λ (a : AnsweredPort). bytes_eq a.interface row.name) z)) all
     ∙ sym (ap (device_or_port facts row.name) none)
 
 -- ---- the bridge that a port joins
 
-pub joined_by : (inputs : Inputs) (answered : AnsweredPort) (found : Option InterfaceRow) → found ≡ named (λ (r : InterfaceRow). r.name) inputs.conf.interfaces answered.interface → option_and_then (λ (row : InterfaceRow). option_and_then (join_to inputs.conf answered.port) row.device) found ≡ joined (facts_of inputs) answered
+pub joined_by : (inputs : Inputs) (answered : AnsweredPort) (found : Option InterfaceRow) → found ≡ named (λ (r : InterfaceRow). r.name) inputs.conf.interfaces answered.interface
+    → option_and_then (λ (row : InterfaceRow). option_and_then (join_to inputs.conf answered.port) row.device) found ≡ joined (facts_of inputs) answered
 joined_by inputs answered found is = ap (option_and_then (λ (row : InterfaceRow). option_and_then (join_to inputs.conf answered.port) row.device)) is
 
-pub joins_when : (conf : Conf) (port device : List ℕ) (told : Option (List ℕ)) (bridge owned b : Bool) → told ≡ Some device → bridge ≡ is_bridge conf device → owned ≡ is_named_port conf port → (bridge && not owned) ≡ b → cond b (Some (record { bridge = device; port = port })) None ≡ option_and_then (join_to conf port) told
+pub joins_when : (conf : Conf) (port device : List ℕ) (told : Option (List ℕ)) (bridge owned b : Bool) → told ≡ Some device → bridge ≡ is_bridge conf device → owned ≡ is_named_port conf port → (bridge && not owned) ≡ b
+    → cond b (Some (record { bridge = device; port = port })) None ≡ option_and_then (join_to conf port) told
 joins_when conf port device told bridge owned b is p q test =
     ap (λ c. cond c (Some (record { bridge = device; port = port })) None) (sym test ∙ (λ i. p i && not (q i)))
     ∙ sym (ap (option_and_then (join_to conf port)) is)
@@ -130,7 +134,8 @@ flipped x false = refl
 pub more_is : {X : Type 0} (xs : List X) (i : ℕ) (x : X) → i < length xs → x ≡ get_or xs i x → take (i + 1) xs ≡ take i xs ++ x ∷ []
 more_is {X} xs i x within is = take_more xs i x within ∙ ap (λ (z : X). take i xs ++ z ∷ []) (sym is)
 
-pub firsts_more : {X : Type 0} (key : X → List ℕ) (xs : List X) (places : BTreeMap (List ℕ) ℕ) (i : ℕ) (x : X) → HasPlaces places (map key xs) → i < length xs → x ≡ get_or xs i x → firsts key (take (i + 1) xs) ≡ firsts key (take i xs) ++ cond (is_place i (get (slice_cmp nat_cmp) places (key x))) (x ∷ []) []
+pub firsts_more : {X : Type 0} (key : X → List ℕ) (xs : List X) (places : BTreeMap (List ℕ) ℕ) (i : ℕ) (x : X) → HasPlaces places (map key xs) → i < length xs → x ≡ get_or xs i x → firsts key (take (i + 1) xs) ≡ firsts key (take i xs)
+    ++ cond (is_place i (get (slice_cmp nat_cmp) places (key x))) (x ∷ []) []
 firsts_more {X} key xs places i x has within is =
     let any : Bool = list_any (λ y. bytes_eq (key y) (key x)) (take i xs) in
     let test : is_place i (get (slice_cmp nat_cmp) places (key x)) ≡ not any = ap (is_place i) (has (key x)) ∙ first_here key xs i x within is in
@@ -139,7 +144,8 @@ firsts_more {X} key xs places i x has within is =
     ∙ ap (λ (z : List X). firsts key (take i xs) ++ z) (flipped x any ∙ ap (λ b. cond b (x ∷ []) []) (sym test))
 
 -- a fold over the firsts, with one item more
-pub fold_more : {X Y Z : Type 0} (key : X → List ℕ) (f : X → List Y) (image : Z → Y) (xs : List X) (places : BTreeMap (List ℕ) ℕ) (i : ℕ) (x : X) (old new : List Z) → HasPlaces places (map key xs) → i < length xs → x ≡ get_or xs i x → map image old ≡ flat_map f (firsts key (take i xs)) → map image new ≡ map image old ++ flat_map f (cond (is_place i (get (slice_cmp nat_cmp) places (key x))) (x ∷ []) []) → map image new ≡ flat_map f (firsts key (take (i + 1) xs))
+pub fold_more : {X Y Z : Type 0} (key : X → List ℕ) (f : X → List Y) (image : Z → Y) (xs : List X) (places : BTreeMap (List ℕ) ℕ) (i : ℕ) (x : X) (old new : List Z) → HasPlaces places (map key xs) → i < length xs → x ≡ get_or xs i x
+    → map image old ≡ flat_map f (firsts key (take i xs)) → map image new ≡ map image old ++ flat_map f (cond (is_place i (get (slice_cmp nat_cmp) places (key x))) (x ∷ []) []) → map image new ≡ flat_map f (firsts key (take (i + 1) xs))
 fold_more {X} {Y} {Z} key f image xs places i x old new has within is sofar made =
     let one : List X = cond (is_place i (get (slice_cmp nat_cmp) places (key x))) (x ∷ []) [] in
     made

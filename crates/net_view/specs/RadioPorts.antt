@@ -1,5 +1,6 @@
 -- The ports of radios, as the program keeps them.
-use Rattle.std.specs.Prelude.{ℕ, ◌≡◌, List, [], map, filter, not, ◌&&◌, if◌then◌else◌, Option, Some, None, bytes_eq, Vec}
+use Rattle.std.specs.Prelude.{ℕ, ◌≡◌, List, [], map, filter, not, ◌&&◌, if◌then◌else◌, Option, Some, None, bytes_eq}
+use Rattle.std.specs.Prelude.{Vec}
 use Rattle.std.specs.List.{list_any}
 use Rattle.std.specs.Ordering.{nat_cmp}
 use Rattle.std.specs.Cmp.Lexicographic.{slice_cmp}
@@ -37,7 +38,8 @@ port_of_pair facts pair = answered_port facts pair.0.network pair.1
 
 -- the bridge that a port joins, where the device of its interface is one and no bridge of the rows owns the port
 abbrev pub join_to : Conf → List ℕ → List ℕ → Option RadioPort
-join_to conf port device = if is_bridge conf device && not (is_named_port conf port) then Some (record { bridge = device; port = port }) else None
+join_to conf port device = if is_bridge conf device && not (is_named_port conf port)
+    then Some (record { bridge = device; port = port }) else None
 
 -- the ports that join a bridge
 abbrev pub ports_joining : List ℕ → List RadioPort → List (List ℕ)

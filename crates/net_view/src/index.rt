@@ -66,7 +66,8 @@ impl Index {
     /// The interface of a name.
     pub fn interface<'a>(&self, inputs: &'a Inputs, name: &Text) -> Option<&'a InterfaceRow>
         requires { IsIndexOf inputs.now self.now }
-        ensures { option_copied result ≡ named (λ row. row.name) inputs.now.conf.interfaces name.now }
+        ensures { option_copied result
+            ≡ named (λ row. row.name) inputs.now.conf.interfaces name.now }
     {
         match self.interfaces.get(name) {
             Some(place) => inputs.conf.interfaces.as_slice().get(*place),
@@ -88,7 +89,8 @@ impl Index {
     /// The last command for an interface.
     pub fn command<'a>(&self, inputs: &'a Inputs, name: &Text) -> Option<&'a Command>
         requires { IsIndexOf inputs.now self.now }
-        ensures { option_copied result ≡ named (λ command. command.interface) inputs.now.commands name.now }
+        ensures { option_copied result
+            ≡ named (λ command. command.interface) inputs.now.commands name.now }
     {
         match self.commands.get(name) {
             Some(place) => inputs.commands.as_slice().get(*place),
@@ -167,7 +169,8 @@ fn radio_places(alloc: Global, radios: &[RadioRow]) -> Result<BTreeMap<Text, usi
 }
 
 fn command_places(alloc: Global, commands: &[Command]) -> Result<BTreeMap<Text, usize>, Memory>
-    ensures { IfOk result (λ places. HasPlaces places (map (λ command. command.interface) commands.now)) }
+    ensures { IfOk result (λ places. HasPlaces places
+        (map (λ command. command.interface) commands.now)) }
 {
     let mut places = BTreeMap::new(alloc);
     for (place, command) in commands.iter().enumerate() {

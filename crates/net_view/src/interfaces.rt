@@ -38,7 +38,8 @@ pub fn needs_device(proto: &Text) -> bool
 }
 
 impl Levels {
-    /// Whether the interface has no fault and a name of its own, is not disabled, and was last brought up.
+    /// Whether the interface has no fault and a name of its own, is not disabled, and was last
+    /// brought up.
     pub fn is_enabled(&self, inputs: &Inputs, row: &InterfaceRow) -> bool
         requires { AreLevelsOf inputs.now self.now }
         ensures { result ≡ spec.is_enabled (facts_of inputs.now) row.now }

@@ -342,7 +342,8 @@ fn opened(
 ) -> Result<Vec<bool>, Memory>
     requires ports { ArePortsOf inputs.now ports.now }
     requires told { IsTold (facts_of inputs.now) below.now }
-    ensures { IfOk result (λ answers. answers.items ≡ map (λ row. spec.opens_at (facts_of inputs.now)
+    ensures { IfOk result (λ answers. answers.items
+        ≡ map (λ row. spec.opens_at (facts_of inputs.now)
         (test_of (facts_of inputs.now) below.now) row.name) names.now) }
 {
     let mut answers = Vec::new(alloc);
@@ -363,7 +364,8 @@ fn linked(
     requires ports { ArePortsOf inputs.now ports.now }
     requires available { IsAvailability (facts_of inputs.now) available.now }
     requires told { IsTold (facts_of inputs.now) below.now }
-    ensures { IfOk result (λ answers. answers.items ≡ map (λ row. spec.links_at (facts_of inputs.now)
+    ensures { IfOk result (λ answers. answers.items
+        ≡ map (λ row. spec.links_at (facts_of inputs.now)
         (test_of (facts_of inputs.now) below.now) row.name) names.now) }
 {
     let mut answers = Vec::new(alloc);

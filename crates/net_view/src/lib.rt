@@ -1,4 +1,5 @@
-//! Which names are available and have link, and which interfaces are up, computed as their definitions say.
+//! Which names are available and have link, and which interfaces are up, computed as their
+//! definitions say.
 #![tactic(auto)]
 
 mod index;

@@ -1,4 +1,5 @@
-ghost use Rattle.std.specs.Prelude.{◌≡◌, ◌++◌, [], ◌∷◌, ℕ, List, None, map, if◌then◌else◌, IfOk, OnOk, bytes_eq, unwrap_or};
+ghost use Rattle.std.specs.Prelude.{◌≡◌, ◌++◌, [], ◌∷◌, ℕ, List, None, map, if◌then◌else◌, IfOk};
+ghost use Rattle.std.specs.Prelude.{OnOk, bytes_eq, unwrap_or};
 ghost use Rattle.std.specs.BTreeMap.{get, is_at};
 ghost use Rattle.std.specs.Ordering.{nat_cmp};
 ghost use Rattle.std.specs.Cmp.Lexicographic.{slice_cmp};
@@ -81,8 +82,10 @@ impl RadioPorts {
 
     /// The first port of a radio whose row names the interface.
     pub fn first_port(&self, interface: &Text) -> Option<DevName>
-        requires { HasPlaces self.now.answers (map (λ answer. answer.interface) self.now.answered.items) }
-        ensures { result ≡ option_map (λ answer. answer.port) (find (λ answer. bytes_eq answer.interface
+        requires { HasPlaces self.now.answers
+            (map (λ answer. answer.interface) self.now.answered.items) }
+        ensures { result ≡ option_map (λ answer. answer.port)
+            (find (λ answer. bytes_eq answer.interface
             interface.now) (map as_answered self.now.answered.items)) }
     {
         match self.first_answer(interface) {
@@ -92,7 +95,8 @@ impl RadioPorts {
     }
 
     fn first_answer(&self, interface: &Text) -> Option<&PortAnswer>
-        requires { HasPlaces self.now.answers (map (λ answer. answer.interface) self.now.answered.items) }
+        requires { HasPlaces self.now.answers
+            (map (λ answer. answer.interface) self.now.answered.items) }
         ensures { option_copied result
             ≡ named (λ answer. answer.interface) self.now.answered.items interface.now }
     {
@@ -205,7 +209,8 @@ fn answered_ports(
     requires index { IsIndexOf inputs.now index.now }
     requires radios { radios.now ≡ inputs.now.conf.radios }
     ensures { IfOk result (λ ports. map as_answered ports.items
-        ≡ flat_map (spec.ports_of_radio (facts_of inputs.now)) (firsts (λ row. row.name) radios.now)) }
+        ≡ flat_map (spec.ports_of_radio (facts_of inputs.now))
+        (firsts (λ row. row.name) radios.now)) }
 {
     let mut ports = Vec::new(alloc);
     for (place, radio) in radios.iter().enumerate() {
@@ -320,7 +325,8 @@ fn add_port(
 
 // The places of answers by interface; of one interface the first.
 fn answer_places(alloc: Global, answered: &[PortAnswer]) -> Result<BTreeMap<Text, usize>, Memory>
-    ensures { IfOk result (λ places. HasPlaces places (map (λ answer. answer.interface) answered.now)) }
+    ensures { IfOk result (λ places. HasPlaces places
+        (map (λ answer. answer.interface) answered.now)) }
 {
     let mut places = BTreeMap::new(alloc);
     for (place, answer) in answered.iter().enumerate() {
@@ -464,7 +470,8 @@ fn take_group(
 ) -> Vec<DevName>
     ensures ports { result.items ≡ group_in groups.old bridge.now }
     ensures others { (q : List ℕ) → get (slice_cmp nat_cmp) groups.new q
-        ≡ (if is_at (slice_cmp nat_cmp bridge.now) q then None else get (slice_cmp nat_cmp) groups.old q) }
+        ≡ (if is_at (slice_cmp nat_cmp bridge.now) q then None
+        else get (slice_cmp nat_cmp) groups.old q) }
 {
     match groups.remove(bridge) {
         Some(group) => group,

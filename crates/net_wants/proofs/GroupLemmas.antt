@@ -16,7 +16,9 @@ use Rattle.net_wants.specs.Grouped.{is_route_named}
 
 -- ---- one item more
 
-pub items_more : {X : Type 0} (test : List ℕ → X → Bool) (xs : List X) (old new : BTreeMap (List ℕ) (Vec ℕ Global)) (i : ℕ) (x : X) → i < length xs → x ≡ get_or xs i x → ((name : List ℕ) → map (slice_get xs) (group_in old name) ≡ map Some (filter (test name) (take i xs))) → ((q : List ℕ) → group_in new q ≡ group_in old q ++ cond (test q x) (i ∷ []) []) → (name : List ℕ) → map (slice_get xs) (group_in new name) ≡ map Some (filter (test name) (take (i + 1) xs))
+pub items_more : {X : Type 0} (test : List ℕ → X → Bool) (xs : List X) (old new : BTreeMap (List ℕ) (Vec ℕ Global)) (i : ℕ) (x : X) → i < length xs → x ≡ get_or xs i x
+    → ((name : List ℕ) → map (slice_get xs) (group_in old name) ≡ map Some (filter (test name) (take i xs))) → ((q : List ℕ) → group_in new q ≡ group_in old q ++ cond (test q x) (i ∷ []) []) → (name : List ℕ)
+    → map (slice_get xs) (group_in new name) ≡ map Some (filter (test name) (take (i + 1) xs))
 items_more {X} test xs old new i x within is before made name =
     ap (map (slice_get xs)) (made name)
     ∙ map-append (slice_get xs) (group_in old name) (cond (test name x) (i ∷ []) [])
@@ -53,7 +55,8 @@ route_named conf r q = tests (is_faultless r.faults) r.disabled ∙ ap (λ b. is
     at None = refl
     at (Some place) = refl
 
-    tests : (a d : Bool) → option_map_or (λ (row : InterfaceRow). bytes_eq row.name q) (cond (a && not d) (option_and_then (slice_get conf.interfaces) r.interface) None) false ≡ (a && (not d && option_map_or (λ (row : InterfaceRow). bytes_eq row.name q) (option_and_then (slice_get conf.interfaces) r.interface) false))
+    tests : (a d : Bool) → option_map_or (λ (row : InterfaceRow). bytes_eq row.name q) (cond (a && not d) (option_and_then (slice_get conf.interfaces) r.interface) None) false
+        ≡ (a && (not d && option_map_or (λ (row : InterfaceRow). bytes_eq row.name q) (option_and_then (slice_get conf.interfaces) r.interface) false))
     tests true true = refl
     tests true false = refl
     tests false d = refl

@@ -26,14 +26,16 @@ one_counts p x false c h = refl
 counted : {X : Type 0} (p : X → Bool) (xs ys : List X) → length (filter p (xs ++ ys)) ≡ length (filter p xs) + length (filter p ys)
 counted p xs ys = ap length (filter-append p xs ys) ∙ length-append (filter p xs) (filter p ys)
 
-pub count_firsts_more : {X : Type 0} (key : X → List ℕ) (p : X → Bool) (xs : List X) (places : BTreeMap (List ℕ) ℕ) (i : ℕ) (x : X) (b : Bool) → HasPlaces places (map key xs) → i < length xs → x ≡ get_or xs i x → b ≡ (is_place i (get (slice_cmp nat_cmp) places (key x)) && p x) → length (filter p (firsts key (take (i + 1) xs))) ≡ length (filter p (firsts key (take i xs))) + cond b 1 0
+pub count_firsts_more : {X : Type 0} (key : X → List ℕ) (p : X → Bool) (xs : List X) (places : BTreeMap (List ℕ) ℕ) (i : ℕ) (x : X) (b : Bool) → HasPlaces places (map key xs) → i < length xs → x ≡ get_or xs i x → b
+    ≡ (is_place i (get (slice_cmp nat_cmp) places (key x)) && p x) → length (filter p (firsts key (take (i + 1) xs))) ≡ length (filter p (firsts key (take i xs))) + cond b 1 0
 count_firsts_more {X} key p xs places i x b has within is test =
     let first : Bool = is_place i (get (slice_cmp nat_cmp) places (key x)) in
     ap (λ (z : List X). length (filter p z)) (firsts_more key xs places i x has within is)
     ∙ counted p (firsts key (take i xs)) (cond first (x ∷ []) [])
     ∙ ap (λ n. length (filter p (firsts key (take i xs))) + n) (one_counts p x first (p x) refl ∙ ap (λ c. cond c 1 0) (sym test))
 
-pub count_names_more : (p : List ℕ → Bool) (rows : List NameRow) (i : ℕ) (row : NameRow) (b : Bool) → i < length rows → row ≡ get_or rows i row → b ≡ p row.name → length (filter p (map (λ (r : NameRow). r.name) (take (i + 1) rows))) ≡ length (filter p (map (λ (r : NameRow). r.name) (take i rows))) + cond b 1 0
+pub count_names_more : (p : List ℕ → Bool) (rows : List NameRow) (i : ℕ) (row : NameRow) (b : Bool) → i < length rows → row ≡ get_or rows i row → b ≡ p row.name → length (filter p (map (λ (r : NameRow). r.name) (take (i + 1) rows)))
+    ≡ length (filter p (map (λ (r : NameRow). r.name) (take i rows))) + cond b 1 0
 count_names_more p rows i row b within is test =
     let name : NameRow → List ℕ = λ r. r.name in
     ap (λ (z : List NameRow). length (filter p (map name z))) (more_is rows i row within is)

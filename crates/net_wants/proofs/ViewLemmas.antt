@@ -29,12 +29,14 @@ use Rattle.net_view.proofs.PortLemmas.{firsts_more, more_is, row_is, row_is_none
 use Rattle.net_view.proofs.LevelLemmas.{standing_is}
 use Rattle.net_view.proofs.NameLemmas.{or_none}
 
-pub any_firsts_more : {X : Type 0} (key : X → List ℕ) (p : X → Bool) (xs : List X) (places : BTreeMap (List ℕ) ℕ) (i : ℕ) (x : X) → HasPlaces places (map key xs) → i < length xs → x ≡ get_or xs i x → list_any p (firsts key (take (i + 1) xs)) ≡ (list_any p (firsts key (take i xs)) || list_any p (cond (is_place i (get (slice_cmp nat_cmp) places (key x))) (x ∷ []) []))
+pub any_firsts_more : {X : Type 0} (key : X → List ℕ) (p : X → Bool) (xs : List X) (places : BTreeMap (List ℕ) ℕ) (i : ℕ) (x : X) → HasPlaces places (map key xs) → i < length xs → x ≡ get_or xs i x
+    → list_any p (firsts key (take (i + 1) xs)) ≡ (list_any p (firsts key (take i xs)) || list_any p (cond (is_place i (get (slice_cmp nat_cmp) places (key x))) (x ∷ []) []))
 any_firsts_more {X} key p xs places i x has within is =
     ap (list_any p) (firsts_more key xs places i x has within is)
     ∙ list_any-append p (firsts key (take i xs)) (cond (is_place i (get (slice_cmp nat_cmp) places (key x))) (x ∷ []) [])
 
-pub any_names_more : (p : List ℕ → Bool) (rows : List NameRow) (i : ℕ) (row : NameRow) → i < length rows → row ≡ get_or rows i row → list_any p (map (λ (r : NameRow). r.name) (take (i + 1) rows)) ≡ (list_any p (map (λ (r : NameRow). r.name) (take i rows)) || p row.name)
+pub any_names_more : (p : List ℕ → Bool) (rows : List NameRow) (i : ℕ) (row : NameRow) → i < length rows → row ≡ get_or rows i row → list_any p (map (λ (r : NameRow). r.name) (take (i + 1) rows))
+    ≡ (list_any p (map (λ (r : NameRow). r.name) (take i rows)) || p row.name)
 any_names_more p rows i row within is =
     ap (λ (z : List NameRow). list_any p (map (λ (r : NameRow). r.name) z)) (more_is rows i row within is)
     ∙ ap (list_any p) (map-append (λ (r : NameRow). r.name) (take i rows) (row ∷ []))
@@ -43,12 +45,14 @@ any_names_more p rows i row within is =
 
 -- ---- what an interface uses
 
-pub uses_is : (facts : Facts) (row : InterfaceRow) (claimed up : Bool) (device layer : Option (List ℕ)) → claimed ≡ is_claimed facts row → device ≡ device_of facts row → up ≡ is_up facts row → layer ≡ layer_of facts row → (q : List ℕ) → uses facts q row ≡ ((claimed && is_name device q) || (up && is_name layer q))
+pub uses_is : (facts : Facts) (row : InterfaceRow) (claimed up : Bool) (device layer : Option (List ℕ)) → claimed ≡ is_claimed facts row → device ≡ device_of facts row → up ≡ is_up facts row → layer ≡ layer_of facts row → (q : List ℕ)
+    → uses facts q row ≡ ((claimed && is_name device q) || (up && is_name layer q))
 uses_is facts row claimed up device layer p d u l q = sym (λ i. (p i && is_name (d i) q) || (u i && is_name (l i) q))
 
 -- ---- what is under a used name
 
-pub serves_is : (facts : Facts) (k : ℕ) (name : List ℕ) (ready claimed under : Bool) → ready ≡ available facts name → claimed ≡ list_any (uses facts name) (firsts (λ row. row.name) facts.conf.interfaces) → under ≡ list_any (λ upper. stands facts name upper && by_levels k (serves_at facts) upper) (names_of facts.conf) → (ready && (claimed || under)) ≡ by_levels (k + 1) (serves_at facts) name
+pub serves_is : (facts : Facts) (k : ℕ) (name : List ℕ) (ready claimed under : Bool) → ready ≡ available facts name → claimed ≡ list_any (uses facts name) (firsts (λ row. row.name) facts.conf.interfaces) → under
+    ≡ list_any (λ upper. stands facts name upper && by_levels k (serves_at facts) upper) (names_of facts.conf) → (ready && (claimed || under)) ≡ by_levels (k + 1) (serves_at facts) name
 unfolding by_levels
 serves_is facts k name ready claimed under r c u = (λ i. r i && (c i || u i)) ∙ ap (λ (n : ℕ). by_levels n (serves_at facts) name) (sym (add-one k))
 
@@ -74,7 +78,8 @@ stands_on_none facts upper none q =
     ap (λ r. list_any (λ n. bytes_eq n q) (lowers_of (standing_of_row r (radio_ports_of facts upper)))) (row_is_none facts.conf.names upper none)
     ∙ ap (list_any (λ n. bytes_eq n q)) (none_lowers (vlan_parts upper) (radio_ports_of facts upper))
 
-pub stands_by_row : (facts : Facts) (upper : List ℕ) (row : NameRow) → Some row ≡ named (λ r. r.name) facts.conf.names upper → (q : List ℕ) → stands facts q upper ≡ list_any (λ n. bytes_eq n q) (lowers_of (standing_of_row row (radio_ports_of facts upper)))
+pub stands_by_row : (facts : Facts) (upper : List ℕ) (row : NameRow) → Some row ≡ named (λ r. r.name) facts.conf.names upper → (q : List ℕ) → stands facts q upper
+    ≡ list_any (λ n. bytes_eq n q) (lowers_of (standing_of_row row (radio_ports_of facts upper)))
 stands_by_row facts upper row is q = ap (λ r. list_any (λ n. bytes_eq n q) (lowers_of (standing_of_row r (radio_ports_of facts upper)))) (row_is facts.conf.names upper row is)
 
 broken_none : (kind : NameKind) (more : List (List ℕ)) → lowers_of (standing_of kind true more) ≡ []
@@ -88,10 +93,12 @@ broken_lowers row more broken q = ap (λ s. list_any (λ n. bytes_eq n q) (lower
 pub plain_lowers : (row : NameRow) (more : List (List ℕ)) → row.kind ≡ Plain → (q : List ℕ) → list_any (λ n. bytes_eq n q) (lowers_of (standing_of_row row more)) ≡ false
 plain_lowers row more kind q = ap (λ s. list_any (λ n. bytes_eq n q) (lowers_of s)) (standing_is row Plain row.broken more kind refl)
 
-pub bridge_lowers : (row : NameRow) (empty : Bool) (ports more : List (List ℕ)) → row.kind ≡ Bridge empty ports → row.broken ≡ false → (q : List ℕ) → list_any (λ n. bytes_eq n q) (lowers_of (standing_of_row row more)) ≡ (list_any (λ n. bytes_eq n q) ports || list_any (λ n. bytes_eq n q) more)
+pub bridge_lowers : (row : NameRow) (empty : Bool) (ports more : List (List ℕ)) → row.kind ≡ Bridge empty ports → row.broken ≡ false → (q : List ℕ) → list_any (λ n. bytes_eq n q) (lowers_of (standing_of_row row more))
+    ≡ (list_any (λ n. bytes_eq n q) ports || list_any (λ n. bytes_eq n q) more)
 bridge_lowers row empty ports more kind sound q = ap (λ s. list_any (λ n. bytes_eq n q) (lowers_of s)) (standing_is row (Bridge empty ports) false more kind sound) ∙ list_any-append (λ n. bytes_eq n q) ports more
 
-pub vlan_lowers : (row : NameRow) (lower : Option (List ℕ)) (id : ℕ) (more : List (List ℕ)) → row.kind ≡ Vlan lower id → row.broken ≡ false → (q : List ℕ) → list_any (λ n. bytes_eq n q) (lowers_of (standing_of_row row more)) ≡ (true && is_name lower q)
+pub vlan_lowers : (row : NameRow) (lower : Option (List ℕ)) (id : ℕ) (more : List (List ℕ)) → row.kind ≡ Vlan lower id → row.broken ≡ false → (q : List ℕ) → list_any (λ n. bytes_eq n q) (lowers_of (standing_of_row row more))
+    ≡ (true && is_name lower q)
 vlan_lowers row lower id more kind sound q = ap (λ s. list_any (λ n. bytes_eq n q) (lowers_of s)) (standing_is row (Vlan lower id) false more kind sound) ∙ over lower
   where
     over : (lower : Option (List ℕ)) → list_any (λ n. bytes_eq n q) (lowers_of (standing_of (Vlan lower id) false more)) ≡ (true && is_name lower q)

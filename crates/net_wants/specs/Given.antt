@@ -8,7 +8,8 @@ use Rattle.net_rules.specs.Want.{main_table}
 
 -- a route of an answer, on a device
 abbrev pub answer_route : List ℕ → AnswerRoute → Object
-answer_route dev r = object.Route (record { target = r.target; via = r.via; dev = dev; metric = r.metric; table = main_table })
+answer_route dev r = object.Route
+    (record { target = r.target; via = r.via; dev = dev; metric = r.metric; table = main_table })
 
 -- a route of a section, on a device
 abbrev pub route_on : List ℕ → RouteRow → Object

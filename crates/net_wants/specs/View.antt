@@ -19,7 +19,8 @@ AreClaimed inputs names = HasNames names (λ q. list_any (uses (facts_of inputs)
 
 -- the names on which a name stands that is used, as the answer looks so many levels up
 abbrev pub HasAbove : Facts → ℕ → BTreeSet (List ℕ) → Type 0
-HasAbove facts levels names = HasNames names (λ q. list_any (λ upper. stands facts q upper && by_levels levels (serves_at facts) upper) (names_of facts.conf))
+HasAbove facts levels names = HasNames names
+    (λ q. list_any (λ upper. stands facts q upper && by_levels levels (serves_at facts) upper) (names_of facts.conf))
 
 -- the levels, and what is used, are those of the inputs
 pub record IsViewOf (inputs : Inputs) (view : View) : Type 0 where

@@ -20,7 +20,8 @@ use net_rules::Inputs;
 use net_view::{Levels, RadioPorts, has_name, is_first, is_name};
 
 impl View {
-    /// How many use the name: interfaces, each once, bridges and VLANs. None do where it is not available.
+    /// How many use the name: interfaces, each once, bridges and VLANs. None do where it is not
+    /// available.
     pub fn users(&self, inputs: &Inputs, name: &DevName) -> u128
         requires { IsViewOf inputs.now self.now }
         ensures { result ≡ spec.users (facts_of inputs.now) name.now }

@@ -1,4 +1,5 @@
-ghost use Rattle.std.specs.Prelude.{◌≡◌, ◌+◌, ℕ, [], ◌∷◌, bytes_eq, ◌&&◌, if◌then◌else◌, map, IfOk, OnOk};
+ghost use Rattle.std.specs.Prelude.{◌≡◌, ◌+◌, ℕ, [], ◌∷◌, bytes_eq, ◌&&◌, if◌then◌else◌, map, IfOk};
+ghost use Rattle.std.specs.Prelude.{OnOk};
 ghost use Rattle.std.specs.BTreeMap.{get};
 ghost use Rattle.std.specs.Ordering.{nat_cmp};
 ghost use Rattle.std.specs.Cmp.Lexicographic.{slice_cmp};
@@ -70,7 +71,8 @@ fn claimed_names(
 ) -> Result<BTreeSet<DevName>, Memory>
     requires levels { AreLevelsOf inputs.now levels.now }
     requires interfaces { interfaces.now ≡ inputs.now.conf.interfaces }
-    ensures { IfOk result (λ names. HasNames names (λ q. list_any (spec.uses (facts_of inputs.now) q)
+    ensures { IfOk result (λ names. HasNames names
+        (λ q. list_any (spec.uses (facts_of inputs.now) q)
         (firsts (λ row. row.name) interfaces.now))) }
 {
     let mut names = BTreeSet::new(alloc);
@@ -88,7 +90,8 @@ fn add_uses_if_first(
     place: usize,
 ) -> Result<(), Memory>
     requires { AreLevelsOf inputs.now levels.now }
-    ensures { OnOk result (Adds names.old names.new (λ q. list_any (spec.uses (facts_of inputs.now) q)
+    ensures { OnOk result (Adds names.old names.new
+        (λ q. list_any (spec.uses (facts_of inputs.now) q)
         (if is_place place (get (slice_cmp nat_cmp) levels.now.ports.index.interfaces row.now.name)
         then row.now ∷ [] else []))) }
 {

@@ -1,4 +1,5 @@
-//! The devices of a run: real ones where the command has places, and empty ones in memory where it has none.
+//! The devices of a run: real ones where the command has places, and empty ones in memory where it
+//! has none.
 ghost use Rattle.std.specs.Prelude.{◌≡◌};
 
 use crate::folders::{memory_disk, open_folders, text_of};
@@ -82,7 +83,8 @@ fn run_without<E: Sink>(
     Ok(status)
 }
 
-// Over an input and two disks; the other devices are those of the process, and the kernel is a model.
+// Over an input and two disks; the other devices are those of the process, and the kernel is a
+// model.
 fn carry<S: Source, E: Sink, D: Disk, T: Disk>(
     rt: &HostRuntime,
     alloc: Global,

@@ -1,4 +1,5 @@
-//! `plane`: carries a command out over the real devices of the process and a kernel that is a model.
+//! `plane`: carries a command out over the real devices of the process and a kernel that is a
+//! model.
 #![tactic(auto)]
 
 mod devices;

@@ -82,7 +82,8 @@ pub(crate) fn bytes_of<'a>(files: &'a [MemFile], name: &str) -> Option<&'a [u8]>
         .map(|file| file.bytes.as_bytes())
 }
 
-/// The files with one of that name and these bytes. Where there are none, it stays, and is empty where it is new.
+/// The files with one of that name and these bytes. Where there are none, it stays, and is empty
+/// where it is new.
 fn with_file(
     alloc: Global,
     files: &[MemFile],

@@ -90,7 +90,8 @@ pub(crate) fn put_lines(lines: &BTreeSet<String>, out: &mut Vec<u8>) -> anyhow::
     Ok(())
 }
 
-/// Puts the packages of `now` that others had before behind `out`: the name, the size, and the bytes.
+/// Puts the packages of `now` that others had before behind `out`: the name, the size, and the
+/// bytes.
 pub(crate) fn put_changed(
     alloc: Global,
     before: &[MemFile],
@@ -119,7 +120,8 @@ pub(crate) fn gates_text(gates: &[u8]) -> &'static str {
     }
 }
 
-/// How a run ended beside one in which no call failed: its status, how much of the output there is, and what it told.
+/// How a run ended beside one in which no call failed: its status, how much of the output there is,
+/// and what it told.
 pub(crate) fn ending(alloc: Global, whole: &Ran, ran: &Ran) -> anyhow::Result<String> {
     let mut text = String::new(alloc);
     write!(text, "status {}, ", ran.status)?;

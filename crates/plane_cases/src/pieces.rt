@@ -28,7 +28,8 @@ fn count_of(text: &[u8], line: &[u8]) -> usize {
         .count()
 }
 
-/// How many lines the first piece is answered by, where the answers of both are that of the whole, with one more `ok` behind the first.
+/// How many lines the first piece is answered by, where the answers of both are that of the whole,
+/// with one more `ok` behind the first.
 fn lines_of_first(whole: &[u8], cut: &[u8]) -> Option<usize> {
     let same = whole
         .split_inclusive(|byte| *byte == b'\n')
@@ -81,7 +82,8 @@ impl Pieces<'_> {
         })
     }
 
-    /// Puts a line for the cuts at places that follow one another, for whose pieces as much is sent, behind `out`.
+    /// Puts a line for the cuts at places that follow one another, for whose pieces as much is
+    /// sent, behind `out`.
     pub(crate) fn cut(&self, script: &str, out: &mut Vec<u8>) -> anyhow::Result<()> {
         let (front, digits) = parts(script)?;
         let line = last_line(front);

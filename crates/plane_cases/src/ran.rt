@@ -117,7 +117,8 @@ impl Asked {
     }
 }
 
-/// What a run is given: its input, the numbers of the calls of each device that fail, and the moments of its clock.
+/// What a run is given: its input, the numbers of the calls of each device that fail, and the
+/// moments of its clock.
 #[derive(Drop)]
 struct Given {
     input: Vec<u8>,
@@ -150,7 +151,8 @@ impl Left {
     }
 }
 
-/// Runs the program over two disks, where the clock does not fall and the disks have the same packages.
+/// Runs the program over two disks, where the clock does not fall and the disks have the same
+/// packages.
 fn carry_out(
     alloc: Global,
     words: &[String],

@@ -1,4 +1,5 @@
-//! Runs that are stopped at each call of the disk of packages, and what is seen of the folders that they leave.
+//! Runs that are stopped at each call of the disk of packages, and what is seen of the folders that
+//! they leave.
 use crate::failing::Failing;
 use crate::folder::{Folder, disk};
 use crate::lines::{ending, gates_text, push_lines, put_lines};
@@ -101,7 +102,8 @@ impl<'a> Stops<'a> {
         }
     }
 
-    /// Puts a line for each way in which a run or a look ends behind `out`, where more than so many folders are left.
+    /// Puts a line for each way in which a run or a look ends behind `out`, where more than so many
+    /// folders are left.
     pub(crate) fn play(
         &mut self,
         asked: &Asked,
@@ -121,7 +123,8 @@ impl<'a> Stops<'a> {
         Err(anyhow::anyhow!("the run does not end"))
     }
 
-    /// Runs the program over a disk that does so many calls, and looks at what is left. Tells whether the run was done.
+    /// Runs the program over a disk that does so many calls, and looks at what is left. Tells
+    /// whether the run was done.
     fn stop(
         &mut self,
         asked: &Asked,

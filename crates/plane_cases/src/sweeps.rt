@@ -30,7 +30,8 @@ impl Sweep<'_> {
         self.asked.try_over(self.alloc, self.folder, &failing)
     }
 
-    /// Puts a line for each way in which the runs end behind `out`, where there are more than so many calls.
+    /// Puts a line for each way in which the runs end behind `out`, where there are more than so
+    /// many calls.
     pub(crate) fn each(&self, more: u64, out: &mut Vec<u8>) -> anyhow::Result<()> {
         let whole = self.whole()?;
         let mut endings: Vec<String> = Vec::new(self.alloc);

@@ -105,7 +105,8 @@ before_cut file synced since size done image sizes is =
     let least_is = least_push file synced since call ∙ least_here file least size done in
     let greatest_is = greatest_push file synced since call in
     let base : least ≤ length synced = least_folds file (length synced) since in
-    let none_now : (place : ℕ) → list_any (is_written_by file place) since ≡ false → list_any (is_written_by file place) (since ++ call ∷ []) ≡ false = λ place none. any_push (is_written_by file place) since call ∙ ap (λ a. a || false) none in
+    let none_now : (place : ℕ) → list_any (is_written_by file place) since ≡ false → list_any (is_written_by file place) (since ++ call ∷ []) ≡ false = λ place none. any_push (is_written_by file place) since call ∙ ap (λ a. a || false) none
+    in
     ⊎_elim
     (λ shorter.
     let k = least - size in

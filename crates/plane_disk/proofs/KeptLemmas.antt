@@ -26,7 +26,8 @@ kept_call start calls news seen new_seen synced recorded call step more after ke
   few = kept.few;
   within = omega (arith, kept.within, ap length more, length-append calls (call ∷ []));
   state =
-      let pushed : after_calls (at_first (contents_of start)) (calls ++ call ∷ []) ≡ after_call (record { seen = seen; synced = synced; since = drop recorded calls }) call = state_push (contents_of start) calls call ∙ ap (λ s. after_call s call) kept.state in
+      let pushed : after_calls (at_first (contents_of start)) (calls ++ call ∷ []) ≡ after_call (record { seen = seen; synced = synced; since = drop recorded calls }) call = state_push (contents_of start) calls call
+      ∙ ap (λ s. after_call s call) kept.state in
       let rest : drop recorded news ≡ drop recorded calls ++ call ∷ [] = ap (drop recorded) more ∙ drop-append-le recorded calls (call ∷ []) kept.within in
       ap (after_calls (at_first (contents_of start))) more ∙ (pushed ∙ (step (record { seen = seen; synced = synced; since = drop recorded calls })
       ∙ ap₂ (λ f s. let made : DiskState = record { seen = f; synced = synced; since = s } in made) (sym after) (sym rest)));

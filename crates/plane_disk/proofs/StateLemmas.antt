@@ -15,7 +15,8 @@ use Rattle.plane_disk.specs.Sound.{with_each}
 use Rattle.plane_disk.proofs.ImageLemmas.{before_write, before_cut}
 
 -- a call at another file says nothing about this one
-pub other_write : (file other at : ℕ) (bytes : List ℕ) (done : Bool) (synced : List ℕ) (since : List DiskCall) (image : List ℕ) → other ≢ file → IsImageOf other synced (since ++ Write file at bytes done ∷ []) image → IsImageOf other synced since image
+pub other_write : (file other at : ℕ) (bytes : List ℕ) (done : Bool) (synced : List ℕ) (since : List DiskCall) (image : List ℕ) → other ≢ file → IsImageOf other synced (since ++ Write file at bytes done ∷ []) image
+    → IsImageOf other synced since image
 other_write file other at bytes done synced since image apart is =
     let call = Write file at bytes done in
     let least = least_push other synced since call in
@@ -78,7 +79,8 @@ pub crash_of_cut : (state : DiskState) (file size : ℕ) (done : Bool) → IsIma
 crash_of_cut state file size done seen within image is =
     let now = seen.each file within in
     let inside : file < length image = omega (arith, is.count, seen.count, within) in
-    let other : (n : ℕ) → n ≢ file → n < length image → IsImageOf n (bytes_of state.synced n) state.since (bytes_of image n) = λ n apart h. other_cut file n size done (bytes_of state.synced n) state.since (bytes_of image n) apart (is.each n h) in
+    let other : (n : ℕ) → n ≢ file → n < length image → IsImageOf n (bytes_of state.synced n) state.since (bytes_of image n) =
+    λ n apart h. other_cut file n size done (bytes_of state.synced n) state.since (bytes_of image n) apart (is.each n h) in
     ⊎_elim
     (λ same. inl (record { count = is.count; each = λ n h. ⊎_elim (λ e. subst (λ m. IsImageOf m (bytes_of state.synced m) state.since (bytes_of image m)) (sym e) same) (λ apart. other n apart h) (cases_eq n file) }))
     (λ part. inr (

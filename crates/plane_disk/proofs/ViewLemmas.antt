@@ -32,7 +32,8 @@ was_keeps start calls call from image was = record {
   image = subst (λ cs. IsImage (after_calls (at_first start) cs) image) (sym (take-append-le was.moment calls (call ∷ []) was.past)) was.image;
 }
 
-pub was_adds : (start : Files) (calls : List DiskCall) (call : DiskCall) (from : ℕ) (image : Files) → WasImage start (calls ++ call ∷ []) from image → WasImage start calls from image ⊎ IsImage (after_calls (at_first start) (calls ++ call ∷ [])) image
+pub was_adds : (start : Files) (calls : List DiskCall) (call : DiskCall) (from : ℕ) (image : Files) → WasImage start (calls ++ call ∷ []) from image
+    → WasImage start calls from image ⊎ IsImage (after_calls (at_first start) (calls ++ call ∷ [])) image
 was_adds start calls call from image was = ⊎_elim
     (λ past. inr (subst (λ cs. IsImage (after_calls (at_first start) cs) image) (take_all was.moment (calls ++ call ∷ []) (omega (arith, past, length-append calls (call ∷ [])))) was.image))
     (λ within. inl (record {

@@ -1,5 +1,6 @@
 -- The contents of files, and what a call may do to one of them.
-use Rattle.std.specs.Prelude.{ℕ, ◌≡◌, ◌≢◌, ◌+◌, ◌-◌, ◌≤◌, min, max, List, [], ◌++◌, length, take, drop, slice_index_or, slice_set}
+use Rattle.std.specs.Prelude.{ℕ, ◌≡◌, ◌≢◌, ◌+◌, ◌-◌, ◌≤◌, min, max, List, [], ◌++◌, length, take, drop, slice_index_or}
+use Rattle.std.specs.Prelude.{slice_set}
 
 -- the contents of the files, by their numbers
 abbrev pub Files : Type 0

@@ -1,7 +1,8 @@
 -- What a crash may leave of a disk in memory: its images. Between two syncs each byte that was written, and each past
 -- an old end, may be any byte; every other byte is as it was at the last sync. The size lies between the least and the
 -- greatest since then. A call that failed counts like one that was done, since it may have been done in part.
-use Rattle.std.specs.Prelude.{ℕ, ◌≡◌, ◌≤◌, ◌<◌, ◌+◌, ◌&&◌, min, max, Bool, false, List, length, take, slice_index, nat_eq, nat_le, nat_lt, if◌then◌else◌}
+use Rattle.std.specs.Prelude.{ℕ, ◌≡◌, ◌≤◌, ◌<◌, ◌+◌, ◌&&◌, min, max, Bool, false, List, length, take, slice_index}
+use Rattle.std.specs.Prelude.{nat_eq, nat_le, nat_lt, if◌then◌else◌}
 use Rattle.std.specs.List.{fold, list_any}
 use Rattle.plane_disk.specs.Files.{Files, bytes_of}
 use Rattle.plane_disk.specs.Calls.{DiskState, at_first, after_calls}

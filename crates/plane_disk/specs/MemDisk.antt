@@ -1,5 +1,6 @@
 -- A disk in memory.
-use Rattle.std.specs.Prelude.{ℕ, ◌≡◌, ◌≤◌, ◌<◌, ◌^◌, ◌⊎◌, List, length, map, drop, Option, Some, None, Contains, Result, OnOk, OnErr, ◌∷◌, [], ◌++◌, Bool, true, false}
+use Rattle.std.specs.Prelude.{ℕ, ◌≡◌, ◌≤◌, ◌<◌, ◌^◌, ◌⊎◌, List, length, map, drop, Option, Some, None, Contains, Result}
+use Rattle.std.specs.Prelude.{OnOk, OnErr, ◌∷◌, [], ◌++◌, Bool, true, false}
 use Rattle.plane_words.specs.Causes.{next_count}
 use Rattle.plane_disk.specs.Files.{Files}
 use Rattle.plane_disk.specs.Names.{AreDiskNames}

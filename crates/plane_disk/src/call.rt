@@ -1,7 +1,7 @@
 use plane_io::Text;
 
-/// A call of a disk that changes its files, or makes them whole. A write or a cut that failed is not `done`: a read then
-/// gives what it gave, and a crash may leave any part of it.
+/// A call of a disk that changes its files, or makes them whole. A write or a cut that failed is
+/// not `done`: a read then gives what it gave, and a crash may leave any part of it.
 #[derive(Drop)]
 pub enum DiskCall {
     /// Wrote the bytes over a file from the place `at` on.

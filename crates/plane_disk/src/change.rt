@@ -1,5 +1,6 @@
 //! What the calls of a disk in memory do to its fields.
-ghost use Rattle.std.specs.Prelude.{◌≡◌, ◌≤◌, ◌<◌, ◌++◌, [], ◌∷◌, ◌↔◌, IsTrue, length, OnOk, OnErr, IfOk};
+ghost use Rattle.std.specs.Prelude.{◌≡◌, ◌≤◌, ◌<◌, ◌++◌, [], ◌∷◌, ◌↔◌, IsTrue, length, OnOk, OnErr};
+ghost use Rattle.std.specs.Prelude.{IfOk};
 ghost use Rattle.plane_disk.specs.declared.call.DiskCall.TheVariants.{Write, Cut, Sync};
 ghost use Rattle.plane_disk.specs.Files.{bytes_of, put_at, Reads};
 ghost use Rattle.plane_disk.specs.Calls.{seen_after};
@@ -57,7 +58,8 @@ fn written(alloc: Global, old: &[u8], at: usize, bytes: &[u8]) -> Result<Text, M
     Ok(Text::from_vec(whole))
 }
 
-/// Copies what a file has from a place on into the front of a buffer, as much as fits, and answers how much.
+/// Copies what a file has from a place on into the front of a buffer, as much as fits, and answers
+/// how much.
 pub(crate) fn copy_from(bytes: &[u8], at: usize, into: &mut [u8]) -> usize
     ensures fits { result ≤ length into.new }
     ensures reads { Reads bytes.now at result into.old into.new }
@@ -68,7 +70,8 @@ pub(crate) fn copy_from(bytes: &[u8], at: usize, into: &mut [u8]) -> usize
     count
 }
 
-/// Writes bytes over a file where the call is done, and records it. Where there is not enough memory, nothing changes.
+/// Writes bytes over a file where the call is done, and records it. Where there is not enough
+/// memory, nothing changes.
 pub(crate) fn write(
     files: &mut Vec<Text>,
     calls: &mut Vec<DiskCall>,
@@ -101,7 +104,8 @@ pub(crate) fn write(
     Ok(())
 }
 
-/// Cuts a file where the call is done, and records it. Where there is not enough memory, nothing changes.
+/// Cuts a file where the call is done, and records it. Where there is not enough memory, nothing
+/// changes.
 pub(crate) fn cut(
     files: &mut Vec<Text>,
     calls: &mut Vec<DiskCall>,
@@ -126,7 +130,8 @@ pub(crate) fn cut(
     Ok(())
 }
 
-/// Keeps the files as they are, and records a sync. Where there is not enough memory, nothing changes.
+/// Keeps the files as they are, and records a sync. Where there is not enough memory, nothing
+/// changes.
 pub(crate) fn record_sync(
     seen: &[Text],
     synced: &mut Vec<Text>,

@@ -2,12 +2,14 @@ ghost use Rattle.std.specs.Prelude.{◌≡◌, ◌≤◌, ◌<◌, length, take,
 ghost use Rattle.plane_words.specs.Causes.{HasCause};
 ghost use Rattle.plane_disk.specs.Files.{bytes_of, TornAt, CutAt, Reads};
 ghost use Rattle.plane_disk.specs.Names.{AreDiskNames, name_at};
-ghost use Rattle.plane_disk.specs.View.{View, Only, MayStep, Steps, AddsNone, Tells, HasWritten, HasCut, IsFile, IsSound, Elapses, Stays};
+ghost use Rattle.plane_disk.specs.View.{View, Only, MayStep, Steps, AddsNone, Tells, HasWritten};
+ghost use Rattle.plane_disk.specs.View.{HasCut, IsFile, IsSound, Elapses, Stays};
 
 use plane_io::Failed;
 
-/// A disk of several files, which have numbers below a count. Set and names of the files are fixed: files 0 and 1 are
-/// `.plane-gates` and `.plane-snapshot`, the others are packages in byte order of their names.
+/// A disk of several files, which have numbers below a count. Set and names of the files are fixed:
+/// files 0 and 1 are `.plane-gates` and `.plane-snapshot`, the others are packages in byte order of
+/// their names.
 pub trait Disk {
     /// What the disk tells.
     ghost view: { Self → View };
@@ -27,7 +29,8 @@ pub trait Disk {
         requires { IsFile (view self.now) file }
         ensures { Tells (view self.now) (λ files. result ≡ length (bytes_of files file)) };
 
-    /// Reads as many bytes as a file has from the place `at` on, up to the length of `into`, and answers how many.
+    /// Reads as many bytes as a file has from the place `at` on, up to the length of `into`, and
+    /// answers how many.
     fn read(&mut self, file: u32, at: u64, into: &mut [u8]) -> Result<usize, Failed>
         requires { IsFile (view self.old) file }
         ensures fits { IfOk result (λ count. count ≤ length into.new) }
@@ -37,7 +40,8 @@ pub trait Disk {
         ensures time { Elapses (view self.old) (view self.new) }
         ensures cause { HasCause (view self.old).faults (view self.new).faults result };
 
-    /// Writes bytes over a file from a place up to its end on. Where that fails it may have been done in part.
+    /// Writes bytes over a file from a place up to its end on. Where that fails it may have been
+    /// done in part.
     fn write_at(&mut self, file: u32, at: u64, bytes: &[u8]) -> Result<(), Failed>
         requires number { IsFile (view self.old) file }
         requires inside { Tells (view self.old) (λ files. at ≤ length (bytes_of files file)) }
@@ -50,7 +54,8 @@ pub trait Disk {
         ensures time { Elapses (view self.old) (view self.new) }
         ensures cause { HasCause (view self.old).faults (view self.new).faults result };
 
-    /// Cuts a file to a size; one that is no longer stays. Where that fails it may have been done in part.
+    /// Cuts a file to a size; one that is no longer stays. Where that fails it may have been done
+    /// in part.
     fn cut(&mut self, file: u32, size: u64) -> Result<(), Failed>
         requires { IsFile (view self.old) file }
         ensures cut { OnOk result (HasCut (view self.old) (view self.new) file size) }
@@ -59,7 +64,8 @@ pub trait Disk {
         ensures time { Elapses (view self.old) (view self.new) }
         ensures cause { HasCause (view self.old).faults (view self.new).faults result };
 
-    /// Makes all files whole: a crash then leaves what a read gives. Where that fails, nothing changes.
+    /// Makes all files whole: a crash then leaves what a read gives. Where that fails, nothing
+    /// changes.
     fn sync(&mut self) -> Result<(), Failed>
         ensures whole { OnOk result
             (Tells (view self.old) (λ files. Only files (view self.new).is_image)) }

@@ -103,7 +103,8 @@ fn is_image_of(file: u32, synced: &[u8], since: &[DiskCall], bytes: &[u8]) -> bo
 /// Whether a crash may leave these files of a disk that had others at the last sync.
 pub(crate) fn is_image(synced: &[Text], since: &[DiskCall], files: &[Text]) -> bool
     requires { length synced.now < 2 ^ 32 }
-    ensures { IsTrue result ↔ IsImage (record { seen = synced.now; synced = synced.now; since = since.now }) files.now }
+    ensures { IsTrue result ↔ IsImage
+        (record { seen = synced.now; synced = synced.now; since = since.now }) files.now }
 {
     if files.len() != synced.len() {
         return false;

@@ -1,8 +1,9 @@
-//! Disks of several files: what they tell, what their calls may leave after a crash, and a disk in memory.
+//! Disks of several files: what they tell, what their calls may leave after a crash, and a disk in
+//! memory.
 //!
-//! Between two syncs a crash may leave any bytes where was written, and past an old end; after a sync that succeeds it
-//! leaves what a read gives. A disk tells its files and its images only where it can: one in memory does, a folder of a
-//! real machine does not.
+//! Between two syncs a crash may leave any bytes where was written, and past an old end; after a
+//! sync that succeeds it leaves what a read gives. A disk tells its files and its images only where
+//! it can: one in memory does, a folder of a real machine does not.
 #![tactic(auto)]
 
 mod call;

@@ -1,9 +1,12 @@
-ghost use Rattle.std.specs.Prelude.{◌≡◌, ◌≤◌, ◌<◌, ◌+◌, ◌^◌, [], ◌∷◌, ◌++◌, length, take, Some, None, OnOk, OnErr, IfOk, IfSome, slice_index_or, true, IsTrue, ◌↔◌};
+ghost use Rattle.std.specs.Prelude.{◌≡◌, ◌≤◌, ◌<◌, ◌+◌, ◌^◌, [], ◌∷◌, ◌++◌, length, take, Some};
+ghost use Rattle.std.specs.Prelude.{None, OnOk, OnErr, IfOk, IfSome, slice_index_or, true, IsTrue};
+ghost use Rattle.std.specs.Prelude.{◌↔◌};
 ghost use Rattle.plane_words.specs.Causes.{HasCause};
 ghost use Rattle.plane_disk.specs.declared.call.DiskCall.TheVariants.{Write, Cut, Sync};
 ghost use Rattle.plane_disk.specs.Files.{bytes_of, TornAt, CutAt, Reads};
 ghost use Rattle.plane_disk.specs.Names.{AreDiskNames};
-ghost use Rattle.plane_disk.specs.View.{Only, MayStep, Steps, AddsNone, Tells, HasWritten, HasCut, IsFile, Elapses, Stays};
+ghost use Rattle.plane_disk.specs.View.{Only, MayStep, Steps, AddsNone, Tells, HasWritten, HasCut};
+ghost use Rattle.plane_disk.specs.View.{IsFile, Elapses, Stays};
 ghost use Rattle.plane_disk.specs.Images.{IsImage};
 ghost use Rattle.plane_disk.specs.MemDisk.{names_of, contents_of, state_of, view_of, Ends, Records};
 
@@ -16,9 +19,10 @@ use plane_io::{Failed, Memory, Text};
 use std::alloc::Global;
 use std::marker::Model;
 
-/// A disk in memory. Its calls of `read`, `write_at`, `cut` and `sync` are numbered from 1 in the order in which they are
-/// made. A call fails where its number stands in the list of the disk, behind the calls that its fuse passes, or where
-/// the disk cannot grow. Then a read gives what it gave, but a crash may leave any part of a write or a cut.
+/// A disk in memory. Its calls of `read`, `write_at`, `cut` and `sync` are numbered from 1 in the
+/// order in which they are made. A call fails where its number stands in the list of the disk,
+/// behind the calls that its fuse passes, or where the disk cannot grow. Then a read gives what it
+/// gave, but a crash may leave any part of a write or a cut.
 #[derive(Drop)]
 pub struct MemDisk {
     alloc: Global,
@@ -54,8 +58,8 @@ impl Model for MemDisk {
 }
 
 impl MemDisk {
-    /// A disk that has these files, in the order of their numbers. Its calls with the numbers in `failing` fail, and all
-    /// those behind the calls that the fuse passes.
+    /// A disk that has these files, in the order of their numbers. Its calls with the numbers in
+    /// `failing` fail, and all those behind the calls that the fuse passes.
     pub fn new(
         alloc: Global,
         files: Vec<MemFile>,
@@ -221,7 +225,8 @@ impl Disk for MemDisk {
         ensures time { Elapses (view_of self.old) (view_of self.new) }
         ensures cause { HasCause (view_of self.old).faults (view_of self.new).faults result }
 
-        // A call fails exactly where its number says so or a growth was refused, and is recorded where it is done.
+        // A call fails exactly where its number says so or a growth was refused, and is recorded
+        // where it is done.
         ensures ends { Ends self.old self.new result }
         ensures ok { OnOk result (self.new.calls ≡ self.old.calls ++ Sync ∷ []) }
         ensures err { OnErr result (self.new.calls ≡ self.old.calls) }

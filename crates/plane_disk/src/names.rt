@@ -19,7 +19,8 @@ fn all_may_stand(name: &[u8]) -> bool
     name.iter().all(|byte| may_stand(*byte))
 }
 
-/// Whether the bytes are the name of a package of which a folder can hold the file, 1 to 255 bytes long.
+/// Whether the bytes are the name of a package of which a folder can hold the file, 1 to 255 bytes
+/// long.
 pub fn is_package_name(name: &[u8]) -> bool
     ensures { IsTrue result ↔ IsPackageName name.now }
 {
@@ -43,8 +44,8 @@ fn is_placed(names: &[Text], file: usize) -> bool
     names[file].cmp(&names[file + 1]) == Ordering::Less
 }
 
-/// Whether these are the names of the files of a disk: `.plane-gates` and `.plane-snapshot`, and then packages in byte
-/// order, each once.
+/// Whether these are the names of the files of a disk: `.plane-gates` and `.plane-snapshot`, and
+/// then packages in byte order, each once.
 pub fn are_disk_names(names: &[Text]) -> bool
     ensures { IsTrue result ↔ AreDiskNames names.now }
 {

@@ -8,7 +8,8 @@ use crate::Source;
 use std::alloc::{AllocError, Global};
 use thiserror::Error;
 
-/// The most bytes that a text of configuration has: a package file, or the input of a command that reads one.
+/// The most bytes that a text of configuration has: a package file, or the input of a command that
+/// reads one.
 pub const INPUT_LIMIT: u64 = 1_048_576;
 
 /// How many bytes are asked for at once.
@@ -29,8 +30,8 @@ pub enum InputError {
 }
 
 impl InputError {
-    /// The number of the error: 3 for `ReadFailed`, 10 for `TooLong`, 8 for `Memory`. It is the exit status of a run that ends
-    /// for it.
+    /// The number of the error: 3 for `ReadFailed`, 10 for `TooLong`, 8 for `Memory`. It is the
+    /// exit status of a run that ends for it.
     pub fn number(&self) -> u8
         ensures { result ≡ number_of self.now }
     {
@@ -54,7 +55,8 @@ impl From<AllocError> for InputError {
 ///
 /// # Errors
 ///
-/// `ReadFailed` where a call of the source failed, and `TooLong` exactly where more than `limit` bytes were there.
+/// `ReadFailed` where a call of the source failed, and `TooLong` exactly where more than `limit`
+/// bytes were there.
 pub fn read_to_end<S: Source>(
     alloc: Global,
     input: &mut S,

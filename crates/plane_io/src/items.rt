@@ -50,7 +50,8 @@ impl<T> Items<T> {
         self.vec.as_slice()
     }
 
-    /// Adds an item at the end. Where there is not enough memory, the list stays and the item is dropped.
+    /// Adds an item at the end. Where there is not enough memory, the list stays and the item is
+    /// dropped.
     pub fn push(&mut self, item: T) -> Result<(), Memory>
     where
         T: Drop,

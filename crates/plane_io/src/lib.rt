@@ -1,7 +1,9 @@
-//! The outside: traits for what is read and written, texts and lists as values, and devices in memory.
+//! The outside: traits for what is read and written, texts and lists as values, and devices in
+//! memory.
 //!
-//! A device tells its contents only where it can: a source in memory does, a terminal does not. Every device keeps a
-//! count of its faults, and a call answers [`Failed`] only where that count rose.
+//! A device tells its contents only where it can: a source in memory does, a terminal does not.
+//! Every device keeps a count of its faults, and a call answers [`Failed`] only where that count
+//! rose.
 #![tactic(auto)]
 
 mod append;

@@ -1,4 +1,5 @@
-ghost use Rattle.std.specs.Prelude.{◌≡◌, ◌≤◌, ◌+◌, ◌⊎◌, ◌++◌, [], length, Some, OnOk, OnErr, IfOk, Contains};
+ghost use Rattle.std.specs.Prelude.{◌≡◌, ◌≤◌, ◌+◌, ◌⊎◌, ◌++◌, [], length, Some, OnOk, OnErr, IfOk};
+ghost use Rattle.std.specs.Prelude.{Contains};
 ghost use Rattle.plane_words.specs.Causes.{HasCause, Rose, next_count};
 ghost use Rattle.plane_words.specs.Growth.{Grows, GrowsByFront};
 ghost use Rattle.plane_io.specs.MemSink.{SinkInMemory};
@@ -7,8 +8,9 @@ use crate::{Failed, Memory, Sink};
 use std::alloc::Global;
 use std::marker::Model;
 
-/// A sink in memory. Its calls are numbered from 1 in the order in which they are made. A call fails where its number
-/// stands in the list of the sink, or where the sink cannot grow; then it writes nothing.
+/// A sink in memory. Its calls are numbered from 1 in the order in which they are made. A call
+/// fails where its number stands in the list of the sink, or where the sink cannot grow; then it
+/// writes nothing.
 #[derive(Drop)]
 pub struct MemSink {
     bytes: Vec<u8>,
@@ -93,7 +95,8 @@ impl Sink for MemSink {
             (GrowsByFront (Some self.old.bytes) (Some self.new.bytes) bytes.now) }
         ensures cause { HasCause self.old.faults self.new.faults result }
 
-        // A call fails exactly where its number is in the list or a growth was refused, and writes nothing then.
+        // A call fails exactly where its number is in the list or a growth was refused, and writes
+        // nothing then.
         ensures number { self.new.calls ≡ next_count self.old.calls }
         ensures list { self.new.failing ≡ self.old.failing }
         ensures fails { OnErr result (Contains self.old.failing self.new.calls

@@ -1,4 +1,5 @@
-ghost use Rattle.std.specs.Prelude.{◌≡◌, ◌≤◌, ◌<◌, ◌↔◌, [], length, min, take, drop, Some, Ok, IsErr, OnOk, OnErr, IfOk, IfSome, Contains};
+ghost use Rattle.std.specs.Prelude.{◌≡◌, ◌≤◌, ◌<◌, ◌↔◌, [], length, min, take, drop, Some, Ok};
+ghost use Rattle.std.specs.Prelude.{IsErr, OnOk, OnErr, IfOk, IfSome, Contains};
 ghost use Rattle.plane_words.specs.Causes.{HasCause, next_count};
 ghost use Rattle.plane_words.specs.Growth.{Gives};
 ghost use Rattle.plane_io.specs.MemSource.{SourceInMemory};
@@ -6,8 +7,8 @@ ghost use Rattle.plane_io.specs.MemSource.{SourceInMemory};
 use crate::{Failed, Source};
 use std::marker::Model;
 
-/// A source in memory. Its calls are numbered from 1 in the order in which they are made; those whose numbers stand
-/// in its list fail, and then take nothing.
+/// A source in memory. Its calls are numbered from 1 in the order in which they are made; those
+/// whose numbers stand in its list fail, and then take nothing.
 #[derive(Drop)]
 pub struct MemSource {
     bytes: Vec<u8>,

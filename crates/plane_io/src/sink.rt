@@ -12,7 +12,8 @@ pub trait Sink {
     /// A count that rises at least where a call fails, never falls, and stands still at 2^64 - 1.
     ghost faults: { Self → ℕ };
 
-    /// Writes all of the bytes. Where that fails, a front of them was written, perhaps none of them.
+    /// Writes all of the bytes. Where that fails, a front of them was written, perhaps none of
+    /// them.
     fn write(&mut self, bytes: &[u8]) -> Result<(), Failed>
         ensures ok { OnOk result (Grows (held self.old) (held self.new) bytes.now) }
         ensures err { OnErr result (GrowsByFront (held self.old) (held self.new) bytes.now) }

@@ -1,4 +1,5 @@
-ghost use Rattle.std.specs.Prelude.{◌≡◌, ◌≤◌, ◌<◌, ℕ, List, [], length, take, Option, OnOk, IfOk, IfSome, Ok};
+ghost use Rattle.std.specs.Prelude.{◌≡◌, ◌≤◌, ◌<◌, ℕ, List, [], length, take, Option, OnOk, IfOk};
+ghost use Rattle.std.specs.Prelude.{IfSome, Ok};
 ghost use Rattle.plane_words.specs.Causes.{HasCause};
 ghost use Rattle.plane_words.specs.Growth.{Gives};
 
@@ -12,7 +13,8 @@ pub trait Source {
     /// A count that rises at least where a call fails, never falls, and stands still at 2^64 - 1.
     ghost faults: { Self → ℕ };
 
-    /// Reads some bytes into the front of `into`, which is not empty, and answers how many. 0 means the end.
+    /// Reads some bytes into the front of `into`, which is not empty, and answers how many. 0 means
+    /// the end.
     fn read(&mut self, into: &mut [u8]) -> Result<usize, Failed>
         requires { 0 < length into.old }
         ensures fits { IfOk result (λ count. count ≤ length into.new) }

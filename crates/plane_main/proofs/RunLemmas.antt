@@ -302,6 +302,7 @@ run_comes words seen rests end (of_unread_words no_page same still is) = record 
 }
 
 -- a text that was written wholly was written in front too, and it was where no fault was counted
-pub told_by : {T E : Type 0} (result : Result T E) (text : List ℕ) (errors : ErrorOutput) → OnOk result (Grows errors.held errors.held_now text) → OnErr result (GrowsByFront errors.held errors.held_now text) → OnErr result (Rose errors.faults errors.faults_now) → IsTold text errors
+pub told_by : {T E : Type 0} (result : Result T E) (text : List ℕ) (errors : ErrorOutput) → OnOk result (Grows errors.held errors.held_now text) → OnErr result (GrowsByFront errors.held errors.held_now text)
+    → OnErr result (Rose errors.faults errors.faults_now) → IsTold text errors
 told_by (Ok v) text errors whole part rose = record { front = record { front = text; back = []; parts = sym (append-nil text); grows = whole }; whole = λ calm. whole }
 told_by (Err e) text errors whole part rose = record { front = part; whole = λ calm. absurd (omega arith) }

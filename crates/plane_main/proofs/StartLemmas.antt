@@ -137,7 +137,8 @@ module _ (devices : List (List ℕ)) (input : Input) (before after : Outside) wh
   calm_start (ending.OfUci status) cause calm failure = absurd cause
   calm_start (ending.OfRun end) cause calm failure = absurd cause
 
-  long_start : (end : Ending) → StartEnds devices input before after end → (text : List ℕ) → input.left ≡ Some text → INPUT_LIMIT < length text → DidNotRise input.faults input.faults_now → OrLacksMemory (end ≡ ending.TooLong INPUT_LIMIT) end
+  long_start : (end : Ending) → StartEnds devices input before after end → (text : List ℕ) → input.left ≡ Some text → INPUT_LIMIT < length text → DidNotRise input.faults input.faults_now
+      → OrLacksMemory (end ≡ ending.TooLong INPUT_LIMIT) end
   long_start ending.Done cause text told over calm = absurd (not_over input text told cause.read.text cause.read.read over)
   long_start (ending.KernelFailed left) cause text told over calm = absurd (not_over input text told cause.read.text cause.read.read over)
   long_start ending.WriteFailed cause text told over calm = absurd (not_over input text told cause.read.text cause.read.read over)
@@ -150,7 +151,8 @@ module _ (devices : List (List ℕ)) (input : Input) (before after : Outside) wh
   long_start (ending.OfUci status) cause text told over calm = absurd cause
   long_start (ending.OfRun end) cause text told over calm = absurd cause
 
-  faulty_start : (end : Ending) → StartEnds devices input before after end → (text : List ℕ) (error : TreeError) → IsInput input.left text → DidNotRise input.faults input.faults_now → HasTreeFault text error → OrLacksMemory (Tells error end) end
+  faulty_start : (end : Ending) → StartEnds devices input before after end → (text : List ℕ) (error : TreeError) → IsInput input.left text → DidNotRise input.faults input.faults_now → HasTreeFault text error
+      → OrLacksMemory (Tells error end) end
   faulty_start ending.Done cause text error is calm bad = absurd (network_without_fault text error cause.network (read_network input text is.told cause.network cause.read) bad)
   faulty_start (ending.KernelFailed left) cause text error is calm bad = absurd (network_without_fault text error cause.network (read_network input text is.told cause.network cause.read) bad)
   faulty_start ending.WriteFailed cause text error is calm bad = absurd (network_without_fault text error cause.network (read_network input text is.told cause.network cause.read) bad)
@@ -163,7 +165,8 @@ module _ (devices : List (List ℕ)) (input : Input) (before after : Outside) wh
   faulty_start (ending.OfUci status) cause text error is calm bad = absurd cause
   faulty_start (ending.OfRun end) cause text error is calm bad = absurd cause
 
-  many_start : (end : Ending) → StartEnds devices input before after end → (text : List ℕ) (limit : ℕ) → IsInput input.left text → DidNotRise input.faults input.faults_now → PassesLimit text limit → OrLacksMemory (end ≡ ending.TooLong limit) end
+  many_start : (end : Ending) → StartEnds devices input before after end → (text : List ℕ) (limit : ℕ) → IsInput input.left text → DidNotRise input.faults input.faults_now → PassesLimit text limit
+      → OrLacksMemory (end ≡ ending.TooLong limit) end
   many_start ending.Done cause text limit is calm many = absurd (network_within text limit cause.network (read_network input text is.told cause.network cause.read) many)
   many_start (ending.KernelFailed left) cause text limit is calm many = absurd (network_within text limit cause.network (read_network input text is.told cause.network cause.read) many)
   many_start ending.WriteFailed cause text limit is calm many = absurd (network_within text limit cause.network (read_network input text is.told cause.network cause.read) many)
@@ -199,8 +202,11 @@ module _ (devices : List (List ℕ)) (input : Input) (before after : Outside) wh
     due_start : (end : Ending) → StartEnds devices input before after end → (IsCutShort end → ⊥) → IsKernelFailed end ↔ (HoldsWanted devices network after → ⊥)
     due_start ending.Done cause whole = (λ failed. absurd failed, λ due. absurd (due (cause.did.settled.held ∙ same_wants cause.network cause.did.between cause.read cause.did.settled.reached.devices)))
     due_start (ending.KernelFailed left) cause whole =
-        let stopped = cause.did.settled in
-        (λ failed holds. some_due after.devices after.objects (start_wants cause.network (present_of cause.did.between.devices devices)) stopped.failed stopped.others stopped.left (holds ∙ sym (same_wants cause.network cause.did.between cause.read stopped.reached.devices)), λ due. tt)
+        let stopped = cause.did.settled in (
+          λ failed holds. some_due after.devices after.objects (start_wants cause.network (present_of cause.did.between.devices devices)) stopped.failed stopped.others stopped.left
+              (holds ∙ sym (same_wants cause.network cause.did.between cause.read stopped.reached.devices)),
+          λ due. tt,
+        )
     due_start ending.WriteFailed cause whole = absurd (whole tt)
     due_start ending.ReadFailed cause whole = absurd (whole tt)
     due_start ending.OutOfMemory cause whole = absurd (whole tt)

@@ -25,13 +25,15 @@ names_are f words rest first names cut s =
     cc
 
 -- a word that is no plain name
-pub no_start_at : {X : Type 0} (f : X → List ℕ) (words rest : List X) (first word : X) (i : ℕ) (names : List (List ℕ)) → words ≡ first ∷ rest → i < length rest → word ≡ slice_index_or rest i word → (IsPlainName (f word) → ⊥) → IsStart (map f words) names → ⊥
+pub no_start_at : {X : Type 0} (f : X → List ℕ) (words rest : List X) (first word : X) (i : ℕ) (names : List (List ℕ)) → words ≡ first ∷ rest → i < length rest → word ≡ slice_index_or rest i word → (IsPlainName (f word) → ⊥)
+    → IsStart (map f words) names → ⊥
 no_start_at f words rest first word i names cut low is bad s =
     let all : AllByRecursion IsPlainName (map f rest) = subst (AllByRecursion IsPlainName) (names_are f words rest first names cut s) s.plain in
     bad (all_at IsPlainName (map f (take i rest)) (f word) (map f (drop (suc i) rest)) (subst (AllByRecursion IsPlainName) (map_split f rest i word low is) all))
 
 -- a word that stands twice
-pub no_start_twice : {X : Type 0} (f : X → List ℕ) (words rest : List X) (first word : X) (i : ℕ) (names : List (List ℕ)) → words ≡ first ∷ rest → i < length rest → word ≡ slice_index_or rest i word → Contains (map f (take i rest)) (f word) → IsStart (map f words) names → ⊥
+pub no_start_twice : {X : Type 0} (f : X → List ℕ) (words rest : List X) (first word : X) (i : ℕ) (names : List (List ℕ)) → words ≡ first ∷ rest → i < length rest → word ≡ slice_index_or rest i word → Contains (map f (take i rest)) (f word)
+    → IsStart (map f words) names → ⊥
 no_start_twice f words rest first word i names cut low is twice s =
     let all : AreDistinct (map f rest) = subst (λ (z : List (List ℕ)). AreDistinct z) (names_are f words rest first names cut s) s.distinct in
     distinct_behind (map f (take i rest)) (f word) (map f (drop (suc i) rest)) (subst (λ (z : List (List ℕ)). AreDistinct z) (map_split f rest i word low is) all) twice

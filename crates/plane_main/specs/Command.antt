@@ -111,8 +111,8 @@ MakesSessions (Run asked) = HasAcl asked
 MakesSessions (Gen count) = ⊥
 MakesSessions (Show page) = ⊥
 
--- Memory may be lacking behind lines that were written, where the run ends as one that lacks memory and no other way. A run of `uci` and
--- one of a script have endings of their own.
+-- Memory may be lacking behind lines that were written, where the run ends as one that lacks memory and no other way. A
+-- run of `uci` and one of a script have endings of their own.
 abbrev pub WritesFirst : Command → Type 0
 WritesFirst (Start devices) = ⊥
 WritesFirst (Uci words) = ⊥

@@ -17,7 +17,8 @@ page_text Version = VERSION.now
 -- An output grew by a text; or by a front of it, and then its count rose. There is no other ending.
 abbrev pub PrintEnds : List ℕ → Option (List ℕ) → Option (List ℕ) → ℕ → ℕ → Ending → Type 0
 PrintEnds text before after faults faults_now ending.Done = Grows before after text
-PrintEnds text before after faults faults_now ending.WriteFailed = GrowsByFront before after text × Rose faults faults_now
+PrintEnds text before after faults faults_now ending.WriteFailed = GrowsByFront before after text
+    × Rose faults faults_now
 PrintEnds text before after faults faults_now _ = ⊥
 
 -- The page is printed.

@@ -6,7 +6,8 @@ use Rattle.plane_main.specs.declared.command.Command.TheVariants.{Start, Uci, Ru
 use Rattle.plane_main.specs.declared.ending.Ending.{Ending}
 use Rattle.plane_main.specs.declared.ending.Ending.TheVariants as ending
 use Rattle.plane_main.specs.Outside.{Seen}
-use Rattle.plane_main.specs.Command.{AskFor, IsCommand, IsForUci, IsInTable, IsPageCommand, IsRunCommand, AskForNone, ReadsInput, CallsKernel, OpensFolders, AsksClock, WritesFirst}
+use Rattle.plane_main.specs.Command.{AskFor, IsCommand, IsForUci, IsInTable, IsPageCommand, IsRunCommand, AskForNone}
+use Rattle.plane_main.specs.Command.{ReadsInput, CallsKernel, OpensFolders, AsksClock, WritesFirst}
 use Rattle.plane_main.specs.Ending.{status_of, text_of, IsTold, IsOfUci, IsOfRun, IsEarly, OrLacksMemory}
 use Rattle.plane_main.specs.Start.{StartEnds, StartComes}
 use Rattle.plane_main.specs.Uci.{UciEnds, UciComes}
@@ -31,14 +32,16 @@ CommandComes (Run asked) seen end = OrLacksMemory (AskedComes asked seen end) en
 CommandComes (Gen count) seen end = GenComes seen.before seen.after end
 CommandComes (Show page) seen end = PageComes seen.before seen.after end
 
--- why a run ends so, and what it leaves, where `rests` says that the input, the disks and the clock are the values that they were
+-- why a run ends so, and what it leaves, where `rests` says that the input, the disks and the clock are the values that
+-- they were
 pub data Ends (words : List (List ℕ)) (seen : Seen) (rests : Type 0) (end : Ending) : Type 0 where
   -- the words ask for a command, and it ended so
   of_command : (command : Command) → AskFor words command → CommandEnds command seen end → Ends words seen rests end
   -- they ask for none
   of_no_command : (IsCommand words → ⊥) → end ≡ ending.Usage → Ends words seen rests end
   -- memory was lacking while they were read, the access list of a run too, which takes none for a page
-  of_unread_words : (IsPageCommand words → ⊥) → seen.after ≡ seen.before → rests → end ≡ ending.OutOfMemory → Ends words seen rests end
+  of_unread_words : (IsPageCommand words → ⊥) → seen.after ≡ seen.before → rests → end ≡ ending.OutOfMemory
+      → Ends words seen rests end
 
 -- when a run ends so
 pub record Comes (words : List (List ℕ)) (seen : Seen) (end : Ending) : Type 0 where
@@ -54,7 +57,8 @@ pub record Ended (words : List (List ℕ)) (seen : Seen) (rests : Type 0) (answe
   pub comes : Comes words seen end
   pub told : (IsOfUci end → ⊥) → IsTold (text_of end) seen.errors
 
--- the devices of a run: the input, the output, the kernel, the disks of the packages and of staged changes, and the clock
+-- the devices of a run: the input, the output, the kernel, the disks of the packages and of staged changes, and the
+-- clock
 pub record Devices (S O K D T C : Type 0) : Type 0 where
   pub input : S
   pub out : O
@@ -64,7 +68,8 @@ pub record Devices (S O K D T C : Type 0) : Type 0 where
   pub clock : C
 
 -- Which of them a run leaves wholly alone, as the values that they are.
-pub record LeavesAlone {S O K D T C : Type 0} (words : List (List ℕ)) (end : Ending) (before after : Devices S O K D T C) : Type 0 where
+pub record LeavesAlone {S O K D T C : Type 0} (words : List (List ℕ)) (end : Ending)
+    (before after : Devices S O K D T C) : Type 0 where
   -- no other run ends as one of `uci` or one of a script does
   pub of_uci : IsOfUci end → IsForUci words
   pub of_run : IsOfRun end → IsRunCommand words
@@ -79,7 +84,8 @@ pub record LeavesAlone {S O K D T C : Type 0} (words : List (List ℕ)) (end : E
   pub clock : AskForNone AsksClock words → after.clock ≡ before.clock
 
 -- a run with this answer leaves those devices alone
-pub record LeftAlone {S O K D T C : Type 0} (words : List (List ℕ)) (answer : ℕ) (before after : Devices S O K D T C) : Type 0 where
+pub record LeftAlone {S O K D T C : Type 0} (words : List (List ℕ)) (answer : ℕ) (before after : Devices S O K D T C)
+    : Type 0 where
   pub end : Ending
   pub status : status_of end ≡ answer
   pub alone : LeavesAlone words end before after

@@ -1,5 +1,6 @@
 -- The words of `run`: `-c FOLDER`, and perhaps `-t FOLDER`, `-a JSON` and `-w MOMENT`, in any order, each at most once.
-use Rattle.std.specs.Prelude.{ℕ, ◌≡◌, List, [], ◌∷◌, codes, Option, Some, None, bytes_eq, is_some, unwrap_or, refl, ◌||◌, not, if◌then◌else◌, Result, Ok, Err, ⊤}
+use Rattle.std.specs.Prelude.{ℕ, ◌≡◌, List, [], ◌∷◌, codes, Option, Some, None, bytes_eq, is_some, unwrap_or, refl}
+use Rattle.std.specs.Prelude.{◌||◌, not, if◌then◌else◌, Result, Ok, Err, ⊤}
 use Rattle.std.specs.Option.{option_and_then, option_map}
 use Rattle.script_lines.specs.Arguments.{long_decimal_of}
 use Rattle.ubus_acl.specs.declared.acl.Acl.{Acl}
@@ -31,8 +32,8 @@ options_of given (word ∷ []) = None
 options_of given (word ∷ value ∷ rest) =
     option_and_then (λ next. options_of next rest) (with_option given word value)
 
--- the folder of packages has to be named; that of staged changes is the usual one, the access list has no record, and the moment is 0,
--- where nothing else is said
+-- the folder of packages has to be named; that of staged changes is the usual one, the access list has no record, and
+-- the moment is 0, where nothing else is said
 abbrev pub asked_for : RunOptions → List ℕ → RunAsked
 asked_for options files = record {
   files = files;

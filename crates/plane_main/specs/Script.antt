@@ -35,8 +35,8 @@ run_seen moment acl seen = record {
   after = seen.after;
 }
 
--- Why it ends so, and what it leaves; what a stop leaves of the files, whenever it comes; and the disks stay the same ones, of which each
--- that tells its files goes on to tell them.
+-- Why it ends so, and what it leaves; what a stop leaves of the files, whenever it comes; and the disks stay the same
+-- ones, of which each that tells its files goes on to tell them.
 abbrev pub ScriptEnds : ℕ → Acl → Seen → Ending → Type 0
 ScriptEnds moment acl seen (ending.OfRun end) = RunEnds (run_seen moment acl seen) end
     × RunStops (first_of moment acl seen) (stream_of_input seen.input) seen.folders.files_now

@@ -1,4 +1,5 @@
-ghost use Rattle.std.specs.Prelude.{◌≡◌, ◌∷◌, ℕ, List, map, codes, string_bytes, IfOk, OnErr, IfSome, IfNone};
+ghost use Rattle.std.specs.Prelude.{◌≡◌, ◌∷◌, ℕ, List, map, codes, string_bytes, IfOk, OnErr};
+ghost use Rattle.std.specs.Prelude.{IfSome, IfNone};
 ghost use Rattle.plane_main.specs.Command.{AskFor, IsCommand, IsStart, IsGen, IsPageCommand};
 
 use crate::page::Page;
@@ -30,7 +31,8 @@ pub enum Command {
     Show(Page),
 }
 
-/// The command that the words ask for, or `None` where they are not in the table of commands. A page takes no memory.
+/// The command that the words ask for, or `None` where they are not in the table of commands. A
+/// page takes no memory.
 pub fn read_command(alloc: Global, words: &[String]) -> Result<Option<Command>, Memory>
     ensures found { IfOk result (λ found.
         IfSome found (λ command. AskFor (map string_bytes words.now) command)) }

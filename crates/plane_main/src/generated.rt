@@ -9,7 +9,8 @@ use net_gen::{GenError, generate};
 use plane_io::Sink;
 use std::alloc::Global;
 
-/// Plays the network of so many bridges through on a kernel that has nothing, and prints the numbers of its calls.
+/// Plays the network of so many bridges through on a kernel that has nothing, and prints the
+/// numbers of its calls.
 pub fn play<O: Sink, K: Kernel>(alloc: Global, count: u32, out: &mut O, kernel: &mut K) -> Ending
     requires bare { IsBare K.Kernel kernel.old }
     ensures cause { GenEnds count (outside_of O.Sink K.Kernel out.old kernel.old)

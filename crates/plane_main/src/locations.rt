@@ -27,7 +27,8 @@ pub struct Locations {
     pub group: Text,
 }
 
-/// Where the devices of the command are, or `None` where the words are not in the table of commands.
+/// Where the devices of the command are, or `None` where the words are not in the table of
+/// commands.
 ///
 /// # Errors
 ///

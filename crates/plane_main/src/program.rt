@@ -17,17 +17,20 @@ use plane_io::{Sink, Source};
 use plane_outside::{Clock, Hub, Random};
 use std::alloc::Global;
 
-/// The program: carries a command out over the devices that it is given, and answers its exit status.
+/// The program: carries a command out over the devices that it is given, and answers its exit
+/// status.
 ///
-/// `start DEV..` reads a `network` text from the input, and brings its interfaces up on the devices of those names. `uci WORDS`
-/// carries OpenWrt's `uci` out over the packages of `files`, with the command line's changes in `staged`, at the moment of `clock`.
-/// `run -c DIR` carries the script of the input out over the packages of `files`, on a kernel that begins without devices. Its sessions
-/// are made with the words of `random`.
-/// `gen N` plays a network of N bridges through: their device comes, goes and comes, and the interfaces become fewer.
-/// `--help` and `--version` print a page about the program. The words are without the name of the program. A device that the kernel
-/// does not take is absent. Status 8 is want of memory: then a `start` put no object and wrote nothing to the output, but may have added
-/// devices; of a `uci` that takes several steps the first ones may be done, of a `run` the lines before the one that it came in, and of a
-/// `gen` the steps before, and that one in part.
+/// `start DEV..` reads a `network` text from the input, and brings its interfaces up on the devices
+/// of those names. `uci WORDS` carries OpenWrt's `uci` out over the packages of `files`, with the
+/// command line's changes in `staged`, at the moment of `clock`. `run -c DIR` carries the script of
+/// the input out over the packages of `files`, on a kernel that begins without devices. Its
+/// sessions are made with the words of `random`. `gen N` plays a network of N bridges through:
+/// their device comes, goes and comes, and the interfaces become fewer. `--help` and `--version`
+/// print a page about the program. The words are without the name of the program. A device that the
+/// kernel does not take is absent. Status 8 is want of memory: then a `start` put no object and
+/// wrote nothing to the output, but may have added devices; of a `uci` that takes several steps the
+/// first ones may be done, of a `run` the lines before the one that it came in, and of a `gen` the
+/// steps before, and that one in part.
 pub fn plane<S: Source, O: Sink, E: Sink, D: Disk, T: Disk, K: Kernel, H: Hub, C: Clock, R: Random>(
     alloc: Global,
     words: &[String],
@@ -44,7 +47,8 @@ pub fn plane<S: Source, O: Sink, E: Sink, D: Disk, T: Disk, K: Kernel, H: Hub, C
     requires bare { IsBare K.Kernel kernel.old }
     requires same_packages { (T.view staged.old).names ≡ (D.view files.old).names }
 
-    // How the run ends: its status, why it ends so, what it leaves, when it does, and its text on the error output.
+    // How the run ends: its status, why it ends so, what it leaves, when it does, and its text on
+    // the error output.
     ensures ended { Ended (map string_bytes words.now) (record {
       input = input_of S.Source input.old input.new;
       before = outside_of O.Sink K.Kernel out.old kernel.old;
@@ -95,8 +99,8 @@ pub fn plane<S: Source, O: Sink, E: Sink, D: Disk, T: Disk, K: Kernel, H: Hub, C
     .status()
 }
 
-/// Ends a run before it began, for want of memory to read the words or to make the devices: tells so, and answers the
-/// status of that.
+/// Ends a run before it began, for want of memory to read the words or to make the devices: tells
+/// so, and answers the status of that.
 pub fn lack_memory<E: Sink>(err: &mut E) -> u8
     ensures status { result ≡ status_of Ending.OutOfMemory }
     ensures told { IsTold (text_of Ending.OutOfMemory) (errors_of E.Sink err.old err.new) }

@@ -18,7 +18,8 @@ use uci_tree::{Package, TreeError, read_package};
 /// The name of the package that is read.
 pub const PACKAGE: &[u8] = b"network";
 
-/// Adds the named devices to a kernel that has none, and brings the network of the input up on them.
+/// Adds the named devices to a kernel that has none, and brings the network of the input up on
+/// them.
 pub fn start<S: Source, O: Sink, K: Kernel>(
     alloc: Global,
     devices: &[DevName],

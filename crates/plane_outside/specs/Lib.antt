@@ -10,3 +10,5 @@ pub mod MemHub
 pub mod SetClock
 -- words of 64 bits from a generator of words of 32 bits
 pub mod Words
+-- what a source of random words gives from now on
+pub mod Supply

@@ -3,8 +3,8 @@ ghost use Rattle.plane_outside.specs.Given.{nth_or_last};
 
 use std::marker::Model;
 
-/// Numbers that are given in order, then the last one again, and 0 where there is none. Contracts see those
-/// that are left, of which the last one stays.
+/// Numbers that are given in order, then the last one again, and 0 where there is none. Contracts
+/// see those that are left, of which the last one stays.
 #[derive(Drop)]
 pub struct Given {
     numbers: Vec<u64>,

@@ -1,8 +1,8 @@
 use crate::event::{HubError, HubEvent};
 use plane_io::Failed;
 
-/// A place to which clients connect. A client that has left is no fault: what is sent to it is dropped, and `Closed`
-/// follows.
+/// A place to which clients connect. A client that has left is no fault: what is sent to it is
+/// dropped, and `Closed` follows.
 pub trait Hub {
     ghost use Rattle.std.specs.Prelude.{◌≡◌, ℕ, List, Option, OnOk, OnErr, IfOk};
     ghost use Rattle.plane_words.specs.Causes.{HasCause};
@@ -10,8 +10,8 @@ pub trait Hub {
     ghost use Rattle.plane_outside.specs.declared.event.Sent.{Sent};
     ghost use Rattle.plane_outside.specs.Hub.{IsWhole, Gives, Sends, SendsFront, HubCause};
 
-    /// The events that it has left, where it tells them: one for each call of `next` that succeeds, in order. `Idle`
-    /// stands for none at that call, and past the end there is none.
+    /// The events that it has left, where it tells them: one for each call of `next` that succeeds,
+    /// in order. `Idle` stands for none at that call, and past the end there is none.
     ghost events: { Self → Option (List HubEvent) };
 
     /// What was sent so far, in order, where it tells that.

@@ -1,8 +1,8 @@
-//! The outside beside files and streams: a hub of clients, a clock and a source of random words, each as a trait with
-//! devices in memory.
+//! The outside beside files and streams: a hub of clients, a clock and a source of random words,
+//! each as a trait with devices in memory.
 //!
-//! A device tells what it has left only where it can: one in memory does, a socket does not. Every device keeps a count
-//! of its faults, and a call fails only where that count rose.
+//! A device tells what it has left only where it can: one in memory does, a socket does not. Every
+//! device keeps a count of its faults, and a call fails only where that count rose.
 #![tactic(auto)]
 
 mod clock;

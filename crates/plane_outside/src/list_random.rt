@@ -5,7 +5,8 @@ use crate::given::Given;
 use crate::random::Random;
 use std::marker::Model;
 
-/// A source that gives the words of a list in order, then the last one again, and 0 where there is none.
+/// A source that gives the words of a list in order, then the last one again, and 0 where there is
+/// none.
 #[derive(Drop)]
 pub struct ListRandom {
     given: Given,

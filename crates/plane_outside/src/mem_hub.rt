@@ -1,4 +1,5 @@
-ghost use Rattle.std.specs.Prelude.{◌≡◌, ◌≤◌, ◌⊎◌, ◌↔◌, IsTrue, ◌++◌, [], ◌∷◌, Some, Ok, OnOk, OnErr, IfOk, IsErr, Contains};
+ghost use Rattle.std.specs.Prelude.{◌≡◌, ◌≤◌, ◌⊎◌, ◌↔◌, IsTrue, ◌++◌, [], ◌∷◌, Some, Ok, OnOk};
+ghost use Rattle.std.specs.Prelude.{OnErr, IfOk, IsErr, Contains};
 ghost use Rattle.std.specs.List.{All};
 ghost use Rattle.plane_words.specs.Causes.{HasCause, next_count};
 ghost use Rattle.plane_outside.specs.declared.event.HubEvent.TheVariants.{Idle};
@@ -10,8 +11,9 @@ use plane_io::{Failed, Text};
 use std::alloc::Global;
 use std::marker::Model;
 
-/// A hub in memory, which gives a list of events and keeps what is sent. Its calls are numbered from 1 in the order in
-/// which they are made; those whose numbers stand in its list fail, and then give and send nothing.
+/// A hub in memory, which gives a list of events and keeps what is sent. Its calls are numbered
+/// from 1 in the order in which they are made; those whose numbers stand in its list fail, and then
+/// give and send nothing.
 #[derive(Drop)]
 pub struct MemHub {
     alloc: Global,
@@ -70,8 +72,8 @@ pub fn are_whole(events: &[HubEvent]) -> bool
 }
 
 impl MemHub {
-    /// A hub that gives these events, in order, and whose calls with these numbers fail. `Idle` says that there is none at
-    /// that call.
+    /// A hub that gives these events, in order, and whose calls with these numbers fail. `Idle`
+    /// says that there is none at that call.
     pub fn new(alloc: Global, events: Vec<HubEvent>, failing: Vec<u64>) -> MemHub
         requires { All IsWhole events.items }
         ensures events { result.events ≡ events.items }
@@ -164,7 +166,8 @@ impl Hub for MemHub {
         ensures events { Some self.new.events ≡ Some self.old.events }
         ensures cause { HasCause self.old.faults self.new.faults result }
 
-        // A call fails exactly where its number is in the list or a growth was refused, and sends nothing then.
+        // A call fails exactly where its number is in the list or a growth was refused, and sends
+        // nothing then.
         ensures number { self.new.made ≡ next_count self.old.made }
         ensures fails { OnErr result (Contains self.old.failing self.new.made
             ⊎ (self.new.refused ≡ next_count self.old.refused)) }

@@ -8,8 +8,8 @@ use rand_core::SeedableRng;
 use rand_core::utils::NextWord;
 use std::marker::Model;
 
-/// The generator ChaCha20 (RFC 8439) of a seed. Two of its words of 32 bits make one of 64, the first of them the low
-/// half.
+/// The generator ChaCha20 (RFC 8439) of a seed. Two of its words of 32 bits make one of 64, the
+/// first of them the low half.
 #[derive(Drop)]
 pub struct SeededRandom {
     generator: ChaCha20Rng,

@@ -19,8 +19,8 @@ struct DirFile {
     size: u64,
 }
 
-/// A disk over a folder. Nobody else may use the folder meanwhile. After a sync that failed each later one fails, because
-/// the system tells only once that it lost what was written.
+/// A disk over a folder. Nobody else may use the folder meanwhile. After a sync that failed each
+/// later one fails, because the system tells only once that it lost what was written.
 #[derive(Drop)]
 pub struct DirDisk {
     names: Vec<Text>,
@@ -173,8 +173,8 @@ fn sync_all(files: &[DirFile]) -> io::Result<()> {
 }
 
 impl DirDisk {
-    /// The package files of a folder, and the two files that no package has, which are made where they are missing: the
-    /// gates of two zero bytes, and an empty snapshot.
+    /// The package files of a folder, and the two files that no package has, which are made where
+    /// they are missing: the gates of two zero bytes, and an empty snapshot.
     ///
     /// # Errors
     ///
@@ -190,13 +190,13 @@ impl DirDisk {
         DirDisk::with_packages(rt, alloc, folder, &packages)
     }
 
-    /// The files of these packages in a folder, which is made where it is missing, and in it an empty file for each
-    /// package that has none.
+    /// The files of these packages in a folder, which is made where it is missing, and in it an
+    /// empty file for each package that has none.
     ///
     /// # Errors
     ///
-    /// Where the names are not those of packages in byte order, each once, and where the system does not make the folder,
-    /// or open, make or keep a file.
+    /// Where the names are not those of packages in byte order, each once, and where the system
+    /// does not make the folder, or open, make or keep a file.
     pub fn open_staged<R: Files<File = File>>(
         rt: &R,
         alloc: Global,

@@ -1,7 +1,7 @@
 //! The real devices: thin adapters over std, which the program and its tests alone name.
 //!
-//! A real device does not tell what it holds, so no clause here is about bytes. It is proved that each failure is counted,
-//! that moments do not fall, and which names files and clients have.
+//! A real device does not tell what it holds, so no clause here is about bytes. It is proved that
+//! each failure is counted, that moments do not fall, and which names files and clients have.
 #![tactic(auto)]
 
 mod dir_disk;

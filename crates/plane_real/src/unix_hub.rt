@@ -27,7 +27,8 @@ struct Client {
     has_closed: bool,
 }
 
-/// A hub over a socket in the file system. Every client has the user and the group that the hub was made with.
+/// A hub over a socket in the file system. Every client has the user and the group that the hub was
+/// made with.
 #[derive(Drop)]
 pub struct UnixHub {
     alloc: Global,
@@ -41,8 +42,8 @@ pub struct UnixHub {
 }
 
 impl Client {
-    /// What the client sent, as far as it is there: how many bytes, 0 where it has closed, and none where there is
-    /// nothing now.
+    /// What the client sent, as far as it is there: how many bytes, 0 where it has closed, and none
+    /// where there is nothing now.
     fn hear(&mut self, into: &mut [u8]) -> Option<usize>
         ensures { IfSome result (λ count. count ≤ length into.new) }
     {
@@ -59,7 +60,8 @@ impl Client {
         }
     }
 
-    /// Sends the bytes, unless the client has closed. One that takes nothing for ten seconds has closed.
+    /// Sends the bytes, unless the client has closed. One that takes nothing for ten seconds has
+    /// closed.
     fn tell(&mut self, bytes: &[u8]) {
         if self.has_closed {
             return;
@@ -181,7 +183,8 @@ impl UnixHub {
         }
     }
 
-    /// What the clients sent, from the one whose turn it is on. The memory is taken before anything is read.
+    /// What the clients sent, from the one whose turn it is on. The memory is taken before anything
+    /// is read.
     fn hear(&mut self) -> Result<HubEvent, HubError>
         ensures whole { IfOk result IsWhole }
         ensures cause { HubCause self.old.faults self.new.faults result }
@@ -239,7 +242,8 @@ impl Hub for UnixHub {
         ensures whole { IfOk result IsWhole }
         ensures cause { HubCause self.old.faults self.new.faults result }
 
-        // A call that gives an event counts no fault. Every client has the user and the group that the hub was made with.
+        // A call that gives an event counts no fault. Every client has the user and the group that
+        // the hub was made with.
         ensures faultless { OnOk result (self.new.faults ≡ self.old.faults) }
         ensures names { IfOk result (ComesAs self.old.user self.old.group) }
         ensures keeps { (self.new.user ≡ self.old.user) × (self.new.group ≡ self.old.group) }

@@ -17,7 +17,7 @@ use Rattle.step_net.proofs.GrowthLemmas.{grows_none, records_none}
 use Rattle.plane_step.specs.declared.stop.Stop.{Stop}
 use Rattle.plane_step.specs.declared.stop.Stop.TheVariants as stop
 use Rattle.bus_lines.specs.World.{World}
-use Rattle.bus_lines.specs.Words.{Supply, Uses}
+use Rattle.plane_outside.specs.Supply.{Supply, Uses}
 use Rattle.plane_step.specs.Moved.{Moved}
 use Rattle.plane_step.specs.Ran.{Ran, ScriptEnds}
 use Rattle.plane_run.specs.declared.run_end.RunEnd.{RunEnd}

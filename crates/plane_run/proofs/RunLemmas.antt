@@ -31,7 +31,7 @@ use Rattle.rpc_session.specs.Sessions.{start as first_sessions}
 use Rattle.bus_clients.specs.Bus.{BusPart, begun}
 use Rattle.rpc_objects.specs.Passed.{OpensIn, StaysOrStopsIn}
 use Rattle.bus_lines.specs.World.{World}
-use Rattle.bus_lines.specs.Words.{Supply, supply_of}
+use Rattle.plane_outside.specs.Supply.{Supply, supply_of}
 use Rattle.plane_step.specs.Moved.{Moved}
 use Rattle.plane_step.specs.ScriptPasses.{ScriptPasses}
 use Rattle.plane_step.specs.Kept.{DiskFaults, DiskRose, faults_of}

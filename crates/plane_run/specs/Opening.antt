@@ -1,4 +1,5 @@
--- The opening of a run: the rows of a folder are loaded into an empty plane, which then settles on them and tells its asks.
+-- The opening of a run: the rows of a folder are loaded into an empty plane, which then settles on them and tells its
+-- asks.
 use Rattle.std.specs.Prelude.{ℕ, ◌≡◌, List, Option, None, is_some}
 use Rattle.std.specs.FinSet as set
 use Rattle.plane_disk.specs.View.{View}
@@ -21,7 +22,7 @@ use Rattle.step_net.specs.Effects.{Leaves}
 use Rattle.step_net.specs.Moved as net
 use Rattle.step_net.specs.Moved.{once_if}
 use Rattle.bus_lines.specs.World.{World}
-use Rattle.bus_lines.specs.Words.{Supply}
+use Rattle.plane_outside.specs.Supply.{Supply}
 use Rattle.step_net.specs.Loaded.{network_name, wireless_name, IsLoaded, DoesNotLoad}
 use Rattle.plane_run.specs.declared.run_end.RowPackage.{RowPackage}
 use Rattle.plane_run.specs.declared.run_end.RowPackage.TheVariants.{Network, Wireless}
@@ -62,8 +63,8 @@ start_world now acl folder network wireless failed_behind = record {
   net = (opened network wireless failed_behind).net;
 }
 
--- what a run finds: the moment, the access list of the bus, the random words to come, the disks of the packages and of staged changes, the
--- output and the kernel
+-- what a run finds: the moment, the access list of the bus, the random words to come, the disks of the packages and of
+-- staged changes, the output and the kernel
 pub record First : Type 1 where
   pub now : ℕ
   pub acl : Acl

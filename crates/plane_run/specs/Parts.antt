@@ -1,5 +1,6 @@
 -- How the parts of a run answer.
-use Rattle.std.specs.Prelude.{ℕ, ◌≡◌, ◌≤◌, List, Bool, Option, Some, None, is_some, IsSomeAnd, Result, Ok, Err, nat_lt, ⊤, if◌then◌else◌}
+use Rattle.std.specs.Prelude.{ℕ, ◌≡◌, ◌≤◌, List, Bool, Option, Some, None, is_some, IsSomeAnd, Result, Ok, Err, nat_lt}
+use Rattle.std.specs.Prelude.{⊤, if◌then◌else◌}
 use Rattle.plane_words.specs.Causes.{Rose}
 use Rattle.plane_words.specs.Growth.{Grows, GrowsByFront}
 use Rattle.plane_disk.specs.View.{View}
@@ -24,7 +25,7 @@ use Rattle.net_settle.specs.Outside.{Outside}
 use Rattle.step_net.specs.Effects.{Leaves}
 use Rattle.ubus_acl.specs.declared.acl.Acl.{Acl}
 use Rattle.bus_lines.specs.World.{World}
-use Rattle.bus_lines.specs.Words.{Supply, Uses}
+use Rattle.plane_outside.specs.Supply.{Supply, Uses}
 use Rattle.step_net.specs.Finished.{IsOpened, IsOpenedInPart}
 use Rattle.step_net.specs.Moved.{once_if}
 use Rattle.plane_step.specs.declared.stop.Stop.{Stop}
@@ -164,9 +165,10 @@ LinesEnd start lines stage end.OutOfMemory = (now : World)
     × Holds stage now.files
 LinesEnd start lines stage _ = ⊥
 
--- A run over an open store: its moment, the access list of the bus and the random words to come, the store and the input, the counts of the
--- disks and what they hold now, and the output and the kernel then and now. `stays` says that the disk of packages is the value that it
--- was, and `images` what its images are where so many lines were begun in this world.
+-- A run over an open store: its moment, the access list of the bus and the random words to come, the store and the
+-- input, the counts of the disks and what they hold now, and the output and the kernel then and now. `stays` says that
+-- the disk of packages is the value that it was, and `images` what its images are where so many lines were begun in
+-- this world.
 pub record Over : Type 1 where
   pub now : ℕ
   pub acl : Acl
@@ -204,8 +206,8 @@ stage_in over start between = record {
 abbrev pub StillHolds : Over → Type 0
 StillHolds over = IsHeld over.files_now over.staged_now (folder_in over)
 
--- How it ends. The rows do not load, or pass a limit, or there was no memory; or the output failed in the opening; or the plane was
--- opened, and the run went on.
+-- How it ends. The rows do not load, or pass a limit, or there was no memory; or the output failed in the opening; or
+-- the plane was opened, and the run went on.
 pub data RunsOver (over : Over) (ending : RunEnd) : Type 0 where
   no_rows : RowsRefuse (folder_in over) ending → over.after ≡ over.before → over.stays
       → StillHolds over → RunsOver over ending

@@ -19,7 +19,7 @@ use Rattle.net_settle.specs.Outside.{Outside}
 use Rattle.step_net.specs.Effects.{Leaves, LeavesInPart}
 use Rattle.step_net.specs.Finished.{IsOpenedInPart}
 use Rattle.bus_lines.specs.World.{World}
-use Rattle.bus_lines.specs.Words.{Supply, Uses}
+use Rattle.plane_outside.specs.Supply.{Supply, Uses}
 use Rattle.step_net.specs.Loaded.{network_name, wireless_name, IsLoaded}
 use Rattle.plane_step.specs.Kept.{DiskFaults, DiskRose, faults_of}
 use Rattle.plane_step.specs.Moved.{Luck, Moved, failures}
@@ -35,8 +35,8 @@ use Rattle.plane_run.specs.Stops.{ImagesOf}
 
 -- ---- behind the opening
 
--- the random words to come, the input, the counts of the disks, what the disks hold now, what is said of the images of the files where so
--- many lines were begun, and the output and the kernel then and now
+-- the random words to come, the input, the counts of the disks, what the disks hold now, what is said of the images of
+-- the files where so many lines were begun, and the output and the kernel then and now
 pub record Stage : Type 1 where
   pub words : Supply
   pub input : Stream
@@ -51,7 +51,8 @@ pub record Stage : Type 1 where
 abbrev pub Holds : Stage → Folder → Type 0
 Holds stage folder = IsHeld stage.files_now stage.staged_now folder
 
--- The script was read to its end, and then carried out to its end, with some luck. The random words that it used up are the next ones.
+-- The script was read to its end, and then carried out to its end, with some luck. The random words that it used up are
+-- the next ones.
 pub record HasEnded (start : World) (stage : Stage) (Ends : Moved → Type 0) : Type 0 where
   pub script : Script
   pub read : HasRead stage.input script
@@ -186,9 +187,9 @@ abbrev pub IsKernelFailed : RunEnd → Type 0
 IsKernelFailed (end.KernelFailed left) = ⊤
 IsKernelFailed _ = ⊥
 
--- Why a run ends so, and what it leaves. The plane was not opened, and nothing was done outside but reading and settling what a stop
--- had left of the files. Or the output failed in the opening. Or the plane was opened, and the run went on; where objects are due, the
--- kernel failed in the run.
+-- Why a run ends so, and what it leaves. The plane was not opened, and nothing was done outside but reading and
+-- settling what a stop had left of the files. Or the output failed in the opening. Or the plane was opened, and the run
+-- went on; where objects are due, the kernel failed in the run.
 pub data RunEnds (seen : Seen) (ending : RunEnd) : Type 0 where
   not_opened : NotOpened seen ending → seen.after ≡ seen.first.before
       → StopsAsFound seen.first.now seen.first.files seen.files_now → RunEnds seen ending

@@ -13,7 +13,7 @@ use Rattle.uci_tool.specs.Folders.{IsFound, StopsAsFound}
 use Rattle.ubus_acl.specs.declared.acl.Acl.{Acl}
 use Rattle.rpc_objects.specs.Passed.{OpensIn, StopsIn}
 use Rattle.bus_lines.specs.World.{World}
-use Rattle.bus_lines.specs.Words.{Supply}
+use Rattle.plane_outside.specs.Supply.{Supply}
 use Rattle.plane_step.specs.ScriptPasses.{ScriptPasses}
 use Rattle.plane_run.specs.declared.script.Script.TheVariants.{Lines}
 use Rattle.plane_run.specs.Opening.{First, HasRows, start_world}
@@ -26,8 +26,8 @@ ImagesOf first files_now start lines = (read : Files) → first.files.seen ≡ S
     → LeavesOnly first.files files_now (λ image. FromImage first.now first.files image
     ⊎ OpensIn first.files.names (ScriptPasses start first.words lines) image)
 
--- The folder was opened, its rows were loaded and the script read, and the images are those of its lines. The plane settled on the rows
--- with some luck.
+-- The folder was opened, its rows were loaded and the script read, and the images are those of its lines. The plane
+-- settled on the rows with some luck.
 pub record StopsOver (first : First) (input : Stream) (files_now : View) : Type 0 where
   pub folder : Folder
   pub found : IsFound first.files first.staged first.now folder
@@ -50,8 +50,8 @@ ScriptStops start words store input view old new = (new ≡ old) ⊎ ((lines : L
     × HasRead input (Lines lines)
     × StopsIn store (view old) (view new) (ScriptPasses start words lines))
 
--- Of a run over an open store: the disk is the value that it was, or rows were loaded, and the images are those of folders of the script
--- from the world behind the opening on.
+-- Of a run over an open store: the disk is the value that it was, or rows were loaded, and the images are those of
+-- folders of the script from the world behind the opening on.
 abbrev pub StoreStops : {D : Type 0} → ℕ → Acl → Supply → Store → Stream → (D → View) → D → D → Type 0
 StoreStops now acl words store input view old new = (new ≡ old)
     ⊎ ((network : Package) × (wireless : Package) × HasRows (folder_of store) network wireless

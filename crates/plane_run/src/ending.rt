@@ -4,7 +4,8 @@ ghost use Rattle.plane_run.specs.Parts as spec;
 use crate::run_end::RunEnd;
 use plane_step::Stop;
 
-/// How a run ends whose script was carried out: by whether every line was ok, and by how many objects are due.
+/// How a run ends whose script was carried out: by whether every line was ok, and by how many
+/// objects are due.
 pub(crate) fn end_of(is_ok: bool, due: usize) -> RunEnd
     ensures { result ≡ spec.end_of is_ok due }
 {

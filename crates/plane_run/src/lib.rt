@@ -1,4 +1,5 @@
-//! `plane run`: a folder is opened at a moment, its network is settled, and a script is carried out to its end.
+//! `plane run`: a folder is opened at a moment, its network is settled, and a script is carried out
+//! to its end.
 #![tactic(auto)]
 
 mod ending;

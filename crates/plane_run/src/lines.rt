@@ -7,7 +7,7 @@ ghost use Rattle.uci_tool.specs.Answers.{IsOpen};
 ghost use Rattle.uci_tool.specs.Ends.{Stream, source_of};
 ghost use Rattle.plane_words.specs.Causes.{Rose};
 ghost use Rattle.rpc_objects.specs.Passed.{StaysOrStopsIn};
-ghost use Rattle.bus_lines.specs.Words.{supply_of};
+ghost use Rattle.plane_outside.specs.Supply.{supply_of};
 ghost use Rattle.bus_lines.specs.Ended.{world_of};
 ghost use Rattle.plane_step.specs.Plain.{ArePlain};
 ghost use Rattle.plane_step.specs.ScriptPasses.{ScriptPasses};
@@ -53,7 +53,8 @@ pub(crate) fn carry_script<S: Source, O: Sink, D: Disk, T: Disk, K: Kernel, R: R
         let words = supply_of callers.old.spare.word (R.words random.old) in GoesOn start (record {
           words = words;
           input = source_of S.Source input.old input.new;
-          disks = faults_of (D.view files.old) (D.view files.new) (T.view staged.old) (T.view staged.new);
+          disks = faults_of (D.view files.old) (D.view files.new)
+              (T.view staged.old) (T.view staged.new);
           files_now = D.view files.new;
           staged_now = T.view staged.new;
           images = λ lines. StaysOrStopsIn store.old D.view files.old files.new

@@ -18,7 +18,8 @@ use std::alloc::Global;
 use step_net::{lines_of_asks, settle_and_show};
 use uci_tree::Package;
 
-/// Loads the rows of two packages into a new plane, settles, and tells the asks. All memory is taken before the first call.
+/// Loads the rows of two packages into a new plane, settles, and tells the asks. All memory is
+/// taken before the first call.
 pub(crate) fn open_net<K: Kernel, O: Sink>(
     alloc: Global,
     net: &mut Net,

@@ -28,9 +28,10 @@ use std::alloc::Global;
 use ubus_acl::Acl;
 use uci_store::{Store, StoreError};
 
-/// Opens a folder of packages and one of staged changes at this moment, in seconds, settles its network on a kernel that has no devices,
-/// and carries the script of the input out, each line settled and answered on the output. Its bus has this access list, and its sessions
-/// are made with the words of the random source.
+/// Opens a folder of packages and one of staged changes at this moment, in seconds, settles its
+/// network on a kernel that has no devices, and carries the script of the input out, each line
+/// settled and answered on the output. Its bus has this access list, and its sessions are made with
+/// the words of the random source.
 pub fn run_script<S: Source, O: Sink, D: Disk, T: Disk, K: Kernel, R: Random>(
     alloc: Global,
     now: u64,
@@ -61,7 +62,8 @@ pub fn run_script<S: Source, O: Sink, D: Disk, T: Disk, K: Kernel, R: Random>(
       after = outside_of O.Sink K.Kernel out.new kernel.new;
     }) result }
 
-    // Whenever it stops, each image of the files opens as it was found, or as a folder that the script passes through.
+    // Whenever it stops, each image of the files opens as it was found, or as a folder that the
+    // script passes through.
     ensures stops { RunStops
         (record {
           now = now;
@@ -89,7 +91,8 @@ pub fn run_script<S: Source, O: Sink, D: Disk, T: Disk, K: Kernel, R: Random>(
     }
 }
 
-// Opens the plane over the store, and carries the script out. Who calls methods is made before anything is written.
+// Opens the plane over the store, and carries the script out. Who calls methods is made before
+// anything is written.
 fn run_over<S: Source, O: Sink, D: Disk, T: Disk, K: Kernel, R: Random>(
     alloc: Global,
     now: u64,
@@ -110,7 +113,8 @@ fn run_over<S: Source, O: Sink, D: Disk, T: Disk, K: Kernel, R: Random>(
       words = R.words random.old;
       store = store.old;
       input = source_of S.Source input.old input.new;
-      disks = faults_of (D.view files.old) (D.view files.new) (T.view staged.old) (T.view staged.new);
+      disks = faults_of (D.view files.old) (D.view files.new)
+          (T.view staged.old) (T.view staged.new);
       stays = files.new ≡ files.old;
       images = λ start lines. StaysOrStopsIn store.old D.view files.old files.new
           (ScriptPasses start (R.words random.old) lines);

@@ -12,7 +12,7 @@ use Rattle.plane_step.specs.declared.stop.Stop.{Stop}
 use Rattle.plane_step.specs.declared.stop.Stop.TheVariants as stop
 use Rattle.plane_step.specs.Faults.{DiskRose}
 use Rattle.bus_lines.specs.World.{World}
-use Rattle.bus_lines.specs.Words.{Supply}
+use Rattle.plane_outside.specs.Supply.{Supply}
 use Rattle.plane_step.specs.Does.{LineDoes}
 use Rattle.plane_step.specs.Moved.{Luck, moved, still, followed, failures, failures_of, Folds}
 use Rattle.plane_step.specs.Ran.{CarriedOut, CutShort, LackedMemory, FailedOnDisk, Ran, StopsIn, LineEnds, ScriptEnds}

@@ -27,7 +27,7 @@ use Rattle.bus_lines.specs.declared.caller_line.CallerLine.{CallerLine}
 use Rattle.bus_lines.specs.declared.caller_line.CallerLine.TheVariants as caller
 use Rattle.bus_lines.specs.declared.handled.Handled.{Handled}
 use Rattle.bus_lines.specs.World.{World}
-use Rattle.bus_lines.specs.Words.{Supply}
+use Rattle.plane_outside.specs.Supply.{Supply}
 use Rattle.bus_lines.specs.CallerLine.{LineDoes as CallerDoes}
 use Rattle.bus_lines.specs.Passed.{CallLinePasses, BytesPass, LinePasses as CallerPasses}
 use Rattle.bus_lines.specs.Cut.{CallLineCuts, BytesCut, LineCuts as CallerCuts}

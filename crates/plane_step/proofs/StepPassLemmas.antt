@@ -16,7 +16,7 @@ use Rattle.script_lines.specs.declared.script_line.ScriptLine.{ScriptLine}
 use Rattle.plane_step.specs.FilesMoved.{files_moved}
 use Rattle.rpc_objects.specs.Passed.{OpensIn, StopsIn, StaysOrStopsIn}
 use Rattle.bus_lines.specs.World.{World}
-use Rattle.bus_lines.specs.Words.{Supply}
+use Rattle.plane_outside.specs.Supply.{Supply}
 use Rattle.plane_step.specs.Passed.{LinePasses, PlainPasses}
 use Rattle.plane_step.specs.ScriptPasses.{ScriptPasses}
 use Rattle.plane_step.specs.Ran.{Ran}

@@ -1,6 +1,6 @@
 -- Random words that are used up.
 use Rattle.std.proofs.Common.{ℕ, ◌≡◌, ◌+◌, List, [], ◌∷◌, ◌++◌, Some, None, refl, subst, ◌∙◌}
-use Rattle.bus_lines.specs.Words.{Supply, AreNext, Uses}
+use Rattle.plane_outside.specs.Supply.{Supply, AreNext, Uses}
 
 pub uses_none : (supply : Supply) → Uses supply [] supply
 uses_none None = refl

@@ -47,7 +47,8 @@ pub record AtDoes (world : World) (number moment : ℕ) (failures : List Bool) (
   pub expired : Expired world moment found
   pub does : PlainDoes found number (Some (line.At moment)) failures did
 
--- What a line at this number of the script does, with its luck: random words, and whether the kernel fails at its events.
+-- What a line at this number of the script does, with its luck: random words, and whether the kernel fails at its
+-- events.
 abbrev pub Does : World → ℕ → Option ScriptLine → List ℕ → List Bool → Did → Type 0
 Does world number None words failures did = PlainDoes world number None failures did
 Does world number (Some (line.Call session object method json)) words failures did =

@@ -6,7 +6,8 @@ use Rattle.rpc_session.specs.SessionList.{SessionList}
 use Rattle.rpc_session.specs.Sessions.{first_expired, destroyed}
 use Rattle.bus_lines.specs.World.{World}
 
--- Some of the sessions that are not live at the moment go, one after the other from the first one on, each with what it has staged.
+-- Some of the sessions that are not live at the moment go, one after the other from the first one on, each with what it
+-- has staged.
 pub data Goes (now : ℕ) : SessionList → List StagedChange → SessionList → List StagedChange → Type 0 where
   none : (list : SessionList) (staged : List StagedChange) → Goes now list staged list staged
   more : (id : ℕ) (list fewer last : SessionList) (staged left : List StagedChange)
@@ -20,7 +21,8 @@ keeping world list staged = record world {
   sessions = list;
 }
 
--- The world within the coming of a moment, before files are rolled back. One before the last changes nothing; else sessions go.
+-- The world within the coming of a moment, before files are rolled back. One before the last changes nothing; else
+-- sessions go.
 pub data Reached (world : World) (moment : ℕ) : World → Type 0 where
   past : moment < world.now → Reached world moment world
   comes : world.now ≤ moment → (list : SessionList) (staged : List StagedChange)

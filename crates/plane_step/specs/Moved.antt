@@ -9,8 +9,8 @@ use Rattle.bus_lines.specs.World.{World}
 use Rattle.bus_lines.specs.Did.{Did}
 use Rattle.plane_step.specs.Does.{LineDoes}
 
--- what the outside did to a line: random words at hand, one a call or a frame; whether the kernel failed at each of its events, in order;
--- and behind how many calls of its settling it failed
+-- what the outside did to a line: random words at hand, one a call or a frame; whether the kernel failed at each of its
+-- events, in order; and behind how many calls of its settling it failed
 pub record Luck : Type 0 where
   pub words : List ℕ
   pub events : List Bool
@@ -20,7 +20,8 @@ pub record Luck : Type 0 where
 abbrev pub failures_of : Luck → ℕ
 failures_of luck = failed_events luck.events + once_if (is_some luck.failed_behind)
 
--- what is told behind the calls: the lines of asks and the reply, and the line of its refusal, where the line is refused
+-- what is told behind the calls: the lines of asks and the reply, and the line of its refusal, where the line is
+-- refused
 abbrev pub telling_of : Did → Telling
 telling_of did = record {
   shown = did.asks ++ did.reply;
@@ -38,7 +39,8 @@ pub record Moved : Type 0 where
   pub is_ok : Bool
   pub words : List ℕ
 
--- What a line comes to that did this: the lines of sends go first, then the calls of its settling, and then what is told.
+-- What a line comes to that did this: the lines of sends go first, then the calls of its settling, and then what is
+-- told.
 unfoldable pub moved : Did → Option ℕ → Moved
 moved did failed_behind =
     let end = finished did.world.net (telling_of did) failed_behind in

@@ -13,7 +13,7 @@ use Rattle.plane_step.specs.declared.stop.Stop.TheVariants as stop
 use Rattle.plane_step.specs.Faults.{DiskFaults, DiskRose}
 use Rattle.rpc_objects.specs.Cut.{Cut}
 use Rattle.bus_lines.specs.World.{World}
-use Rattle.bus_lines.specs.Words.{Supply, Uses}
+use Rattle.plane_outside.specs.Supply.{Supply, Uses}
 use Rattle.bus_lines.specs.Did.{Did}
 use Rattle.plane_step.specs.Does.{LineDoes}
 use Rattle.plane_step.specs.Passed.{LinePasses, LineCuts, LineFails}
@@ -35,8 +35,8 @@ pub record CarriedOut (line : Line) (world now : World) (words : Words) (before 
   pub used : Uses words.before did.words words.after
   pub left : Leaves (moved did luck.failed_behind).effects (failures_of luck) before after
 
--- There are lines of sends, which were written in part, and no call was made. Or they were written, and what stands behind them keeps
--- pace with the calls.
+-- There are lines of sends, which were written in part, and no call was made. Or they were written, and what stands
+-- behind them keeps pace with the calls.
 pub data PacesBehind (sent : List ℕ) (calls left : List Call) (text : List ℕ) : Type 0 where
   within : sent ≢ [] → (rest : List ℕ) → sent ≡ text ++ rest → calls ≡ []
       → PacesBehind sent calls left text
@@ -62,7 +62,8 @@ pub record IsWritten (text line : List ℕ) (before after : Outside) : Type 0 wh
   pub parts : line ≡ text ++ back
   pub whole : DidNotRise before.out_faults after.out_faults → back ≡ []
 
--- A line was cut in one of these ways, and no call was made: of its text this last line alone was written, or a front of that.
+-- A line was cut in one of these ways, and no call was made: of its text this last line alone was written, or a front
+-- of that.
 pub record IsCutWith (last : List ℕ) (Cuts : Cut → Type 0) (before after : Outside) : Type 0 where
   pub cut : Cut
   pub cuts : Cuts cut

@@ -5,7 +5,7 @@ ghost use Rattle.uci_tool.specs.Answers.{IsOpen};
 ghost use Rattle.script_lines.specs.declared.script_line.ScriptLine.TheVariants.{At as AtLine};
 ghost use Rattle.rpc_objects.specs.Passed.{StaysOrStopsIn};
 ghost use Rattle.rpc_objects.specs.Kept.{faults_of as disk_faults};
-ghost use Rattle.bus_lines.specs.Words.{Supply, supply_of};
+ghost use Rattle.plane_outside.specs.Supply.{Supply, supply_of};
 ghost use Rattle.bus_lines.specs.declared.callers.Callers.{Callers as CallersAre};
 ghost use Rattle.bus_lines.specs.Ended.{world_of};
 ghost use Rattle.plane_step.specs.Plain.{IsPlain};
@@ -27,7 +27,8 @@ use script_lines::ScriptLine;
 use std::alloc::Global;
 use uci_store::Store;
 
-/// Acts on what a line asks for, which stands at this number in the script. The calls of its settling are not made.
+/// Acts on what a line asks for, which stands at this number in the script. The calls of its
+/// settling are not made.
 pub(crate) fn act<K: Kernel, D: Disk, T: Disk, R: Random>(
     alloc: Global,
     moment: &mut u64,
@@ -122,7 +123,8 @@ fn who_asks(line: Option<ScriptLine>) -> Asking
     }
 }
 
-// Goes to a moment, unless it is before the last: sessions expire, and then files may be rolled back.
+// Goes to a moment, unless it is before the last: sessions expire, and then files may be rolled
+// back.
 fn go_to<K: Kernel, D: Disk, T: Disk>(
     alloc: Global,
     moment: &mut u64,

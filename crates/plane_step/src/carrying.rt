@@ -10,7 +10,7 @@ ghost use Rattle.net_rules.specs.Moment.{want_of};
 ghost use Rattle.uci_tool.specs.Answers.{IsOpen};
 ghost use Rattle.rpc_objects.specs.Passed.{StaysOrStopsIn};
 ghost use Rattle.rpc_objects.specs.Kept.{faults_of as disk_faults};
-ghost use Rattle.bus_lines.specs.Words.{supply_of};
+ghost use Rattle.plane_outside.specs.Supply.{supply_of};
 ghost use Rattle.bus_lines.specs.Ended.{world_of};
 ghost use Rattle.plane_step.specs.Plain.{IsPlain};
 ghost use Rattle.plane_step.specs.Passed.{LinePasses};
@@ -32,12 +32,14 @@ use step_net::finish;
 use uci_store::Store;
 use uci_text::Line;
 
-/// Carries a line out, and answers whether it was ok: it is acted on, then settled, and then answered.
+/// Carries a line out, and answers whether it was ok: it is acted on, then settled, and then
+/// answered.
 ///
 /// # Errors
 ///
-/// `WriteFailed` at the first line of its text that is not written, or not wholly. `DiskFailed` only where a disk failed, and `Memory`
-/// where there is none to read the line or to act on it: each is written as the last line.
+/// `WriteFailed` at the first line of its text that is not written, or not wholly. `DiskFailed`
+/// only where a disk failed, and `Memory` where there is none to read the line or to act on it:
+/// each is written as the last line.
 pub fn carry_out<K: Kernel, O: Sink, D: Disk, T: Disk, R: Random>(
     alloc: Global,
     moment: &mut u64,

@@ -21,8 +21,8 @@ use uci_cli::Refusal;
 use uci_store::Store;
 use uci_tool::{Report, carry_words};
 
-/// Carries a command of `uci` out, with an empty input. What it prints is shown, and then it may be refused. Words that ask for none
-/// are a bad line of this number.
+/// Carries a command of `uci` out, with an empty input. What it prints is shown, and then it may be
+/// refused. Words that ask for none are a bad line of this number.
 pub(crate) fn carry_uci<D: Disk, T: Disk>(
     alloc: Global,
     store: &mut Store,

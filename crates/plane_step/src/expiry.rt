@@ -12,7 +12,8 @@ use plane_io::Memory;
 use rpc_session::Sessions;
 use uci_store::Store;
 
-/// Ends the sessions that are not live at the moment that comes, each with what it has staged. A moment before the last ends none.
+/// Ends the sessions that are not live at the moment that comes, each with what it has staged. A
+/// moment before the last ends none.
 ///
 /// # Errors
 ///

@@ -1,5 +1,6 @@
-//! The lines of a script over the moment, the files, the sessions, the message bus and the plane of interfaces: each is read, acted on,
-//! settled and answered; with the laws of what a line means and what a script comes to.
+//! The lines of a script over the moment, the files, the sessions, the message bus and the plane of
+//! interfaces: each is read, acted on, settled and answered; with the laws of what a line means and
+//! what a script comes to.
 #![tactic(auto)]
 
 mod act;

@@ -26,7 +26,8 @@ use step_net::{
 };
 use uci_store::Store;
 
-/// Acts on what a line asks for, which stands at this number in the script. The calls of its settling are not made.
+/// Acts on what a line asks for, which stands at this number in the script. The calls of its
+/// settling are not made.
 ///
 /// # Errors
 ///

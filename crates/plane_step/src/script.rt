@@ -5,7 +5,7 @@ ghost use Rattle.step_net.specs.Finished.{HoldsOrFailed};
 ghost use Rattle.net_plane.specs.Network.{IsOf};
 ghost use Rattle.uci_tool.specs.Answers.{IsOpen};
 ghost use Rattle.rpc_objects.specs.Passed.{StaysOrStopsIn};
-ghost use Rattle.bus_lines.specs.Words.{supply_of};
+ghost use Rattle.plane_outside.specs.Supply.{supply_of};
 ghost use Rattle.bus_lines.specs.Ended.{world_of};
 ghost use Rattle.plane_step.specs.Plain.{ArePlain};
 ghost use Rattle.plane_step.specs.ScriptPasses.{ScriptPasses};

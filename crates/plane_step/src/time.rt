@@ -17,8 +17,8 @@ use std::alloc::Global;
 use step_net::{Told, refuse, reload, tell_nothing};
 use uci_store::Store;
 
-/// The moment becomes this one, unless it is before the last. An apply whose deadline has come is undone, and then the files are
-/// loaded.
+/// The moment becomes this one, unless it is before the last. An apply whose deadline has come is
+/// undone, and then the files are loaded.
 pub(crate) fn go_to<D: Disk>(
     alloc: Global,
     moment: &mut u64,

@@ -45,7 +45,8 @@ module _ {K : Type 0} {cmp : K → K → Ordering} (total : IsTotalOrder cmp) (a
   put_keeps new [] k h = absurd (no_member k h)
   put_keeps new (first ∷ others) k h = placed_keeps (cmp new first) new first others (put_in cmp new others) k (put_keeps new others k) h
 
-  placed_sorted : (o : Ordering) (new first : K) (others later : List K) → cmp new first ≡ o → IsStrictlySortedBy cmp (first ∷ others) → IsStrictlySortedBy cmp later → ((j : K) → Contains later j → (new ≡ j) ⊎ Contains others j) → IsStrictlySortedBy cmp (placed o new first others later)
+  placed_sorted : (o : Ordering) (new first : K) (others later : List K) → cmp new first ≡ o → IsStrictlySortedBy cmp (first ∷ others) → IsStrictlySortedBy cmp later → ((j : K) → Contains later j → (new ≡ j) ⊎ Contains others j)
+      → IsStrictlySortedBy cmp (placed o new first others later)
   unfolding IsStrictlySortedBy
   placed_sorted Less new first others later is s l from = ((is, all_from_members (λ k. cmp new k ≡ Less) others (λ k inside. total.trans new first k is (member_of_all (λ j. cmp first j ≡ Less) others k s.0 inside))), s)
   placed_sorted Equal new first others later is s l from = s

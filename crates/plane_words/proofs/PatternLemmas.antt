@@ -65,7 +65,8 @@ fitting_begins (byte ∷ front) (first ∷ others) h =
 pub begins_fits : (front rest : List ℕ) → fits_front (front ++ star ∷ []) (front ++ rest) ≡ true
 begins_fits [] [] = refl
 begins_fits [] (byte ∷ bytes) = refl
-begins_fits (byte ∷ front) rest = second_true (nat_eq byte star && is_nothing (front ++ star ∷ [])) (nat_eq byte byte && fits_front (front ++ star ∷ []) (front ++ rest)) (and_true (nat_eq byte byte) (fits_front (front ++ star ∷ []) (front ++ rest)) (byte_itself byte) (begins_fits front rest))
+begins_fits (byte ∷ front) rest = second_true (nat_eq byte star && is_nothing (front ++ star ∷ [])) (nat_eq byte byte && fits_front (front ++ star ∷ []) (front ++ rest))
+    (and_true (nat_eq byte byte) (fits_front (front ++ star ∷ []) (front ++ rest)) (byte_itself byte) (begins_fits front rest))
 
 last_star : (byte : ℕ) (pattern : List ℕ) → (nat_eq byte star && is_nothing pattern) ≡ true → byte ∷ pattern ≡ [] ++ star ∷ []
 last_star byte pattern h =
@@ -89,7 +90,8 @@ fitting_is_itself (byte ∷ pattern) (first ∷ others) other h =
 
 pub fits_front_itself : (pattern : List ℕ) → fits_front pattern pattern ≡ true
 fits_front_itself [] = refl
-fits_front_itself (byte ∷ pattern) = second_true (nat_eq byte star && is_nothing pattern) (nat_eq byte byte && fits_front pattern pattern) (and_true (nat_eq byte byte) (fits_front pattern pattern) (byte_itself byte) (fits_front_itself pattern))
+fits_front_itself (byte ∷ pattern) = second_true (nat_eq byte star && is_nothing pattern) (nat_eq byte byte && fits_front pattern pattern)
+    (and_true (nat_eq byte byte) (fits_front pattern pattern) (byte_itself byte) (fits_front_itself pattern))
 
 -- a star anywhere
 module _ (test : List ℕ → Bool) (P : List ℕ → Type 0) where
@@ -110,7 +112,8 @@ later_fits test [] (byte ∷ bytes) h = first_true (test (byte ∷ bytes)) (fits
 later_fits test (byte ∷ skipped) rest h = second_true (test (byte ∷ (skipped ++ rest))) (fits_later test (skipped ++ rest)) (later_fits test skipped rest h)
 
 -- what one byte of a pattern stands for, and then the others
-step_to : (b : Bool) (byte : ℕ) (test : List ℕ → Bool) (P : List ℕ → Type 0) (text : List ℕ) → ((rest : List ℕ) → test rest ≡ true → P rest) → (if b then fits_later test text else fits_next (λ first. nat_eq byte question_mark || nat_eq byte first) test text) ≡ true →
+step_to : (b : Bool) (byte : ℕ) (test : List ℕ → Bool) (P : List ℕ → Type 0) (text : List ℕ) → ((rest : List ℕ) → test rest ≡ true → P rest)
+    → (if b then fits_later test text else fits_next (λ first. nat_eq byte question_mark || nat_eq byte first) test text) ≡ true →
     MatchBool b ((skipped : List ℕ) × (rest : List ℕ) × (text ≡ skipped ++ rest) × P rest) ((first : ℕ) × (rest : List ℕ) × (text ≡ first ∷ rest) × ((nat_eq byte question_mark || nat_eq byte first) ≡ true) × P rest)
 step_to true byte test P text to h = later_found test P to text h
 step_to false byte test P text to h = next_found test P (λ first. nat_eq byte question_mark || nat_eq byte first) to text h
@@ -119,7 +122,8 @@ step_from : (b : Bool) (byte : ℕ) (test : List ℕ → Bool) (P : List ℕ →
     MatchBool b ((skipped : List ℕ) × (rest : List ℕ) × (text ≡ skipped ++ rest) × P rest) ((first : ℕ) × (rest : List ℕ) × (text ≡ first ∷ rest) × ((nat_eq byte question_mark || nat_eq byte first) ≡ true) × P rest) →
     (if b then fits_later test text else fits_next (λ first. nat_eq byte question_mark || nat_eq byte first) test text) ≡ true
 step_from true byte test P text from h = subst (λ whole. fits_later test whole ≡ true) (sym h.2) (later_fits test h.0 h.1 (from h.1 h.3))
-step_from false byte test P text from h = subst (λ whole. fits_next (λ first. nat_eq byte question_mark || nat_eq byte first) test whole ≡ true) (sym h.2) (and_true (nat_eq byte question_mark || nat_eq byte h.0) (test h.1) h.3 (from h.1 h.4))
+step_from false byte test P text from h = subst (λ whole. fits_next (λ first. nat_eq byte question_mark || nat_eq byte first) test whole ≡ true) (sym h.2)
+    (and_true (nat_eq byte question_mark || nat_eq byte h.0) (test h.1) h.3 (from h.1 h.4))
 
 pub fits_to : (pattern text : List ℕ) → fits pattern text ≡ true → Fits pattern text
 fits_to [] text h = nothing_left text h
@@ -130,7 +134,8 @@ fits_from [] text h = subst (λ whole. is_nothing whole ≡ true) (sym h) refl
 fits_from (byte ∷ pattern) text h = step_from (nat_eq byte star) byte (fits pattern) (Fits pattern) text (fits_from pattern) h
 
 -- plain patterns
-plain_step : (byte : ℕ) (test : List ℕ → Bool) (text : List ℕ) → (byte ≡ star → ⊥) → (if nat_eq byte star then fits_later test text else fits_next (λ first. nat_eq byte question_mark || nat_eq byte first) test text) ≡ fits_next (λ first. nat_eq byte question_mark || nat_eq byte first) test text
+plain_step : (byte : ℕ) (test : List ℕ → Bool) (text : List ℕ) → (byte ≡ star → ⊥) → (if nat_eq byte star then fits_later test text else fits_next (λ first. nat_eq byte question_mark || nat_eq byte first) test text)
+    ≡ fits_next (λ first. nat_eq byte question_mark || nat_eq byte first) test text
 plain_step byte test text apart = ap (λ b. if b then fits_later test text else fits_next (λ first. nat_eq byte question_mark || nat_eq byte first) test text) (other_byte byte star apart)
 
 pub plain_is_itself : (pattern text : List ℕ) → (Contains pattern star → ⊥) → (Contains pattern question_mark → ⊥) → fits pattern text ≡ true → text ≡ pattern
@@ -151,4 +156,5 @@ pub fits_itself : (pattern : List ℕ) → (Contains pattern star → ⊥) → f
 fits_itself [] stars = refl
 fits_itself (byte ∷ pattern) stars =
     plain_step byte (fits pattern) (byte ∷ pattern) (λ is. stars (subst (λ b. Contains (byte ∷ pattern) b) is (first_member byte pattern)))
-    ∙ and_true (nat_eq byte question_mark || nat_eq byte byte) (fits pattern pattern) (second_true (nat_eq byte question_mark) (nat_eq byte byte) (byte_itself byte)) (fits_itself pattern (λ inside. stars (later_member byte pattern star inside)))
+    ∙ and_true (nat_eq byte question_mark || nat_eq byte byte) (fits pattern pattern) (second_true (nat_eq byte question_mark) (nat_eq byte byte) (byte_itself byte))
+    (fits_itself pattern (λ inside. stars (later_member byte pattern star inside)))

@@ -1,6 +1,7 @@
 //! The definitions that every crate of the plane cites, and the laws about them.
 //!
-//! The crate has no code: each function here is a law, whose contract is the statement and whose body is empty.
+//! The crate has no code: each function here is a law, whose contract is the statement and whose
+//! body is empty.
 #![tactic(auto)]
 
 mod causes;

@@ -1,5 +1,6 @@
 ghost use Rattle.std.specs.Prelude.{ℕ, ◌<◌, ◌≤◌, ◌^◌, ◌∷◌, List, decimal, length};
-ghost use Rattle.plane_words.specs.Numeral.{SpellsDecimal, SpellsHex, SpellsNumber, hex, zero_digit};
+ghost use Rattle.plane_words.specs.Numeral.{SpellsDecimal, SpellsHex, SpellsNumber, hex};
+ghost use Rattle.plane_words.specs.Numeral.{zero_digit};
 
 /// A number in decimal spells the number.
 pub fn decimal_reads_back()

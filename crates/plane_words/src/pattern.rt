@@ -1,7 +1,8 @@
 ghost use Rattle.std.specs.Prelude.{ℕ, ◌≡◌, ◌↔◌, ◌++◌, ◌∷◌, [], List, true, Contains};
 ghost use Rattle.plane_words.specs.Pattern.{Fits, fits, fits_front, star, question_mark};
 
-/// A pattern that ends with `*` fits the texts that begin with what stands before it; any other fits itself alone.
+/// A pattern that ends with `*` fits the texts that begin with what stands before it; any other
+/// fits itself alone.
 pub fn front_patterns()
     ensures ends_with_star { (front text : List ℕ) →
         (fits_front (front ++ star ∷ []) text ≡ true)

@@ -6,8 +6,8 @@ use crate::put::{
 use net_rows::{InterfaceRow, RouteRow};
 use std::alloc::Global;
 
-/// Puts a line for each interface: its name, protocol, device and metric, what is said of it, its addresses and gateways, the
-/// options that its ask shows, and its faults.
+/// Puts a line for each interface: its name, protocol, device and metric, what is said of it, its
+/// addresses and gateways, the options that its ask shows, and its faults.
 pub(crate) fn put_interfaces(
     alloc: Global,
     out: &mut Vec<u8>,
@@ -44,8 +44,8 @@ fn put_given(out: &mut Vec<u8>, row: &InterfaceRow) -> anyhow::Result<()> {
     Ok(())
 }
 
-/// Puts a line for each route: the place of its interface among the interfaces, where it leads to, its metric and table, and its
-/// faults.
+/// Puts a line for each route: the place of its interface among the interfaces, where it leads to,
+/// its metric and table, and its faults.
 pub(crate) fn put_routes(
     alloc: Global,
     out: &mut Vec<u8>,

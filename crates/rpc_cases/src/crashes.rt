@@ -201,7 +201,8 @@ fn with_file(
     Ok(image)
 }
 
-/// Puts each disk that a crash may leave, with one of these snapshots and one of these networks, behind the others.
+/// Puts each disk that a crash may leave, with one of these snapshots and one of these networks,
+/// behind the others.
 fn find(
     alloc: Global,
     disk: &MemDisk,

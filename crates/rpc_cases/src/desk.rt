@@ -36,7 +36,8 @@ impl Model for Desk {
         × (has_failed desk.store ≡ false) };
 }
 
-/// What a call of the object `uci` leaves: the store with what it answers, or the disks, of which one failed.
+/// What a call of the object `uci` leaves: the store with what it answers, or the disks, of which
+/// one failed.
 pub(crate) enum Left {
     Open(Desk, Result<Reply, RpcError>),
     Failed(Disks),

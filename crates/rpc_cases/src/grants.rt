@@ -5,7 +5,8 @@ use std::alloc::Global;
 /// The random word of a session, where none is told.
 pub(crate) const WORD: u64 = 0xab;
 
-/// The id of a session that is told as `NUMBER` or as `NUMBER.WORD`. That of the default session is 0.
+/// The id of a session that is told as `NUMBER` or as `NUMBER.WORD`. That of the default session is
+/// 0.
 pub(crate) fn id_of(text: &str) -> anyhow::Result<u128> {
     let (number, word) = match text.split_once('.') {
         Some((number, word)) => (number, word.parse::<u64>()?),

@@ -1,5 +1,5 @@
--- What a call of an object of the network comes to (OpenWrt's netifd): what it does is what the line of a script does that
--- means the same. Refusals are told as statuses of libubus.
+-- What a call of an object of the network comes to (OpenWrt's netifd): what it does is what the line of a script does
+-- that means the same. Refusals are told as statuses of libubus.
 use Rattle.std.specs.Prelude.{ℕ, List, [], Bool, Option, Some, None, Result, Ok, Err, ◌≡◌, refl}
 use Rattle.serde_json.specs.Data.{Data}
 use Rattle.blob_codec.specs.declared.blob.Attr.{Attr}
@@ -26,9 +26,9 @@ pub record Answered : Type 0 where
   pub asks : List ℕ
   pub answer : Result (List Attr) CallStatus
 
--- The status of a refusal: 4 where an interface, a device or a radio is not there; 2 for a number that is not the one asked for, a
--- device that is there, a wrong number of ports, a list that is too long, and a file that does not read; 9 where the kernel failed.
--- No call of these objects is refused for anything else.
+-- The status of a refusal: 4 where an interface, a device or a radio is not there; 2 for a number that is not the one
+-- asked for, a device that is there, a wrong number of ports, a list that is too long, and a file that does not read; 9
+-- where the kernel failed. No call of these objects is refused for anything else.
 abbrev pub status_of : LineError → CallStatus
 status_of error.NoInterface = status.NotFound
 status_of error.NoDevice = status.NotFound

@@ -70,7 +70,8 @@ pub data IsStopped (folder : Folder) (object : NetObject) (method : List ℕ) (a
   within : (asked : NetCall) → AsksMethod object method args asked → IsHaltedIn folder asked before now kernel
       → IsStopped folder object method args before now kernel
 
-abbrev pub Answers : {M : Type 0} → Folder → NetObject → List ℕ → List Attr → Network → Network → Telled → Result NetAnswer M
+abbrev pub Answers : {M : Type 0} → Folder → NetObject → List ℕ → List Attr → Network → Network → Telled
+    → Result NetAnswer M
     → Type 0
 Answers folder object method args before now kernel (Ok told) =
     IsAnsweredTo folder object method args before now kernel told

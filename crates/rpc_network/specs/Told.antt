@@ -46,8 +46,8 @@ pub record AsksOnly (lines : List ℕ) (told : NetAnswer) : Type 0 where
   pub asks : told.asks ≡ lines
   pub answer : told.answer ≡ Ok []
 
--- How an event ended is answered. Where it was taken, all that is to be told of asks is handed out. Where it was refused, its
--- error is told, and nothing changes. Either may want memory.
+-- How an event ended is answered. Where it was taken, all that is to be told of asks is handed out. Where it was
+-- refused, its error is told, and nothing changes. Either may want memory.
 abbrev pub Ends : {X M : Type 0} → Result X NetError → Network → Network → Result NetAnswer M → Type 0
 Ends (Ok taken) before now (Ok told) =
     AsksOnly (lines_of_asks before.inputs.conf before.notices) told × (now.notices ≡ [])

@@ -19,8 +19,8 @@ use script_lines::CallStatus;
 use std::alloc::Global;
 use uci_store::Store;
 
-/// Carries a call of a method of this object out. A method that the object does not have has status 3, and an argument that is missing
-/// or of another form status 2.
+/// Carries a call of a method of this object out. A method that the object does not have has status
+/// 3, and an argument that is missing or of another form status 2.
 ///
 /// # Errors
 ///

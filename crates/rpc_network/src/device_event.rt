@@ -8,11 +8,13 @@ use kern_model::{DevEvent, DevName, Mac, read_name};
 use net_rows::read_mac;
 use rpc_session::{argument, text_argument, text_of};
 
-/// The largest size of a packet that a device is told to have where nothing is said of it, in bytes.
+/// The largest size of a packet that a device is told to have where nothing is said of it, in
+/// bytes.
 const USUAL_MTU: u32 = 1500;
 
-/// The event that the arguments tell: the device `name` comes or leaves by `present`, and else changes its `carrier`. One that comes has a
-/// carrier, an MTU of 1,500 bytes and no hardware address, where nothing else is said.
+/// The event that the arguments tell: the device `name` comes or leaves by `present`, and else
+/// changes its `carrier`. One that comes has a carrier, an MTU of 1,500 bytes and no hardware
+/// address, where nothing else is said.
 pub(crate) fn event_of(args: &[Attr]) -> Option<DevEvent>
     ensures { result ≡ spec.event_of args.now }
 {

@@ -1,5 +1,6 @@
-//! Calls of the network's objects on the message bus (OpenWrt's netifd): which methods they have, what their arguments ask for, what they do
-//! to the plane of interfaces with the committed files at hand, and what they answer.
+//! Calls of the network's objects on the message bus (OpenWrt's netifd): which methods they have,
+//! what their arguments ask for, what they do to the plane of interfaces with the committed files
+//! at hand, and what they answer.
 #![tactic(auto)]
 
 mod answering;

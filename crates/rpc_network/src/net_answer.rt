@@ -9,7 +9,8 @@ use script_lines::CallStatus;
 use sqlite_items::Items;
 use std::alloc::Global;
 
-/// What comes of a call: the lines of the asks that it brings, and its payload or why it is refused.
+/// What comes of a call: the lines of the asks that it brings, and its payload or why it is
+/// refused.
 #[derive(Drop)]
 pub struct NetAnswer {
     pub asks: Text,

@@ -11,7 +11,8 @@ pub enum NetObject {
 }
 
 impl NetObject {
-    /// The object of a path, if there is one: `network`, `network.device`, `network.interface` or `network.wireless`.
+    /// The object of a path, if there is one: `network`, `network.device`, `network.interface` or
+    /// `network.wireless`.
     pub fn of(path: &[u8]) -> Option<NetObject>
         ensures { result ≡ spec.object_of path.now }
     {

@@ -15,11 +15,13 @@ use blob_json::json_of_blob;
 use plane_io::Text;
 use std::alloc::Global;
 
-/// What a call of a method of this object asks for with these arguments, of which others are passed over; of equal names the last counts.
+/// What a call of a method of this object asks for with these arguments, of which others are passed
+/// over; of equal names the last counts.
 ///
 /// # Errors
 ///
-/// `NoMethod` where the object has no method of that name, `Argument` where one is missing or of another form, and `Memory`.
+/// `NoMethod` where the object has no method of that name, `Argument` where one is missing or of
+/// another form, and `Memory`.
 pub fn read_call(
     alloc: Global,
     object: NetObject,

@@ -1,5 +1,5 @@
--- What a call of a local object comes to: the parts of a world that it moves, what the kernel is asked, the lines of asks, the answer,
--- and why a reload behind it is refused, if it is.
+-- What a call of a local object comes to: the parts of a world that it moves, what the kernel is asked, the lines of
+-- asks, the answer, and why a reload behind it is refused, if it is.
 use Rattle.std.specs.Prelude.{ℕ, ◌≡◌, List, [], Bool, true, false, Option, Some, None, Result, Ok, Err}
 use Rattle.blob_codec.specs.declared.blob.Attr.{Attr}
 use Rattle.kern_model.specs.declared.kernel.Asked.{Asked}
@@ -57,13 +57,15 @@ quiet parts answer =
 abbrev pub session_called : ℕ → ℕ → Parts → List ℕ → List Attr → Called
 session_called now word parts method args =
     let done = session_call method args now word parts.sessions parts.files.staged in
-    record (quiet (record parts { files = record parts.files { staged = done.staged }; sessions = done.sessions }) done.answer) {
+    record (quiet (record parts { files = record parts.files { staged = done.staged }; sessions = done.sessions })
+    done.answer) {
       has_created = done.has_created;
     }
 
 -- ---- the object `uci`
 
--- A store that is open on files of this folder is called, and left with that one. What the call makes of it depends on the folder alone.
+-- A store that is open on files of this folder is called, and left with that one. What the call makes of it depends on
+-- the folder alone.
 pub record StoreCalled (now : ℕ) (sessions : SessionList) (method : List ℕ) (args : List Attr) (before after : Folder)
     (called : Result Reply RpcError) : Type 0 where
   pub old : Store
@@ -93,7 +95,8 @@ pub record UciCalled (now : ℕ) (before : Parts) (method : List ℕ) (args : Li
   pub told : UciAnswer
   pub answers : uci_told called ≡ Some told
   pub reloads : Reloads
-      (record before { files = after; sessions = renewed (caller_in args) now before.sessions }) told.answer told.reload done
+      (record before { files = after; sessions = renewed (caller_in args) now before.sessions }) told.answer told.reload
+      done
 
 -- ---- the objects of the network
 
@@ -107,7 +110,8 @@ net_called parts act failed =
     let done = answered parts.net act failed in
     record (quiet (record parts { net = done.net }) (of_network done.answer)) { asked = done.asked; asks = done.asks }
 
-pub data NetworkCalled (before : Parts) (object : NetObject) (method : List ℕ) (args : List Attr) (failed : Bool) : Called → Type 0 where
+pub data NetworkCalled (before : Parts) (object : NetObject) (method : List ℕ) (args : List Attr) (failed : Bool) :
+    Called → Type 0 where
   carried : (asked : NetCall) → AsksMethod object method args asked → (act : NetLine) → CallMeans before.files asked act
       → NetworkCalled before object method args failed (net_called before act failed)
   no_method : method_of object method ≡ None

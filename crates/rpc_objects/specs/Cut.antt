@@ -27,7 +27,8 @@ behind_call done failed =
     record { held = done.parts.net.held; asked = done.asked; failures = once_if failed }
 
 -- a call was stopped in front of what it does, or behind it
-pub data CallCuts (now word : ℕ) (before : Parts) (object : LocalObject) (method : List ℕ) (args : List Attr) : Cut → Type 0 where
+pub data CallCuts (now word : ℕ) (before : Parts) (object : LocalObject) (method : List ℕ) (args : List Attr) : Cut
+    → Type 0 where
   in_front : CallCuts now word before object method args (untouched before.net)
   behind : (failed : Bool) (done : Called) → CallsTo now word failed before object method args done
       → CallCuts now word before object method args (behind_call done failed)

@@ -23,15 +23,18 @@ pub record UciLeads (now : ℕ) (before : Parts) (method : List ℕ) (args : Lis
   pub ready : has_failed store ≡ false
   pub leads : Leads before.sessions method args now store after
 
--- The folder is the one in front of the call, or has the files that a call of `uci` leads to, or is the one that such a call leaves, or
--- lacks what a session had staged that was destroyed.
-pub data CallPasses (now : ℕ) (before : Parts) (method : List ℕ) (args : List Attr) : LocalObject → Folder → Type 0 where
+-- The folder is the one in front of the call, or has the files that a call of `uci` leads to, or is the one that such a
+-- call leaves, or lacks what a session had staged that was destroyed.
+pub data CallPasses (now : ℕ) (before : Parts) (method : List ℕ) (args : List Attr) : LocalObject → Folder
+    → Type 0 where
   front : (object : LocalObject) → CallPasses now before method args object before.files
   led : (after : State) → UciLeads now before method args after
       → CallPasses now before method args Uci (record before.files { files = after })
-  left : (after : Folder) (called : Result Reply RpcError) → StoreCalled now before.sessions method args before.files after called
+  left : (after : Folder) (called : Result Reply RpcError)
+      → StoreCalled now before.sessions method args before.files after called
       → CallPasses now before method args Uci after
-  forgot : (word : ℕ) → CallPasses now before method args Session (session_called now word before method args).parts.files
+  forgot : (word : ℕ) → CallPasses now before method args Session
+      (session_called now word before method args).parts.files
 
 -- an image, opened at any moment, gives what one of these folders is to give
 pub record OpensIn (names : List (List ℕ)) (Passes : Folder → Type 0) (image : Files) : Type 0 where

@@ -1,5 +1,6 @@
 -- A call of the object `session`, and what it leaves of staged changes (OpenWrt's rpcd).
-use Rattle.std.specs.Prelude.{Bool, ℕ, ◌≡◌, ◌==◌, ◌&&◌, List, Option, Some, None, Result, Ok, Err, is_ok, codes, if◌then◌else◌}
+use Rattle.std.specs.Prelude.{Bool, ℕ, ◌≡◌, ◌==◌, ◌&&◌, List, Option, Some, None, Result, Ok, Err, is_ok, codes}
+use Rattle.std.specs.Prelude.{if◌then◌else◌}
 use Rattle.blob_codec.specs.declared.blob.Attr.{Attr}
 use Rattle.rpc_session.specs.declared.grant.Grant.{Grant}
 use Rattle.rpc_session.specs.declared.session_error.SessionError.{SessionError}
@@ -21,8 +22,9 @@ use Rattle.rpc_objects.specs.LocalAnswer.{told, refused, denied}
 abbrev pub destroying : Grant
 destroying = record { scope = codes "ubus"; object = codes "session"; function = codes "destroy" }
 
--- The status of each refusal: 3 for a method that is none, 2 for an argument, 4 for a session that is none, 9 where there are as many
--- as there may be; the default session is not destroyed. Want of memory is none of a call that is answered.
+-- The status of each refusal: 3 for a method that is none, 2 for an argument, 4 for a session that is none, 9 where
+-- there are as many as there may be; the default session is not destroyed. Want of memory is none of a call that is
+-- answered.
 abbrev pub answer_of : Result (List Attr) SessionError → LocalAnswer
 answer_of (Ok payload) = told payload
 answer_of (Err error.NoMethod) = refused 3
@@ -62,7 +64,8 @@ session_call method args now word list staged =
       staged = staged_without (ended_by method args done.answer) staged;
     }
 
-pub record HasAnswered (done : SessionDone) (sessions : SessionList) (staged : List StagedChange) (told : SessionAnswer) : Type 0 where
+pub record HasAnswered (done : SessionDone) (sessions : SessionList) (staged : List StagedChange) (told : SessionAnswer)
+    : Type 0 where
   pub answer : told.answer ≡ done.answer
   pub created : told.has_created ≡ done.has_created
   pub kept : sessions ≡ done.sessions

@@ -56,4 +56,5 @@ ReloadsTo before answer old now (Err stop.Memory) = IsHaltedAt before answer old
 -- a call of `uci` ends so, whatever the random word is, where a kernel is asked nothing
 abbrev pub UciEnds : ℕ → List ℕ → List Attr → Parts → Parts → DiskFaults → Result Outcome CallStop → Type 0
 UciEnds now method args before after disks result = (word : ℕ) (kernel : Telled) → Asks [] false kernel
-    → Ends (record { now = now; word = word; object = Uci; method = method; args = args }) before after kernel disks result
+    → Ends (record { now = now; word = word; object = Uci; method = method; args = args }) before after kernel disks
+    result

@@ -1,5 +1,5 @@
-//! Calls of the local objects on the message bus: what `session` and `uci` answer, and one call of them or of an object of the network,
-//! carried out on what it moves.
+//! Calls of the local objects on the message bus: what `session` and `uci` answer, and one call of
+//! them or of an object of the network, carried out on what it moves.
 #![tactic(auto)]
 
 mod call;

@@ -1,4 +1,5 @@
-ghost use Rattle.std.specs.Prelude.{◌≡◌, ◌≢◌, ◌≤◌, ◌<◌, ◌^◌, ◌+◌, codes, Err, IfOk, OnOk, OnErr, IsErr};
+ghost use Rattle.std.specs.Prelude.{◌≡◌, ◌≢◌, ◌≤◌, ◌<◌, ◌^◌, ◌+◌, codes, Err, IfOk, OnOk, OnErr};
+ghost use Rattle.std.specs.Prelude.{IsErr};
 ghost use Rattle.uci_store.specs.Store.{staged_in};
 ghost use Rattle.rpc_objects.specs.SessionCall as spec;
 
@@ -18,7 +19,8 @@ pub struct SessionAnswer {
     pub has_created: bool,
 }
 
-/// Carries a call of the object `session` out. A session that it destroys goes with what it has staged.
+/// Carries a call of the object `session` out. A session that it destroys goes with what it has
+/// staged.
 ///
 /// # Errors
 ///

@@ -1,6 +1,6 @@
 ghost use Rattle.std.specs.Prelude.{◌≡◌, ◌↔◌, Some, Err, IfOk};
-ghost use Rattle.rpc_rules.specs.declared.rpc_error.RpcError.TheVariants.{DiskFailed as RpcDiskFailed};
-ghost use Rattle.rpc_objects.specs.declared.uci_answer.CallStop.TheVariants.{DiskFailed as StopOfDisk};
+ghost use Rattle.rpc_rules.specs.declared.rpc_error.RpcError.TheVariants as call_refusal;
+ghost use Rattle.rpc_objects.specs.declared.uci_answer.CallStop.TheVariants as refusal;
 ghost use Rattle.rpc_objects.specs.UciAnswer as spec;
 
 use crate::local_answer::LocalAnswer;
@@ -32,10 +32,11 @@ pub enum CallStop {
 ///
 /// # Errors
 ///
-/// `DiskFailed` exactly where a disk failed in the call, and `Memory`, in the call or for its answer.
+/// `DiskFailed` exactly where a disk failed in the call, and `Memory`, in the call or for its
+/// answer.
 pub fn answer_uci(alloc: Global, called: Result<Reply, RpcError>) -> Result<UciAnswer, CallStop>
     ensures told { IfOk result (λ answer. spec.uci_told called ≡ Some answer) }
-    ensures disk { (result ≡ Err StopOfDisk) ↔ (called ≡ Err RpcDiskFailed) }
+    ensures disk { (result ≡ Err refusal.DiskFailed) ↔ (called ≡ Err call_refusal.DiskFailed) }
 {
     match called {
         Ok(reply) => Ok(UciAnswer {

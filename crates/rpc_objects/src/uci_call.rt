@@ -8,7 +8,7 @@ ghost use Rattle.uci_store.specs.Stops.{StopLeaves};
 ghost use Rattle.uci_tool.specs.Answers.{IsOpen};
 ghost use Rattle.uci_tool.specs.Folder.{folder_of};
 ghost use Rattle.net_plane.specs.Network.{HasSameKernel};
-ghost use Rattle.rpc_objects.specs.declared.uci_answer.CallStop.TheVariants.{DiskFailed as StopOfDisk};
+ghost use Rattle.rpc_objects.specs.declared.uci_answer.CallStop.TheVariants as refusal;
 ghost use Rattle.rpc_objects.specs.declared.local_object.LocalObject.TheVariants.{Uci as UciObject};
 ghost use Rattle.rpc_objects.specs.Ended.{parts_of};
 ghost use Rattle.rpc_objects.specs.Kept.{StaysOn, DiskRose, faults_of};
@@ -26,7 +26,8 @@ use std::alloc::Global;
 use step_net::reload;
 use uci_store::Store;
 
-/// Carries a call of the object `uci` out. Behind an apply and a rollback the files are loaded anew.
+/// Carries a call of the object `uci` out. Behind an apply and a rollback the files are loaded
+/// anew.
 ///
 /// # Errors
 ///
@@ -82,7 +83,7 @@ fn serve_call<D: Disk, T: Disk>(
         (Leads sessions.old method.now args.now now store.old) }
     ensures sessions { sessions.new ≡ renewed (caller_in args.now) now sessions.old }
     ensures number { sessions.new.next ≡ sessions.old.next }
-    ensures cause { result ≡ Err StopOfDisk → DiskRose
+    ensures cause { result ≡ Err refusal.DiskFailed → DiskRose
         (faults_of (D.view files.old) (D.view files.new) (T.view staged.old) (T.view staged.new)) }
 {
     let called = serve(alloc, sessions, store, files, staged, method, args, now);

@@ -1,5 +1,6 @@
 -- The arguments of the methods of the object `uci`. Of equal names the last counts.
-use Rattle.std.specs.Prelude.{ℕ, ◌+◌, ◌-◌, ◌^◌, ℤ, pos, negsuc, List, [], Option, Some, None, Result, Ok, Err, Bool, true, false, not, ◌&&◌, ◌||◌, is_some, is_none, nat_eq, nat_le, min, codes, if◌then◌else◌}
+use Rattle.std.specs.Prelude.{ℕ, ◌+◌, ◌-◌, ◌^◌, ℤ, pos, negsuc, List, [], Option, Some, None, Result, Ok, Err, Bool}
+use Rattle.std.specs.Prelude.{true, false, not, ◌&&◌, ◌||◌, is_some, is_none, nat_eq, nat_le, min, codes, if◌then◌else◌}
 use Rattle.std.specs.List.{list_all}
 use Rattle.blob_codec.specs.declared.blob.Blob.{Blob}
 use Rattle.blob_codec.specs.declared.blob.Blob.TheOpen.{Blob-F}
@@ -26,7 +27,8 @@ abbrev pub caller_named : Option Blob → Option ℕ → Caller
 caller_named None id = Anyone
 caller_named (Some value) id = session_caller id
 
--- who calls: anyone, where no session is named, or the session of the id; what is no id names none, by a rule of our own
+-- who calls: anyone, where no session is named, or the session of the id; what is no id names none, by a rule of our
+-- own
 abbrev pub caller_in : List Attr → Caller
 caller_in args = caller_named (argument (codes "ubus_rpc_session") args) (id_in args)
 
@@ -105,14 +107,16 @@ values_or_none (Some attrs) = attrs
 
 abbrev pub question_fits : Question → List Attr → Bool
 question_fits Configs args = true
-question_fits Get args = is_optional (codes "section") args && is_optional (codes "option") args && (is_given (codes "section") args || not (is_given (codes "option") args))
+question_fits Get args = is_optional (codes "section") args && is_optional (codes "option") args
+    && (is_given (codes "section") args || not (is_given (codes "option") args))
 question_fits Changes args = is_optional (codes "config") args
 
 abbrev pub edit_fits : Edit → List Attr → Bool
 edit_fits Add args = is_given (codes "type") args && is_optional (codes "name") args && has_values_or_none args
 edit_fits Set args = is_given (codes "section") args && has_values args
 edit_fits Delete args = is_given (codes "section") args && is_optional (codes "option") args
-edit_fits Rename args = is_given (codes "section") args && is_optional (codes "option") args && is_given (codes "name") args
+edit_fits Rename args = is_given (codes "section") args && is_optional (codes "option") args
+    && is_given (codes "name") args
 edit_fits Order args = is_list (needed_array (argument (codes "sections") args))
 
 -- ---- `apply`
@@ -158,4 +162,5 @@ deadline_of (Some flag) (Some seconds) now = Ok (if flag then Some (later now se
 
 -- until when an apply is to wait for a confirm, where it is to
 abbrev pub apply_deadline : List Attr → ℕ → Result (Option ℕ) ℕ
-apply_deadline args now = deadline_of (flag_or_false (argument (codes "rollback") args)) (timeout_or_usual (argument (codes "timeout") args)) now
+apply_deadline args now = deadline_of (flag_or_false (argument (codes "rollback") args))
+    (timeout_or_usual (argument (codes "timeout") args)) now

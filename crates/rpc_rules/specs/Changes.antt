@@ -26,7 +26,8 @@ text_or_none (Some text) = text ∷ []
 
 -- the word, the section, the option where there is one, and the value where there is one
 abbrev pub delta_texts : Delta → List (List ℕ)
-delta_texts delta = word_of delta.change ∷ delta.section ∷ (text_or_none delta.option ++ text_or_none (value_of delta.change))
+delta_texts delta = word_of delta.change ∷ delta.section
+    ∷ (text_or_none delta.option ++ text_or_none (value_of delta.change))
 
 abbrev pub delta_item : Delta → Attr
 delta_item delta = named [] (text_array (delta_texts delta))

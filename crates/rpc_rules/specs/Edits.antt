@@ -1,5 +1,5 @@
--- What each method stages, on what its holder sees of a package (OpenWrt's rpcd). That `add` with a name sets that section, and
--- that an array of `set` is a remove and an add for each item, are rules of our own.
+-- What each method stages, on what its holder sees of a package (OpenWrt's rpcd). That `add` with a name sets that
+-- section, and that an array of `set` is a remove and an add for each item, are rules of our own.
 use Rattle.std.specs.Prelude.{ℕ, ◌+◌, List, [], ◌∷◌, Option, Some, None, Result, Ok, Err, false, codes}
 use Rattle.std.specs.Fmt.{digits}
 use Rattle.blob_codec.specs.declared.blob.Blob.TheVariants.{Str}
@@ -10,7 +10,8 @@ use Rattle.uci_tree.specs.declared.package.Section.{Section}
 use Rattle.uci_tree.specs.declared.package.Package.{Package}
 use Rattle.uci_tree.specs.Anonymous.{anonymous_name}
 use Rattle.uci_delta.specs.declared.delta.Change.{Change}
-use Rattle.uci_delta.specs.declared.delta.Change.TheVariants.{Set as SetTo, Remove, Add as AddOf, Rename as RenameTo, Reorder}
+use Rattle.uci_delta.specs.declared.delta.Change.TheVariants.{Set as SetTo, Remove, Add as AddOf, Rename as RenameTo}
+use Rattle.uci_delta.specs.declared.delta.Change.TheVariants.{Reorder}
 use Rattle.uci_delta.specs.Applied.{made_with}
 use Rattle.rpc_rules.specs.declared.method.Edit.{Edit}
 use Rattle.rpc_rules.specs.declared.method.Edit.TheVariants.{Add, Set, Delete, Rename, Order}
@@ -41,16 +42,19 @@ with_name_told section plan = Ok (record plan { told = name_told section })
 
 abbrev pub added_as : List ℕ → List ℕ → Change → List Attr → Package → Result Plan ℕ
 added_as name section change values tree =
-    and_then (and_then (taken (delta_of name section None change) (start tree)) (values_taken name section values)) (with_name_told section)
+    and_then (and_then (taken (delta_of name section None change) (start tree)) (values_taken name section values))
+    (with_name_told section)
 
 abbrev pub add_of : List ℕ → Option (List ℕ) → Option (List ℕ) → List Attr → Package → Result Plan ℕ
 add_of name None section values tree = Err bad_argument
-add_of name (Some kind) section values tree = added_as name (new_name section kind tree) (new_change section kind) values tree
+add_of name (Some kind) section values tree =
+    added_as name (new_name section kind tree) (new_change section kind) values tree
 
 -- the section, and then its values
 abbrev pub add_planned : List ℕ → List Attr → Package → Result Plan ℕ
 add_planned name args tree =
-    add_of name (needed_text (argument (codes "type") args)) (needed_text (argument (codes "name") args)) (values_or_none (values_argument args)) tree
+    add_of name (needed_text (argument (codes "type") args)) (needed_text (argument (codes "name") args))
+    (values_or_none (values_argument args)) tree
 
 -- ---- `set`
 
@@ -75,7 +79,8 @@ delete_of name (Some section) option tree = taken (delta_of name section option 
 
 -- the section or the option goes
 abbrev pub delete_planned : List ℕ → List Attr → Package → Result Plan ℕ
-delete_planned name args tree = delete_of name (needed_text (argument (codes "section") args)) (needed_text (argument (codes "option") args)) tree
+delete_planned name args tree =
+    delete_of name (needed_text (argument (codes "section") args)) (needed_text (argument (codes "option") args)) tree
 
 -- ---- `rename`
 
@@ -87,7 +92,8 @@ rename_of name (Some section) option (Some new) tree = taken (delta_of name sect
 -- the section or the option gets the name
 abbrev pub rename_planned : List ℕ → List Attr → Package → Result Plan ℕ
 rename_planned name args tree =
-    rename_of name (needed_text (argument (codes "section") args)) (needed_text (argument (codes "option") args)) (needed_text (argument (codes "name") args)) tree
+    rename_of name (needed_text (argument (codes "section") args)) (needed_text (argument (codes "option") args))
+    (needed_text (argument (codes "name") args)) tree
 
 -- ---- `order`
 
@@ -98,7 +104,8 @@ move_taken name place (Some section) plan = taken (delta_of name section None (R
 
 abbrev pub moves_taken : List ℕ → ℕ → List Attr → Plan → Result Plan ℕ
 moves_taken name place [] plan = Ok plan
-moves_taken name place (item ∷ items) plan = and_then (move_taken name place (text_of item.value) plan) (moves_taken name (place + 1) items)
+moves_taken name place (item ∷ items) plan =
+    and_then (move_taken name place (text_of item.value) plan) (moves_taken name (place + 1) items)
 
 abbrev pub order_of : List ℕ → Option (List Attr) → Package → Result Plan ℕ
 order_of name None tree = Err bad_argument

@@ -1,6 +1,7 @@
--- The grants that a call of the object `uci` needs, and which of them its caller has (OpenWrt's rpcd). The four grants of `:apply`,
--- which a waiting apply asks for, are rules of our own.
-use Rattle.std.specs.Prelude.{ℕ, List, [], ◌∷◌, ◌++◌, Option, Some, None, Bool, true, false, ◌||◌, is_none, is_some, nat_eq, codes, map, if◌then◌else◌}
+-- The grants that a call of the object `uci` needs, and which of them its caller has (OpenWrt's rpcd). The four grants
+-- of `:apply`, which a waiting apply asks for, are rules of our own.
+use Rattle.std.specs.Prelude.{ℕ, List, [], ◌∷◌, ◌++◌, Option, Some, None, Bool, true, false, ◌||◌, is_none, is_some}
+use Rattle.std.specs.Prelude.{nat_eq, codes, map, if◌then◌else◌}
 use Rattle.blob_codec.specs.declared.blob.Attr.{Attr}
 use Rattle.rpc_session.specs.declared.grant.Grant.{Grant}
 use Rattle.rpc_session.specs.Grant.{grant_of, same_grant}
@@ -53,14 +54,16 @@ question_needs Configs caller args = []
 question_needs Get caller args = of_session caller (of_package to_read (config_in args))
 question_needs Changes caller args = of_session caller (of_package to_read (config_in args))
 
--- The grants that a call needs, in the order in which they are asked. `staged` are the names of the packages of which the
--- caller has staged something, in byte order; `waiting` is the holder of the apply that waits.
+-- The grants that a call needs, in the order in which they are asked. `staged` are the names of the packages of which
+-- the caller has staged something, in byte order; `waiting` is the holder of the apply that waits.
 abbrev pub needed : Method → Caller → List Attr → List (List ℕ) → Option ℕ → List Grant
 needed (Ask question) caller args staged waiting = question_needs question caller args
 needed (Stage edit) caller args staged waiting = of_session caller (of_package to_write (config_in args))
 needed Revert caller args staged waiting = of_session caller (of_package to_write (config_in args))
-needed Commit caller args staged waiting = of_session caller (of_package to_write (config_in args)) ++ while_waiting waiting (codes "commit")
-needed Apply caller args staged waiting = of_session caller (map to_write staged) ++ while_waiting waiting (codes "apply")
+needed Commit caller args staged waiting = of_session caller (of_package to_write (config_in args))
+    ++ while_waiting waiting (codes "commit")
+needed Apply caller args staged waiting = of_session caller (map to_write staged)
+    ++ while_waiting waiting (codes "apply")
 needed Confirm caller args staged waiting = while_waiting waiting (codes "confirm")
 needed Rollback caller args staged waiting = while_waiting waiting (codes "rollback")
 
@@ -89,7 +92,8 @@ ends_apply grant = same_grant grant (to_end (codes "confirm")) || same_grant gra
 abbrev pub begins_apply : Grant → Bool
 begins_apply grant = same_grant grant (to_end (codes "apply")) || same_grant grant (to_end (codes "commit"))
 
--- Whether a holder has a grant. The four of `:apply` follow from the waiting apply alone, whatever a session was granted.
+-- Whether a holder has a grant. The four of `:apply` follow from the waiting apply alone, whatever a session was
+-- granted.
 abbrev pub permitted : SessionList → ℕ → Option ℕ → ℕ → Grant → Bool
 permitted list holder waiting now grant =
     if ends_apply grant then is_waiting_for waiting holder

@@ -1,5 +1,6 @@
 -- Deltas that a call is to stage, tried one after another on what its holder sees.
-use Rattle.std.specs.Prelude.{ℕ, List, [], ◌∷◌, ◌++◌, Option, Some, None, Result, Ok, Err, Bool, false, is_some, if◌then◌else◌}
+use Rattle.std.specs.Prelude.{ℕ, List, [], ◌∷◌, ◌++◌, Option, Some, None, Result, Ok, Err, Bool, false, is_some}
+use Rattle.std.specs.Prelude.{if◌then◌else◌}
 use Rattle.blob_codec.specs.declared.blob.Blob.{Blob}
 use Rattle.blob_codec.specs.declared.blob.Blob.TheOpen.{Blob-F}
 use Rattle.blob_codec.specs.declared.blob.Blob.TheViews.{out-Blob}
@@ -42,7 +43,8 @@ has_option option (Some section) = is_some (option_of option section.options)
 -- an option that is there goes
 abbrev pub option_gone : List ℕ → List ℕ → List ℕ → Plan → Result Plan ℕ
 option_gone name section option plan =
-    if has_option option (section_of section plan.tree.sections) then taken (delta_of name section (Some option) Remove) plan else Ok plan
+    if has_option option (section_of section plan.tree.sections)
+    then taken (delta_of name section (Some option) Remove) plan else Ok plan
 
 -- an item comes
 abbrev pub item_taken : List ℕ → List ℕ → List ℕ → Option (List ℕ) → Plan → Result Plan ℕ
@@ -56,7 +58,8 @@ items_taken name section option (item ∷ items) plan =
 
 -- an array: the option goes where it is there, and then its items come one by one
 abbrev pub list_taken : List ℕ → List ℕ → List ℕ → List Attr → Plan → Result Plan ℕ
-list_taken name section option items plan = and_then (option_gone name section option plan) (items_taken name section option items)
+list_taken name section option items plan =
+    and_then (option_gone name section option plan) (items_taken name section option items)
 
 -- a text is set, an array makes a list
 abbrev pub value_taken_in : List ℕ → List ℕ → List ℕ → Blob-F Blob Attr → Plan → Result Plan ℕ
@@ -75,4 +78,5 @@ value_taken name section attr plan = value_taken_in name section attr.name (out-
 -- values by option, in their order
 abbrev pub values_taken : List ℕ → List ℕ → List Attr → Plan → Result Plan ℕ
 values_taken name section [] plan = Ok plan
-values_taken name section (attr ∷ attrs) plan = and_then (value_taken name section attr plan) (values_taken name section attrs)
+values_taken name section (attr ∷ attrs) plan =
+    and_then (value_taken name section attr plan) (values_taken name section attrs)

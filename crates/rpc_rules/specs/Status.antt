@@ -1,7 +1,8 @@
 -- Statuses of refused calls (OpenWrt's ubus).
 use Rattle.std.specs.Prelude.{ℕ, ◌≡◌, Result, Ok, Err}
 use Rattle.uci_delta.specs.declared.delta_error.DeltaError.{DeltaError}
-use Rattle.uci_delta.specs.declared.delta_error.DeltaError.TheVariants.{NotFound, Invalid, Duplicate, Memory as DeltaMemory}
+use Rattle.uci_delta.specs.declared.delta_error.DeltaError.TheVariants.{NotFound, Invalid, Duplicate}
+use Rattle.uci_delta.specs.declared.delta_error.DeltaError.TheVariants.{Memory as DeltaMemory}
 use Rattle.rpc_rules.specs.declared.rpc_error.RpcError.{RpcError}
 use Rattle.rpc_rules.specs.declared.rpc_error.RpcError.TheVariants.{Status, Denied, DiskFailed, Memory}
 

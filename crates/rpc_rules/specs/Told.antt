@@ -1,5 +1,6 @@
 -- What is told of packages (OpenWrt's rpcd).
-use Rattle.std.specs.Prelude.{ℕ, ◌+◌, List, [], ◌∷◌, ◌++◌, Option, Some, None, Result, Ok, Err, codes, map, find, bytes_eq}
+use Rattle.std.specs.Prelude.{ℕ, ◌+◌, List, [], ◌∷◌, ◌++◌, Option, Some, None, Result, Ok, Err, codes, map, find}
+use Rattle.std.specs.Prelude.{bytes_eq}
 use Rattle.blob_codec.specs.declared.blob.Blob.{Blob}
 use Rattle.blob_codec.specs.declared.blob.Blob.TheVariants.{Array, Table, Str}
 use Rattle.blob_codec.specs.declared.blob.Attr.{Attr}
@@ -57,7 +58,8 @@ section_values place section =
 -- the sections, each with its place, the first of which has this one
 abbrev pub sections_from : ℕ → List Section → List Attr
 sections_from place [] = []
-sections_from place (section ∷ sections) = named section.name (Table (section_values (Some place) section)) ∷ sections_from (place + 1) sections
+sections_from place (section ∷ sections) = named section.name (Table (section_values (Some place) section))
+    ∷ sections_from (place + 1) sections
 
 -- a package: its sections in byte order of their names
 abbrev pub package_values : Package → List Attr
@@ -83,7 +85,8 @@ part_told (Some section) option tree = section_told option (section_of section t
 
 -- the package, the section or the option that the arguments name
 abbrev pub get_told : List Attr → Package → Result (List Attr) ℕ
-get_told args tree = part_told (needed_text (argument (codes "section") args)) (needed_text (argument (codes "option") args)) tree
+get_told args tree = part_told (needed_text (argument (codes "section") args))
+    (needed_text (argument (codes "option") args)) tree
 
 -- ---- `configs`
 

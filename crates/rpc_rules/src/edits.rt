@@ -16,13 +16,13 @@ use std::alloc::Global;
 use uci_delta::Change;
 use uci_tree::{Package, anonymous_name};
 
-/// What a call is to stage of the package of that name, which its holder sees so. Each change is tried on it; where one is refused
-/// none is to be staged.
+/// What a call is to stage of the package of that name, which its holder sees so. Each change is
+/// tried on it; where one is refused none is to be staged.
 ///
 /// # Errors
 ///
-/// Status 4 where a section or an option that is named is not there. Status 2 where an argument is not of its form, a name, a type
-/// or a value is none, or a new name is there.
+/// Status 4 where a section or an option that is named is not there. Status 2 where an argument is
+/// not of its form, a name, a type or a value is none, or a new name is there.
 pub fn planned(
     alloc: Global,
     edit: Edit,

@@ -11,8 +11,9 @@ use plane_io::{Memory, Text};
 use rpc_session::{Grant, Sessions};
 use std::alloc::Global;
 
-/// The grants that a call needs, in the order in which they are asked. `staged` are the names of the packages of which the caller
-/// has staged something, and `waiting` is the holder of the apply that waits.
+/// The grants that a call needs, in the order in which they are asked. `staged` are the names of
+/// the packages of which the caller has staged something, and `waiting` is the holder of the apply
+/// that waits.
 pub fn needed(
     alloc: Global,
     method: Method,
@@ -51,7 +52,8 @@ fn of_package(
     function: &[u8],
 ) -> Result<Vec<Grant>, Memory>
     ensures { IfOk result (λ grants. grants.items
-        ≡ spec.of_session caller (spec.of_package (spec.to_use function.now) (config_of args.now))) }
+        ≡ spec.of_session caller
+        (spec.of_package (spec.to_use function.now) (config_of args.now))) }
 {
     let mut grants = Vec::new(alloc);
     let Caller::Session(_) = caller else {
@@ -111,8 +113,9 @@ fn to_end(alloc: Global, method: &[u8]) -> Result<Grant, Memory>
 
 /// The first of the grants that the holder does not have.
 ///
-/// While an apply waits its holder has the grants to confirm it and to roll it back, and nobody else has. Nobody has those to apply
-/// and to commit. Every other grant is one of the holder's session.
+/// While an apply waits its holder has the grants to confirm it and to roll it back, and nobody
+/// else has. Nobody has those to apply and to commit. Every other grant is one of the holder's
+/// session.
 pub fn first_missing(
     sessions: &Sessions,
     holder: u128,

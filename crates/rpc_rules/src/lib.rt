@@ -1,6 +1,7 @@
-//! What calls of the object `uci` of the message bus ask for, which grants they need, what they tell of packages and what they
-//! stage, as OpenWrt's rpcd has it but for a few rules of our own, which `specs/` names. All of it is worked out of the arguments
-//! and of what a holder sees of a package.
+//! What calls of the object `uci` of the message bus ask for, which grants they need, what they
+//! tell of packages and what they stage, as OpenWrt's rpcd has it but for a few rules of our own,
+//! which `specs/` names. All of it is worked out of the arguments and of what a holder sees of a
+//! package.
 #![tactic(auto)]
 
 mod arguments;

@@ -125,7 +125,8 @@ fn option_values(alloc: Global, options: &[Opt]) -> Result<Vec<Attr>, Memory>
     Ok(values)
 }
 
-/// A section: whether it is anonymous, its place where it is told, its name, its type, and its options in byte order.
+/// A section: whether it is anonymous, its place where it is told, its name, its type, and its
+/// options in byte order.
 fn section_values(
     alloc: Global,
     place: Option<usize>,

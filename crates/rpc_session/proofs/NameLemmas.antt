@@ -77,7 +77,8 @@ greater_apart a x name greater one other =
     let bad : Equal ≡ Greater = sym tied ∙ self in cc bad
 
 -- a value that is put in is told as if it stood in front
-placed_told : (r : Ordering) (name : List ℕ) (earlier : Option Blob) (a x : Attr) (xs put : List Attr) → byte_order a.name x.name ≡ r → ((e : Option Blob) → argument_or e name put ≡ argument_or (or_told name a e) name xs) → argument_or earlier name (placed r a x xs put) ≡ argument_or (or_told name x (or_told name a earlier)) name xs
+placed_told : (r : Ordering) (name : List ℕ) (earlier : Option Blob) (a x : Attr) (xs put : List Attr) → byte_order a.name x.name ≡ r → ((e : Option Blob) → argument_or e name put ≡ argument_or (or_told name a e) name xs)
+    → argument_or earlier name (placed r a x xs put) ≡ argument_or (or_told name x (or_told name a earlier)) name xs
 placed_told Less name earlier a x xs put is later = refl
 placed_told Equal name earlier a x xs put is later =
     ap (λ (e : Option Blob). argument_or e name xs) (same_name (same_text x.name name) (same_text a.name name) (Some x.value) (Some a.value) earlier (ap (λ (t : List ℕ). same_text t name) (exact_bytes a.name x.name is)))

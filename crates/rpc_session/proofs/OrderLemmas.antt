@@ -96,7 +96,8 @@ values_back (a ∷ others) = ap (λ (z : List Attr). a ∷ z) (values_back other
 abbrev at_name : List ℕ → List ℕ → Bool
 at_name name = is_at (byte_order name)
 
-absent_at : (r : Ordering) (a x : Attr) (xs later : List Attr) (inserted : List (List ℕ × Blob)) (found : Option Blob) → cond (is_at (λ (k : List ℕ). r) x.name) (Some x.value) found ≡ None → (found ≡ None → inserted ≡ named_values later) → match_ordering r ((a.name, a.value) ∷ named_values (x ∷ xs)) ((x.name, a.value) ∷ named_values xs) ((x.name, x.value) ∷ inserted) ≡ named_values (placed r a x xs later)
+absent_at : (r : Ordering) (a x : Attr) (xs later : List Attr) (inserted : List (List ℕ × Blob)) (found : Option Blob) → cond (is_at (λ (k : List ℕ). r) x.name) (Some x.value) found ≡ None → (found ≡ None → inserted ≡ named_values later)
+    → match_ordering r ((a.name, a.value) ∷ named_values (x ∷ xs)) ((x.name, a.value) ∷ named_values xs) ((x.name, x.value) ∷ inserted) ≡ named_values (placed r a x xs later)
 absent_at Less a x xs later inserted found none rest = refl
 absent_at Equal a x xs later inserted found none rest = cc none
 absent_at Greater a x xs later inserted found none rest = ap (λ (z : List (List ℕ × Blob)). (x.name, x.value) ∷ z) (rest none)
@@ -105,7 +106,8 @@ absent : (a : Attr) (xs : List Attr) → lookup (at_name a.name) (named_values x
 absent a [] none = refl
 absent a (x ∷ xs) none = absent_at (byte_order a.name x.name) a x xs (put_in by_name a xs) (insert_entry byte_order (named_values xs) a.name a.value) (lookup (at_name a.name) (named_values xs)) none (absent a xs)
 
-present_at : (r : Ordering) (a x : Attr) (xs later : List Attr) (found : Option Blob) → is_some (cond (is_at (λ (k : List ℕ). r) x.name) (Some x.value) found) ≡ true → (r ≡ Less → found ≡ None) → (is_some found ≡ true → later ≡ xs) → placed r a x xs later ≡ x ∷ xs
+present_at : (r : Ordering) (a x : Attr) (xs later : List Attr) (found : Option Blob) → is_some (cond (is_at (λ (k : List ℕ). r) x.name) (Some x.value) found) ≡ true → (r ≡ Less → found ≡ None) → (is_some found ≡ true → later ≡ xs)
+    → placed r a x xs later ≡ x ∷ xs
 present_at Less a x xs later found some below rest = let bad : false ≡ true = ap is_some (sym (below refl)) ∙ some in cc bad
 present_at Equal a x xs later found some below rest = refl
 present_at Greater a x xs later found some below rest = ap (λ (z : List Attr). x ∷ z) (rest some)
@@ -118,9 +120,11 @@ present a (x ∷ xs) sorted some =
     (present a xs (sorted_tail byte_order x.name (keys_of (named_values xs)) sorted))
 
 -- a value goes to its place among the later ones, or stays out where one of its name is there
-pub put_absent : (a : Attr) (later : List Attr) (old new : BTreeMap (List ℕ) Blob) (there : Bool) → IsByName later old → there ≡ is_some (get byte_order old a.name) → there ≡ false → new.entries ≡ insert_entry byte_order old.entries a.name a.value → IsOrdered byte_order new → IsByName (put_in by_name a later) new
+pub put_absent : (a : Attr) (later : List Attr) (old new : BTreeMap (List ℕ) Blob) (there : Bool) → IsByName later old → there ≡ is_some (get byte_order old a.name) → there ≡ false → new.entries
+    ≡ insert_entry byte_order old.entries a.name a.value → IsOrdered byte_order new → IsByName (put_in by_name a later) new
 put_absent a later old new there is found away made ordered = record {
-  entries = made ∙ (ap (λ (z : List (List ℕ × Blob)). insert_entry byte_order z a.name a.value) is.entries ∙ absent a later (none_of (lookup (at_name a.name) (named_values later)) (ap (λ (z : List (List ℕ × Blob)). is_some (lookup (at_name a.name) z)) (sym is.entries) ∙ sym found ∙ away)));
+  entries = made ∙ (ap (λ (z : List (List ℕ × Blob)). insert_entry byte_order z a.name a.value) is.entries
+      ∙ absent a later (none_of (lookup (at_name a.name) (named_values later)) (ap (λ (z : List (List ℕ × Blob)). is_some (lookup (at_name a.name) z)) (sym is.entries) ∙ sym found ∙ away)));
   ordered = ordered;
 }
   where

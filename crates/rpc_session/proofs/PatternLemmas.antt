@@ -112,7 +112,8 @@ skips pattern text rest left on = same_truth (fits_later (fits pattern) text) (f
 pub star_split : (pattern text tail ending rest : List ℕ) (byte : ℕ) → SoFar pattern text tail ending → tail ≡ byte ∷ rest → byte ≡ star → GoesOn pattern text rest ending
 star_split pattern text tail ending rest byte so_far split is = at_star pattern text rest ending (subst (λ b. SoFar pattern text (b ∷ rest) ending) is (subst (λ t. SoFar pattern text t ending) split so_far))
 
-pub byte_split : (pattern text tail ending rest left : List ℕ) (byte first : ℕ) → SoFar pattern text tail ending → tail ≡ byte ∷ rest → ending ≡ first ∷ left → nat_eq byte star ≡ false → passes byte first ≡ true → SoFar pattern text rest left
+pub byte_split : (pattern text tail ending rest left : List ℕ) (byte first : ℕ) → SoFar pattern text tail ending → tail ≡ byte ∷ rest → ending ≡ first ∷ left → nat_eq byte star ≡ false → passes byte first ≡ true
+    → SoFar pattern text rest left
 byte_split pattern text tail ending rest left byte first so_far split ends other passing =
     goes_on pattern text rest left byte first (subst (λ e. SoFar pattern text (byte ∷ rest) e) ends (subst (λ t. SoFar pattern text t ending) split so_far)) other passing
 

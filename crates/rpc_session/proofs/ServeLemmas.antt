@@ -34,16 +34,19 @@ renewed_by args id now list new same is = is ∙ ap (λ o. spec.renewed_id o now
 pub present_at : (list : SessionList) (sid place : ℕ) → RiseById list.sessions → IsAt list.sessions sid place → spec.Stands list place (spec.present (Some sid) list)
 present_at list sid place rise at = record { in_range = at.in_range; session = ap spec.found_session (here list.sessions rise sid place at) }
 
-pub live_at : (list : SessionList) (place now : ℕ) (found : Result Session SessionError) (session : Session) → spec.Stands list place found → session ≡ get_or list.sessions place nobody → is_live now session ≡ true → spec.Stands list place (spec.live_one now found)
+pub live_at : (list : SessionList) (place now : ℕ) (found : Result Session SessionError) (session : Session) → spec.Stands list place found → session ≡ get_or list.sessions place nobody → is_live now session ≡ true
+    → spec.Stands list place (spec.live_one now found)
 live_at list place now found session stands is live = record {
   in_range = stands.in_range;
   session = ap (spec.live_one now) (stands.session ∙ ap Ok (sym is)) ∙ ap (λ (b : Bool). if b then Ok session else Err NoSession) live ∙ ap Ok is;
 }
 
-pub not_live_at : (list : SessionList) (place now : ℕ) (found : Result Session SessionError) (session : Session) → spec.Stands list place found → session ≡ get_or list.sessions place nobody → is_live now session ≡ false → spec.live_one now found ≡ Err NoSession
+pub not_live_at : (list : SessionList) (place now : ℕ) (found : Result Session SessionError) (session : Session) → spec.Stands list place found → session ≡ get_or list.sessions place nobody → is_live now session ≡ false
+    → spec.live_one now found ≡ Err NoSession
 not_live_at list place now found session stands is gone = ap (spec.live_one now) (stands.session ∙ ap Ok (sym is)) ∙ ap (λ (b : Bool). if b then Ok session else Err NoSession) gone
 
-pub asked : (question : Question) (args : List Attr) (now : ℕ) (found : Result Session SessionError) (session : Session) (result : Result (List Attr) SessionError) (list : SessionList) → found ≡ Ok session → result ≡ spec.told question args now session → spec.IsDone (spec.ask_done question args now found list) result list
+pub asked : (question : Question) (args : List Attr) (now : ℕ) (found : Result Session SessionError) (session : Session) (result : Result (List Attr) SessionError) (list : SessionList) → found ≡ Ok session → result
+    ≡ spec.told question args now session → spec.IsDone (spec.ask_done question args now found list) result list
 asked question args now found session result list is told = subst (λ f. spec.IsDone (spec.ask_done question args now f list) result list) (sym is) (record { answered = told; kept = refl })
 
 pub told_nothing : (due : Result SessionList SessionError) (r : Result (Unit {0}) SessionError) (old new : SessionList) → Does due r old new → IsOk r → spec.IsDone (spec.nothing_told due old) (Ok []) new
@@ -62,7 +65,8 @@ pub refused_new : (due : Result SessionList SessionError) (told : List Attr) (er
 refused_new (Ok made) told error old new done = absurd (let n : false ≡ true = done.0 in cc)
 refused_new (Err other) told error old new done = record { answered = let n = done.0 in cc; kept = done.1 }
 
-pub served : (method : List ℕ) (args : List Attr) (now word : ℕ) (list left new : SessionList) (found : Option Method) (result : Result (List Attr) SessionError) → method_of method ≡ found → left ≡ spec.renewed args now list → spec.IsDone (spec.method_done found args now word left) result new → spec.IsDone (spec.session_done method args now word list) result new
+pub served : (method : List ℕ) (args : List Attr) (now word : ℕ) (list left new : SessionList) (found : Option Method) (result : Result (List Attr) SessionError) → method_of method ≡ found → left ≡ spec.renewed args now list
+    → spec.IsDone (spec.method_done found args now word left) result new → spec.IsDone (spec.session_done method args now word list) result new
 served method args now word list left new found result is same done =
     subst (λ l. spec.IsDone (spec.method_done (method_of method) args now word l) result new) same
     (subst (λ f. spec.IsDone (spec.method_done f args now word left) result new) (sym is) done)
@@ -72,7 +76,8 @@ module _ (change : Change) (args : List Attr) (list : SessionList) (place : ℕ)
   altered_list : RiseById list.sessions → spec.Stands list place found → session ≡ get_or list.sessions place nobody → made.id ≡ session.id → changed made.id (λ old. made) list.sessions ≡ set list.sessions place made
   altered_list rise stands is same = changed_here list.sessions rise made.id place (λ old. made) (record { in_range = stands.in_range; has_id = ap (λ (s : Session). s.id) (sym is) ∙ sym same })
 
-  pub altered_at : RiseById list.sessions → spec.Stands list place found → session ≡ get_or list.sessions place nobody → made.id ≡ session.id → spec.altered change args session ≡ Ok made → spec.IsDone (spec.alter_done change args found list) (Ok []) (record list { sessions = set list.sessions place made })
+  pub altered_at : RiseById list.sessions → spec.Stands list place found → session ≡ get_or list.sessions place nobody → made.id ≡ session.id → spec.altered change args session ≡ Ok made
+      → spec.IsDone (spec.alter_done change args found list) (Ok []) (record list { sessions = set list.sessions place made })
   altered_at rise stands is same due =
       subst (λ f. spec.IsDone (spec.alter_done change args f list) (Ok []) (record list { sessions = set list.sessions place made })) (sym (stands.session ∙ ap Ok (sym is)))
       (subst (λ d. spec.IsDone (spec.nothing_told (spec.put list d) list) (Ok []) (record list { sessions = set list.sessions place made })) (sym due)

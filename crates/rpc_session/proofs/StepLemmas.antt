@@ -37,7 +37,8 @@ destroyed_here list sid place rise other at =
 pub change_absent : (list : SessionList) (sid : ℕ) (f : Session → Session) → session_of sid list.sessions ≡ None → where_present (session_of sid list.sessions) (record list { sessions = changed sid f list.sessions }) ≡ Err NoSession
 change_absent list sid f none = ap (λ found. where_present found (record list { sessions = changed sid f list.sessions })) none
 
-pub change_here : (list : SessionList) (sid place : ℕ) (f : Session → Session) → RiseById list.sessions → IsAt list.sessions sid place → where_present (session_of sid list.sessions) (record list { sessions = changed sid f list.sessions }) ≡ Ok (record list { sessions = set list.sessions place (f (get_or list.sessions place nobody)) })
+pub change_here : (list : SessionList) (sid place : ℕ) (f : Session → Session) → RiseById list.sessions → IsAt list.sessions sid place → where_present (session_of sid list.sessions) (record list { sessions = changed sid f list.sessions })
+    ≡ Ok (record list { sessions = set list.sessions place (f (get_or list.sessions place nobody)) })
 change_here list sid place f rise at =
     ap (λ found. where_present found (record list { sessions = changed sid f list.sessions })) (here list.sessions rise sid place at)
     ∙ ap (λ made. Ok (record list { sessions = made })) (changed_here list.sessions rise sid place f at)
@@ -50,7 +51,8 @@ used_expired list sid now place rise at gone =
     ap (λ found. where_present (only_live now found) (record list { sessions = changed sid (used_at now) list.sessions })) (here list.sessions rise sid place at)
     ∙ ap (λ b. where_present (if b then Some (get_or list.sessions place nobody) else None) (record list { sessions = changed sid (used_at now) list.sessions })) gone
 
-pub used_here : (list : SessionList) (sid now place : ℕ) → RiseById list.sessions → IsAt list.sessions sid place → is_live now (get_or list.sessions place nobody) ≡ true → used sid now list ≡ Ok (record list { sessions = set list.sessions place (used_at now (get_or list.sessions place nobody)) })
+pub used_here : (list : SessionList) (sid now place : ℕ) → RiseById list.sessions → IsAt list.sessions sid place → is_live now (get_or list.sessions place nobody) ≡ true → used sid now list
+    ≡ Ok (record list { sessions = set list.sessions place (used_at now (get_or list.sessions place nobody)) })
 used_here list sid now place rise at live =
     ap (λ found. where_present (only_live now found) (record list { sessions = changed sid (used_at now) list.sessions })) (here list.sessions rise sid place at)
     ∙ ap (λ b. where_present (if b then Some (get_or list.sessions place nobody) else None) (record list { sessions = changed sid (used_at now) list.sessions })) live
@@ -64,26 +66,37 @@ denial_here list sid now place wanted rise at = ap (λ found. denial_of now want
 
 -- the session that a binary search found, read at its place
 module _ (list : SessionList) (sid now place : ℕ) where
-  pub not_live : (wanted : Grant) (session : Session) → RiseById list.sessions → IsAt list.sessions sid place → session ≡ get_or list.sessions place session → is_live now session ≡ false → IsDenialOf {A = Unit {0}} (denial sid wanted now list) (Err NotLive)
-  not_live wanted session rise at read gone = is_denial _ _ (denial_here list sid now place wanted rise at ∙ ap (λ s. denial_of now wanted (Some s)) (sym (read_at list.sessions place session at.in_range read)) ∙ ap (λ b. if not b then Some NotLive else if may wanted session then None else Some Missing) gone)
+  pub not_live : (wanted : Grant) (session : Session) → RiseById list.sessions → IsAt list.sessions sid place → session ≡ get_or list.sessions place session → is_live now session ≡ false
+      → IsDenialOf {A = Unit {0}} (denial sid wanted now list) (Err NotLive)
+  not_live wanted session rise at read gone = is_denial _ _ (denial_here list sid now place wanted rise at ∙ ap (λ s. denial_of now wanted (Some s)) (sym (read_at list.sessions place session at.in_range read))
+      ∙ ap (λ b. if not b then Some NotLive else if may wanted session then None else Some Missing) gone)
 
-  pub missing : (wanted : Grant) (session : Session) → RiseById list.sessions → IsAt list.sessions sid place → session ≡ get_or list.sessions place session → is_live now session ≡ true → may wanted session ≡ false → IsDenialOf {A = Unit {0}} (denial sid wanted now list) (Err Missing)
-  missing wanted session rise at read live none = is_denial _ _ (denial_here list sid now place wanted rise at ∙ ap (λ s. denial_of now wanted (Some s)) (sym (read_at list.sessions place session at.in_range read)) ∙ ap (λ b. if not b then Some NotLive else if may wanted session then None else Some Missing) live ∙ ap (λ b. if b then None else Some Missing) none)
+  pub missing : (wanted : Grant) (session : Session) → RiseById list.sessions → IsAt list.sessions sid place → session ≡ get_or list.sessions place session → is_live now session ≡ true → may wanted session ≡ false
+      → IsDenialOf {A = Unit {0}} (denial sid wanted now list) (Err Missing)
+  missing wanted session rise at read live none = is_denial _ _
+      (denial_here list sid now place wanted rise at ∙ ap (λ s. denial_of now wanted (Some s)) (sym (read_at list.sessions place session at.in_range read))
+      ∙ ap (λ b. if not b then Some NotLive else if may wanted session then None else Some Missing) live ∙ ap (λ b. if b then None else Some Missing) none)
 
-  pub permitted : (wanted : Grant) (session : Session) → RiseById list.sessions → IsAt list.sessions sid place → session ≡ get_or list.sessions place session → is_live now session ≡ true → may wanted session ≡ true → IsDenialOf {A = Unit {0}} (denial sid wanted now list) (Ok tt)
-  permitted wanted session rise at read live some = subst (λ d. IsDenialOf {A = Unit {0}} d (Ok tt)) (sym (denial_here list sid now place wanted rise at ∙ ap (λ s. denial_of now wanted (Some s)) (sym (read_at list.sessions place session at.in_range read)) ∙ ap (λ b. if not b then Some NotLive else if may wanted session then None else Some Missing) live ∙ ap (λ b. if b then None else Some Missing) some)) refl
+  pub permitted : (wanted : Grant) (session : Session) → RiseById list.sessions → IsAt list.sessions sid place → session ≡ get_or list.sessions place session → is_live now session ≡ true → may wanted session ≡ true
+      → IsDenialOf {A = Unit {0}} (denial sid wanted now list) (Ok tt)
+  permitted wanted session rise at read live some = subst (λ d. IsDenialOf {A = Unit {0}} d (Ok tt))
+      (sym (denial_here list sid now place wanted rise at ∙ ap (λ s. denial_of now wanted (Some s)) (sym (read_at list.sessions place session at.in_range read))
+      ∙ ap (λ b. if not b then Some NotLive else if may wanted session then None else Some Missing) live ∙ ap (λ b. if b then None else Some Missing) some)) refl
 
-  pub used_late : (session : Session) → RiseById list.sessions → IsAt list.sessions sid place → session ≡ get_or list.sessions place session → is_live now session ≡ false → Does {A = Unit {0}} (used sid now list) (Err NoSession) list (record list { sessions = set list.sessions place session })
+  pub used_late : (session : Session) → RiseById list.sessions → IsAt list.sessions sid place → session ≡ get_or list.sessions place session → is_live now session ≡ false
+      → Does {A = Unit {0}} (used sid now list) (Err NoSession) list (record list { sessions = set list.sessions place session })
   used_late session rise at read gone =
       let same : record list { sessions = set list.sessions place session } ≡ list = ap (λ l. record list { sessions = l }) (ap (set list.sessions place) read ∙ set-get_or list.sessions place session) in
       does_err _ _ list _ NoSession (used_expired list sid now place rise at (ap (is_live now) (sym (read_at list.sessions place session at.in_range read)) ∙ gone)) refl same
 
-  pub used_made : (session : Session) → RiseById list.sessions → IsAt list.sessions sid place → session ≡ get_or list.sessions place session → is_live now session ≡ true → Does {A = Unit {0}} (used sid now list) (Ok tt) list (record list { sessions = set list.sessions place (used_at now session) })
+  pub used_made : (session : Session) → RiseById list.sessions → IsAt list.sessions sid place → session ≡ get_or list.sessions place session → is_live now session ≡ true
+      → Does {A = Unit {0}} (used sid now list) (Ok tt) list (record list { sessions = set list.sessions place (used_at now session) })
   used_made session rise at read live =
       let is = read_at list.sessions place session at.in_range read in
       does_ok _ _ list _ (used_here list sid now place rise at (ap (is_live now) (sym is) ∙ live) ∙ ap (λ s. Ok (record list { sessions = set list.sessions place (used_at now s) })) (sym is)) refl
 
-  pub made_at : (f : Session → Session) (session made : Session) → RiseById list.sessions → IsAt list.sessions sid place → session ≡ get_or list.sessions place session → made ≡ f session → Does {A = Unit {0}} (where_present (session_of sid list.sessions) (record list { sessions = changed sid f list.sessions })) (Ok tt) list (record list { sessions = set list.sessions place made })
+  pub made_at : (f : Session → Session) (session made : Session) → RiseById list.sessions → IsAt list.sessions sid place → session ≡ get_or list.sessions place session → made ≡ f session
+      → Does {A = Unit {0}} (where_present (session_of sid list.sessions) (record list { sessions = changed sid f list.sessions })) (Ok tt) list (record list { sessions = set list.sessions place made })
   made_at f session made rise at read is_made =
       does_ok _ _ list _ (change_here list sid place f rise at ∙ ap (λ s. Ok (record list { sessions = set list.sessions place s })) (ap f (sym (read_at list.sessions place session at.in_range read)) ∙ sym is_made)) refl
 

@@ -15,11 +15,13 @@ grant_of scope object function = record { scope = scope; object = object; functi
 
 -- the grants have the same texts
 abbrev pub same_grant : Grant → Grant → Bool
-same_grant one other = same_text one.scope other.scope && same_text one.object other.object && same_text one.function other.function
+same_grant one other = same_text one.scope other.scope && same_text one.object other.object
+    && same_text one.function other.function
 
 -- the grant has the scope that is wanted, and its patterns fit the object and the function
 abbrev pub permits : Grant → Grant → Bool
-permits grant wanted = same_text grant.scope wanted.scope && fits grant.object wanted.object && fits grant.function wanted.function
+permits grant wanted = same_text grant.scope wanted.scope && fits grant.object wanted.object
+    && fits grant.function wanted.function
 
 -- the grant is one of these
 abbrev pub holds : List Grant → Grant → Bool

@@ -1,5 +1,6 @@
 -- What a call of the object `session` answers, and the sessions that it leaves (OpenWrt's rpcd).
-use Rattle.std.specs.Prelude.{ℕ, ◌≡◌, ◌<◌, pos, length, slice_index_or, List, [], ◌∷◌, Option, Some, None, Result, Ok, Err, Bool, codes, not, filter, if◌then◌else◌}
+use Rattle.std.specs.Prelude.{ℕ, ◌≡◌, ◌<◌, pos, length, slice_index_or, List, [], ◌∷◌, Option, Some, None, Result, Ok}
+use Rattle.std.specs.Prelude.{Err, Bool, codes, not, filter, if◌then◌else◌}
 use Rattle.blob_codec.specs.declared.blob.Blob.{Blob}
 use Rattle.blob_codec.specs.declared.blob.Blob.TheVariants.{Table, I8}
 use Rattle.blob_codec.specs.declared.blob.Attr.{Attr}
@@ -16,7 +17,8 @@ use Rattle.rpc_session.specs.Grant.{same_text}
 use Rattle.rpc_session.specs.Session.{new_session, is_live, may}
 use Rattle.rpc_session.specs.SessionList.{SessionList, nobody}
 use Rattle.rpc_session.specs.Sessions.{session_of, changed, id_of, created, destroyed, used}
-use Rattle.rpc_session.specs.Arguments.{argument, needed_text, needed_array, needed_table, array_of, scope_in, timeout_in, id_in}
+use Rattle.rpc_session.specs.Arguments.{argument, needed_text, needed_array, needed_table, array_of, scope_in}
+use Rattle.rpc_session.specs.Arguments.{timeout_in, id_in}
 use Rattle.rpc_session.specs.Objects.{are_pairs, is_told, with_pairs}
 use Rattle.rpc_session.specs.Values.{with_values, are_keys, asked_values, other_values}
 use Rattle.rpc_session.specs.Description.{named, description}
@@ -84,11 +86,13 @@ access_told None object function session = Err Argument
 access_told (Some scope) None function session = Err Argument
 access_told (Some scope) (Some object) None session = Err Argument
 access_told (Some scope) (Some object) (Some function) session =
-    Ok (named (codes "access") (truth (may (record { scope = scope; object = object; function = function }) session)) ∷ [])
+    Ok (named (codes "access") (truth (may (record { scope = scope; object = object; function = function }) session))
+    ∷ [])
 
 abbrev pub access : List Attr → Session → Result (List Attr) SessionError
 access args session =
-    access_told (scope_in args) (needed_text (argument (codes "object") args)) (needed_text (argument (codes "function") args)) session
+    access_told (scope_in args) (needed_text (argument (codes "object") args))
+    (needed_text (argument (codes "function") args)) session
 
 -- `get` tells the values that are asked for
 abbrev pub values_told : Option Blob → Session → Result (List Attr) SessionError
@@ -125,11 +129,13 @@ grant_by args session = grant_altered (scope_in args) (needed_array (argument (c
 
 -- the session without the grants of a scope
 abbrev pub without_scope : List ℕ → Session → Session
-without_scope scope session = record session { grants = filter (λ grant. not (same_text grant.scope scope)) session.grants }
+without_scope scope session = record session
+    { grants = filter (λ grant. not (same_text grant.scope scope)) session.grants }
 
 -- the session without the grants of a scope and pairs
 abbrev pub without_pairs : List ℕ → List Attr → Session → Session
-without_pairs scope items session = record session { grants = filter (λ grant. not (is_told scope items grant)) session.grants }
+without_pairs scope items session =
+    record session { grants = filter (λ grant. not (is_told scope items grant)) session.grants }
 
 -- `revoke` with its objects
 abbrev pub granted_less : List ℕ → Option (List Attr) → Session → Result Session SessionError

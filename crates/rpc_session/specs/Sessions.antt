@@ -1,5 +1,6 @@
 -- All sessions, and what each call makes of them (OpenWrt's rpcd).
-use Rattle.std.specs.Prelude.{ℕ, ◌≡◌, ◌+◌, ◌*◌, ◌^◌, List, [], ◌∷◌, ◌++◌, Option, Some, None, Result, Ok, Err, IsOk, codes, length, nat_eq, nat_le, not, if◌then◌else◌}
+use Rattle.std.specs.Prelude.{ℕ, ◌≡◌, ◌+◌, ◌*◌, ◌^◌, List, [], ◌∷◌, ◌++◌, Option, Some, None, Result, Ok, Err, IsOk}
+use Rattle.std.specs.Prelude.{codes, length, nat_eq, nat_le, not, if◌then◌else◌}
 use Rattle.rpc_session.specs.declared.grant.Grant.{Grant}
 use Rattle.rpc_session.specs.declared.session.Session.{Session}
 use Rattle.rpc_session.specs.declared.denied.Denied.{Denied}
@@ -23,7 +24,8 @@ only_live now (Some session) = if is_live now session then Some session else Non
 -- the sessions, that of an id changed
 abbrev pub changed : ℕ → (Session → Session) → List Session → List Session
 changed id change [] = []
-changed id change (session ∷ others) = if nat_eq session.id id then change session ∷ others else session ∷ changed id change others
+changed id change (session ∷ others) = if nat_eq session.id id then change session ∷ others else session
+    ∷ changed id change others
 
 -- the sessions without that of an id
 abbrev pub without : ℕ → List Session → List Session
@@ -45,7 +47,14 @@ default_grant function = record { scope = codes "ubus"; object = codes "session"
 
 -- the default session, which never expires: anyone may log in, and ask whether a session may do something
 abbrev pub default_session : Session
-default_session = record { id = 0; timeout = 0; last_use = 0; values = []; grants = default_grant (codes "access") ∷ default_grant (codes "login") ∷ [] }
+default_session = record {
+  id = 0;
+  timeout = 0;
+  last_use = 0;
+  values = [];
+  grants = default_grant (codes "access")
+      ∷ default_grant (codes "login") ∷ [];
+}
 
 -- the sessions at the start: the default one
 abbrev pub start : SessionList
@@ -55,7 +64,11 @@ start = record { sessions = default_session ∷ []; next = 1 }
 abbrev pub created : ℕ → ℕ → ℕ → SessionList → Result SessionList SessionError
 created timeout now word list =
     if nat_le MOST_SESSIONS (length list.sessions) then Err Full
-    else Ok (record { sessions = list.sessions ++ new_session (id_of list.next word) timeout now ∷ []; next = list.next + 1 })
+    else Ok (record {
+      sessions = list.sessions ++ new_session (id_of list.next word) timeout now ∷ [];
+      next = list.next
+          + 1;
+    })
 
 -- what is made of the sessions where one of them has the id, which may have expired
 abbrev pub where_present : Option Session → SessionList → Result SessionList SessionError
@@ -70,20 +83,24 @@ destroyed id list =
 
 -- the list with a grant more
 abbrev pub granted : ℕ → Grant → SessionList → Result SessionList SessionError
-granted id grant list = where_present (session_of id list.sessions) (record list { sessions = changed id (with_grant grant) list.sessions })
+granted id grant list = where_present (session_of id list.sessions)
+    (record list { sessions = changed id (with_grant grant) list.sessions })
 
 -- the list with a grant less
 abbrev pub revoked : ℕ → Grant → SessionList → Result SessionList SessionError
-revoked id grant list = where_present (session_of id list.sessions) (record list { sessions = changed id (without_grant grant) list.sessions })
+revoked id grant list = where_present (session_of id list.sessions)
+    (record list { sessions = changed id (without_grant grant) list.sessions })
 
 -- the list with a live session used
 abbrev pub used : ℕ → ℕ → SessionList → Result SessionList SessionError
-used id now list = where_present (only_live now (session_of id list.sessions)) (record list { sessions = changed id (used_at now) list.sessions })
+used id now list = where_present (only_live now (session_of id list.sessions))
+    (record list { sessions = changed id (used_at now) list.sessions })
 
 -- whether a session may do what is wanted, or why not
 abbrev pub denial_of : ℕ → Grant → Option Session → Option Denied
 denial_of now wanted None = Some NotLive
-denial_of now wanted (Some session) = if not (is_live now session) then Some NotLive else if may wanted session then None else Some Missing
+denial_of now wanted (Some session) = if not (is_live now session) then Some NotLive else if may wanted session
+    then None else Some Missing
 
 -- the denial of what is wanted by an id, or none
 abbrev pub denial : ℕ → Grant → ℕ → SessionList → Option Denied

@@ -12,7 +12,8 @@ use sqlite_items::Items;
 use std::alloc::Global;
 use std::collections::BTreeSet;
 
-/// What `create` and `list` tell of a session: its grants, its values, the seconds that are left, its timeout and its id.
+/// What `create` and `list` tell of a session: its grants, its values, the seconds that are left,
+/// its timeout and its id.
 pub(crate) fn describe(alloc: Global, session: &Session, now: u64) -> Result<Items<Attr>, Memory>
     ensures { IfOk result (λ told. told ≡ spec.description now session.now) }
 {

@@ -5,7 +5,8 @@ use crate::fits;
 use plane_io::{Memory, Text};
 use std::alloc::Global;
 
-/// What a session may do: call this function of this object, in a scope. The object and the function are patterns.
+/// What a session may do: call this function of this object, in a scope. The object and the
+/// function are patterns.
 #[derive(Debug, Drop)]
 pub struct Grant {
     pub scope: Text,

@@ -1,4 +1,5 @@
-//! Who may do what on the message bus, until when: sessions that expire, with grants by patterns, as OpenWrt's rpcd has them.
+//! Who may do what on the message bus, until when: sessions that expire, with grants by patterns,
+//! as OpenWrt's rpcd has them.
 #![tactic(auto)]
 
 mod altering;

@@ -10,8 +10,8 @@ enum Front<'a> {
     Star { rest: &'a [u8], left: &'a [u8] },
 }
 
-/// Whether the pattern fits the text: `*` stands for any bytes, perhaps none, and `?` for one. It takes no memory, and at most
-/// as many steps as the pattern times the text has bytes.
+/// Whether the pattern fits the text: `*` stands for any bytes, perhaps none, and `?` for one. It
+/// takes no memory, and at most as many steps as the pattern times the text has bytes.
 pub fn fits(pattern: &[u8], text: &[u8]) -> bool
     ensures { result ≡ words.fits pattern.now text.now }
 {
@@ -22,8 +22,8 @@ pub fn fits(pattern: &[u8], text: &[u8]) -> bool
     }
 }
 
-/// Whether the pattern fits some end of the text. Behind each `*` the first place at which the pattern goes on is enough, since
-/// the next `*` may stand for more bytes.
+/// Whether the pattern fits some end of the text. Behind each `*` the first place at which the
+/// pattern goes on is enough, since the next `*` may stand for more bytes.
 fn fits_later(pattern: &[u8], text: &[u8]) -> bool
     ensures { result ≡ words.fits_later (words.fits pattern.now) text.now }
 {

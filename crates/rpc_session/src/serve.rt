@@ -1,4 +1,5 @@
-ghost use Rattle.std.specs.Prelude.{◌≡◌, ◌≢◌, ◌<◌, ◌≤◌, ◌+◌, ◌^◌, Ok, Err, IfOk, IfErr, codes, length, slice_index_or};
+ghost use Rattle.std.specs.Prelude.{◌≡◌, ◌≢◌, ◌<◌, ◌≤◌, ◌+◌, ◌^◌, Ok, Err, IfOk, IfErr, codes};
+ghost use Rattle.std.specs.Prelude.{length, slice_index_or};
 ghost use Rattle.rpc_session.specs.Arguments.{id_in};
 ghost use Rattle.rpc_session.specs.SessionList.{nobody};
 ghost use Rattle.rpc_session.specs.Serve as spec;
@@ -14,15 +15,18 @@ use sqlite_items::Items;
 impl Sessions {
     /// Carries out a call of the object `session`, and gives its answer.
     ///
-    /// The methods are `create`, `list`, `grant`, `revoke`, `access`, `set`, `get`, `unset` and `destroy`. A live session that the
-    /// arguments name is renewed, whatever the method is and whether it is refused.
+    /// The methods are `create`, `list`, `grant`, `revoke`, `access`, `set`, `get`, `unset` and
+    /// `destroy`. A live session that the arguments name is renewed, whatever the method is and
+    /// whether it is refused.
     ///
     /// # Errors
     ///
-    /// `NoMethod` where there is no such method. `Argument` where an argument is missing or of another form, as an id that is
-    /// not 32 hexadecimal digits. `NoSession` where no live session has the id; `grant`, `revoke` and `destroy` look at presence
-    /// alone. `Full` where there are 1,024 sessions. `DefaultSession` where the default session would be destroyed. `Memory`
-    /// where there was not enough memory. A call that is refused renews the session, and does no more.
+    /// `NoMethod` where there is no such method. `Argument` where an argument is missing or of
+    /// another form, as an id that is not 32 hexadecimal digits. `NoSession` where no live session
+    /// has the id; `grant`, `revoke` and `destroy` look at presence alone. `Full` where there are
+    /// 1,024 sessions. `DefaultSession` where the default session would be destroyed. `Memory`
+    /// where there was not enough memory. A call that is refused renews the session, and does no
+    /// more.
     pub fn serve(
         &mut self,
         method: &[u8],
@@ -132,7 +136,8 @@ impl Sessions {
 
     /// The place of the session of an id.
     fn present(&self, sid: Option<u128>) -> Result<usize, SessionError>
-        ensures found { IfOk result (λ place. spec.Stands self.now place (spec.present sid self.now)) }
+        ensures found { IfOk result
+            (λ place. spec.Stands self.now place (spec.present sid self.now)) }
         ensures refused { IfErr result (λ error. spec.present sid self.now ≡ Err error) }
     {
         let Some(sid) = sid else {

@@ -1,6 +1,6 @@
 ghost use Rattle.std.specs.Prelude.{◌≡◌};
 ghost use Rattle.rpc_session.specs.SessionError.{number_of};
-ghost use Rattle.rpc_session.specs.declared.session_error.SessionError.TheVariants.{Memory as NoMemory};
+ghost use Rattle.rpc_session.specs.declared.session_error.SessionError.TheVariants as refusal;
 
 use plane_io::Memory;
 use std::alloc::{AllocError, AllocFailed};
@@ -30,8 +30,8 @@ pub enum SessionError {
 }
 
 impl SessionError {
-    /// The number of the kind of error: 70 for `NoSession`, 72 for `Full`, 73 for `Argument`, 74 for `NoMethod`,
-    /// 75 for `DefaultSession`, 8 for `Memory`.
+    /// The number of the kind of error: 70 for `NoSession`, 72 for `Full`, 73 for `Argument`, 74
+    /// for `NoMethod`, 75 for `DefaultSession`, 8 for `Memory`.
     pub fn number(&self) -> u8
         ensures { result ≡ number_of self.now }
     {
@@ -47,7 +47,7 @@ impl SessionError {
 }
 
 impl From<Memory> for SessionError {
-    ghost from_gives = { λ _ e. e ≡ NoMemory };
+    ghost from_gives = { λ _ e. e ≡ refusal.Memory };
 
     fn from(_error: Memory) -> SessionError {
         SessionError::Memory
@@ -55,7 +55,7 @@ impl From<Memory> for SessionError {
 }
 
 impl From<AllocError> for SessionError {
-    ghost from_gives = { λ _ e. e ≡ NoMemory };
+    ghost from_gives = { λ _ e. e ≡ refusal.Memory };
 
     fn from(_error: AllocError) -> SessionError {
         SessionError::Memory
@@ -63,7 +63,7 @@ impl From<AllocError> for SessionError {
 }
 
 impl<T: Drop> From<AllocFailed<T>> for SessionError {
-    ghost from_gives = { λ _ e. e ≡ NoMemory };
+    ghost from_gives = { λ _ e. e ≡ refusal.Memory };
 
     fn from(_error: AllocFailed<T>) -> SessionError {
         SessionError::Memory

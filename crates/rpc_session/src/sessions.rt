@@ -12,7 +12,8 @@ pub const MOST_SESSIONS: usize = 1024;
 
 /// The sessions. The default one has the id 0, and is always there.
 ///
-/// The others have as id their number, from 1 on, times 2^64, and a random word. A session is found by a binary search.
+/// The others have as id their number, from 1 on, times 2^64, and a random word. A session is found
+/// by a binary search.
 #[derive(Drop)]
 pub struct Sessions {
     pub(crate) rows: Vec<Session>,
@@ -53,11 +54,13 @@ impl Sessions {
         Ok(Sessions { rows, next: 1 })
     }
 
-    /// Makes a session, used now, without grants and data, and gives its id. A timeout of 0 is none.
+    /// Makes a session, used now, without grants and data, and gives its id. A timeout of 0 is
+    /// none.
     ///
     /// # Errors
     ///
-    /// `Full` where there are 1,024 sessions, `Memory` where there was not enough memory. The sessions stay as they were.
+    /// `Full` where there are 1,024 sessions, `Memory` where there was not enough memory. The
+    /// sessions stay as they were.
     pub fn create(&mut self, timeout: u32, now: u64, word: u64) -> Result<u128, SessionError>
         requires { self.old.next < 2 ^ 63 }
         ensures id { IfOk result (λ id. id ≡ spec.id_of self.old.next word) }
@@ -94,7 +97,8 @@ impl Sessions {
     ///
     /// # Errors
     ///
-    /// `DefaultSession` for the id 0, and `NoSession` where there is no such session. The sessions stay as they were.
+    /// `DefaultSession` for the id 0, and `NoSession` where there is no such session. The sessions
+    /// stay as they were.
     pub fn destroy(&mut self, sid: u128) -> Result<(), SessionError>
         ensures done { spec.Does (spec.destroyed sid self.old) result self.old self.new }
         ensures number { self.new.next ≡ self.old.next }
@@ -113,7 +117,8 @@ impl Sessions {
     ///
     /// # Errors
     ///
-    /// `NoSession` where there is no such session, `Memory` where there was not enough memory. The sessions stay as they were.
+    /// `NoSession` where there is no such session, `Memory` where there was not enough memory. The
+    /// sessions stay as they were.
     pub fn grant(&mut self, sid: u128, grant: &Grant) -> Result<(), SessionError>
         ensures made { result ≢ Err SessionError.Memory →
             spec.Does (spec.granted sid grant.now self.old) result self.old self.new }
@@ -148,7 +153,8 @@ impl Sessions {
     ///
     /// # Errors
     ///
-    /// `NoSession` where no live session has the id, and `Missing` where none of its grants permits it.
+    /// `NoSession` where no live session has the id, and `Missing` where none of its grants permits
+    /// it.
     pub fn allowed(&self, sid: u128, wanted: &Grant, now: u64) -> Result<(), Denied>
         ensures { spec.IsDenialOf (spec.denial sid wanted.now now self.now) result }
     {

@@ -39,7 +39,8 @@ use Rattle.rpc_uci.specs.declared.reply.Reply.{Reply}
 use Rattle.rpc_uci.specs.Call.{Call, call_of, missing}
 use Rattle.rpc_uci.specs.Sight.{Sees}
 use Rattle.rpc_uci.specs.Outcome.{SeesNamed, ComesOf, planned_of, AskComesTo, EditComesTo}
-use Rattle.rpc_uci.specs.Done.{quiet, reloading, IsRefusal, IsRefused, AskAnswers, EditDone, WithConfig, WithDeadline, RevertDone, CommitIsRefused, CommitDone, ApplyIsRefused, ApplyDone, EndDone, MethodDone, GrantedDone, AdmittedDone, CallDone, Answers, IsGiven}
+use Rattle.rpc_uci.specs.Done.{quiet, reloading, IsRefusal, IsRefused, AskAnswers, EditDone, WithConfig, WithDeadline, RevertDone, CommitIsRefused, CommitDone, ApplyIsRefused, ApplyDone, EndDone, MethodDone, GrantedDone, AdmittedDone}
+use Rattle.rpc_uci.specs.Done.{CallDone, Answers, IsGiven}
 use Rattle.rpc_uci.proofs.SightLemmas.{one_file, one_sight}
 
 -- ---- refusals
@@ -338,22 +339,26 @@ method_once Rollback call old one other result again h k g f =
     once (EndDone reloading (RollsBackTo old (holder_of call.caller)) old one) (EndDone reloading (RollsBackTo old (holder_of call.caller)) old other)
     (ended_once reloading (RollsBackTo old (holder_of call.caller)) old one other (λ after to. waits_or_not (holder_of call.caller) (pending_of (files_of old).waits) to.waits.waits)) result again h k g f
 
-granted_once : (found : Option Grant) (method : Method) (call : Call) (old one other : Store) (result again : Result Reply RpcError) → GrantedDone found method call old one result → GrantedDone found method call old other again → IsGiven result → IsGiven again → again ≡ result
+granted_once : (found : Option Grant) (method : Method) (call : Call) (old one other : Store) (result again : Result Reply RpcError) → GrantedDone found method call old one result → GrantedDone found method call old other again
+    → IsGiven result → IsGiven again → again ≡ result
 granted_once (Some grant) method call old one other result again h k g f = same_refusal (Denied grant) old one other result again h k g f
 granted_once None method call old one other result again h k g f = method_once method call old one other result again h k g f
 
 pub memory_given : (result : Result Reply RpcError) → IsGiven result → IsRefusal Memory result → ⊥
 memory_given result g h = subst IsGiven (refused_so Memory result g h) g
 
-admitted_once : (admitted : Bool) (method : Method) (call : Call) (old one other : Store) (result again : Result Reply RpcError) → AdmittedDone admitted method call old one result → AdmittedDone admitted method call old other again → IsGiven result → IsGiven again → again ≡ result
+admitted_once : (admitted : Bool) (method : Method) (call : Call) (old one other : Store) (result again : Result Reply RpcError) → AdmittedDone admitted method call old one result → AdmittedDone admitted method call old other again
+    → IsGiven result → IsGiven again → again ≡ result
 admitted_once false method call old one other result again h k g f = same_refusal (Status not_found) old one other result again h k g f
 admitted_once true method call old one other result again (inl h) k g f = absurd (memory_given result g h.answer)
 admitted_once true method call old one other result again (inr h) (inl k) g f = absurd (memory_given again f k.answer)
 admitted_once true method call old one other result again (inr h) (inr k) g f = granted_once (missing method call old) method call old one other result again h k g f
 
-call_once : (method : Option Method) (admitted : Bool) (call : Call) (old one other : Store) (result again : Result Reply RpcError) → CallDone method admitted call old one result → CallDone method admitted call old other again → IsGiven result → IsGiven again → again ≡ result
+call_once : (method : Option Method) (admitted : Bool) (call : Call) (old one other : Store) (result again : Result Reply RpcError) → CallDone method admitted call old one result → CallDone method admitted call old other again
+    → IsGiven result → IsGiven again → again ≡ result
 call_once None admitted call old one other result again h k g f = same_refusal (Status no_method) old one other result again h k g f
 call_once (Some method) admitted call old one other result again h k g f = admitted_once admitted method call old one other result again h k g f
 
-pub answers_are_one : (list : SessionList) (name : List ℕ) (args : List Attr) (now : ℕ) (store one other : Store) (result again : Result Reply RpcError) → Answers list name args now store one result → Answers list name args now store other again → IsGiven result → IsGiven again → again ≡ result
+pub answers_are_one : (list : SessionList) (name : List ℕ) (args : List Attr) (now : ℕ) (store one other : Store) (result again : Result Reply RpcError) → Answers list name args now store one result
+    → Answers list name args now store other again → IsGiven result → IsGiven again → again ≡ result
 answers_are_one list name args now store one other result again h k g f = call_once (method_of name) (is_admitted (caller_in args) now list) (call_of list args now) store one other result again h k g f

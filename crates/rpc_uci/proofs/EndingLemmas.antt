@@ -55,7 +55,8 @@ told_unless_failed {P} error told e h other = h (λ (s : error ≡ Snap DiskFail
 
 -- ---- `revert`
 
-pub revert_refused : (old new : Store) (holder : ℕ) (name : List ℕ) (failed : Bool) (before after : View) (error : StoreError) → has_failed old ≡ false → Rests old new → IsWhole {X = Unit {0}} (Err error) (has_failed old) failed → RevertRefuses old holder name before after error
+pub revert_refused : (old new : Store) (holder : ℕ) (name : List ℕ) (failed : Bool) (before after : View) (error : StoreError) → has_failed old ≡ false → Rests old new → IsWhole {X = Unit {0}} (Err error) (has_failed old) failed
+    → RevertRefuses old holder name before after error
     → RevertDone holder old new (Err (store_told error)) name × HasCause {X = Reply} (Err (store_told error)) failed before after
 revert_refused old new holder name failed before after (Snap DiskFailed) ready rests whole h = (rests, (whole, h.3))
 revert_refused old new holder name failed before after (Snap Reopen) ready rests whole h = absurd (ready_not_failed (has_failed old) ready h)
@@ -81,7 +82,8 @@ rose_of : (holder : ℕ) (files_old files_new staged_old staged_new : View) → 
 rose_of holder files_old files_new staged_old staged_new (inl h) = inl h
 rose_of holder files_old files_new staged_old staged_new (inr h) = inr h.1
 
-commit_stopped : {U : Type 0} (old new : Store) (holder : ℕ) (name : List ℕ) (failed : Bool) (files_old files_new staged_old staged_new : View) (error : StoreError) → has_failed old ≡ false → waiting_in old ≡ None → IsLeft old new (CommitsTo old holder name) U error → IsWhole {X = Unit {0}} (Err error) (has_failed old) failed
+commit_stopped : {U : Type 0} (old new : Store) (holder : ℕ) (name : List ℕ) (failed : Bool) (files_old files_new staged_old staged_new : View) (error : StoreError) → has_failed old ≡ false → waiting_in old ≡ None
+    → IsLeft old new (CommitsTo old holder name) U error → IsWhole {X = Unit {0}} (Err error) (has_failed old) failed
     → CommitStops old holder name error → CommitDone holder old new (Err (store_told error)) name × HasDiskCause {X = Reply} (Err (store_told error)) failed files_old files_new staged_old staged_new
 commit_stopped old new holder name failed files_old files_new staged_old staged_new (Snap DiskFailed) ready free left whole h = absurd h
 commit_stopped old new holder name failed files_old files_new staged_old staged_new (Snap Reopen) ready free left whole h = absurd (ready_not_failed (has_failed old) ready h)
@@ -91,15 +93,19 @@ commit_stopped old new holder name failed files_old files_new staged_old staged_
 commit_stopped old new holder name failed files_old files_new staged_old staged_new (Snap (Limit number)) ready free left whole h = absurd h
 commit_stopped old new holder name failed files_old files_new staged_old staged_new (Snap SnapMemory) ready free left whole h = absurd h
 commit_stopped old new holder name failed files_old files_new staged_old staged_new NoPackage ready free left whole h = ((inl (h.1, refl), rests_unless_failed old new (CommitsTo old holder name) NoPackage (λ e. cc) left), whole ∙ ready)
-commit_stopped old new holder name failed files_old files_new staged_old staged_new (Parse error) ready free left whole h = ((inr (inl (because h (λ file lacks. (error, lacks)), refl)), rests_unless_failed old new (CommitsTo old holder name) (Parse error) (λ e. cc) left), whole ∙ ready)
+commit_stopped old new holder name failed files_old files_new staged_old staged_new (Parse error) ready free left whole h =
+    ((inr (inl (because h (λ file lacks. (error, lacks)), refl)), rests_unless_failed old new (CommitsTo old holder name) (Parse error) (λ e. cc) left), whole ∙ ready)
 commit_stopped old new holder name failed files_old files_new staged_old staged_new (NotTaken error) ready free left whole h = absurd h
-commit_stopped old new holder name failed files_old files_new staged_old staged_new (TooLarge bytes) ready free left whole h = ((inr (inr (because h (λ file large. (bytes, large)), refl)), rests_unless_failed old new (CommitsTo old holder name) (TooLarge bytes) (λ e. cc) left), whole ∙ ready)
+commit_stopped old new holder name failed files_old files_new staged_old staged_new (TooLarge bytes) ready free left whole h =
+    ((inr (inr (because h (λ file large. (bytes, large)), refl)), rests_unless_failed old new (CommitsTo old holder name) (TooLarge bytes) (λ e. cc) left), whole ∙ ready)
 commit_stopped old new holder name failed files_old files_new staged_old staged_new (NotHolder other) ready free left whole h = absurd h
 commit_stopped old new holder name failed files_old files_new staged_old staged_new NothingStaged ready free left whole h = absurd h
 commit_stopped old new holder name failed files_old files_new staged_old staged_new StoreMemory ready free left whole h = (rests_unless_failed old new (CommitsTo old holder name) StoreMemory (λ e. cc) left, whole ∙ ready)
 
-pub commit_refused : {U : Type 0} (old new : Store) (holder : ℕ) (name : List ℕ) (failed : Bool) (files_old files_new staged_old staged_new : View) (error : StoreError) → has_failed old ≡ false → waiting_in old ≡ None → IsLeft old new (CommitsTo old holder name) U error → IsWhole {X = Unit {0}} (Err error) (has_failed old) failed
-    → CommitRefuses old holder name files_old files_new staged_old staged_new error → CommitDone holder old new (Err (store_told error)) name × HasDiskCause {X = Reply} (Err (store_told error)) failed files_old files_new staged_old staged_new
+pub commit_refused : {U : Type 0} (old new : Store) (holder : ℕ) (name : List ℕ) (failed : Bool) (files_old files_new staged_old staged_new : View) (error : StoreError) → has_failed old ≡ false → waiting_in old ≡ None
+    → IsLeft old new (CommitsTo old holder name) U error → IsWhole {X = Unit {0}} (Err error) (has_failed old) failed
+    → CommitRefuses old holder name files_old files_new staged_old staged_new error → CommitDone holder old new (Err (store_told error)) name
+    × HasDiskCause {X = Reply} (Err (store_told error)) failed files_old files_new staged_old staged_new
 commit_refused old new holder name failed files_old files_new staged_old staged_new error ready free left whole (inl h) = commit_stopped old new holder name failed files_old files_new staged_old staged_new error ready free left whole h
 commit_refused old new holder name failed files_old files_new staged_old staged_new error ready free left whole (inr h) =
     let closed : failed ≡ true = subst (λ (e : StoreError). IsWhole {X = Unit {0}} (Err e) (has_failed old) failed) h.0 whole in
@@ -108,7 +114,8 @@ commit_refused old new holder name failed files_old files_new staged_old staged_
 
 -- ---- `apply`
 
-apply_stopped : {U : Type 0} (old new : Store) (holder : ℕ) (deadline : Option ℕ) (failed : Bool) (files_old files_new staged_old staged_new : View) (error : StoreError) → has_failed old ≡ false → waiting_in old ≡ None → IsLeft old new (AppliesTo old holder deadline) U error → IsWhole {X = Unit {0}} (Err error) (has_failed old) failed
+apply_stopped : {U : Type 0} (old new : Store) (holder : ℕ) (deadline : Option ℕ) (failed : Bool) (files_old files_new staged_old staged_new : View) (error : StoreError) → has_failed old ≡ false → waiting_in old ≡ None
+    → IsLeft old new (AppliesTo old holder deadline) U error → IsWhole {X = Unit {0}} (Err error) (has_failed old) failed
     → ApplyStops old holder error → ApplyDone holder old new (Err (store_told error)) deadline × HasDiskCause {X = Reply} (Err (store_told error)) failed files_old files_new staged_old staged_new
 apply_stopped old new holder deadline failed files_old files_new staged_old staged_new (Snap DiskFailed) ready free left whole h = absurd h
 apply_stopped old new holder deadline failed files_old files_new staged_old staged_new (Snap Reopen) ready free left whole h = absurd (ready_not_failed (has_failed old) ready h)
@@ -118,16 +125,21 @@ apply_stopped old new holder deadline failed files_old files_new staged_old stag
 apply_stopped old new holder deadline failed files_old files_new staged_old staged_new (Snap (Limit number)) ready free left whole h = absurd h
 apply_stopped old new holder deadline failed files_old files_new staged_old staged_new (Snap SnapMemory) ready free left whole h = absurd h
 apply_stopped old new holder deadline failed files_old files_new staged_old staged_new NoPackage ready free left whole h = absurd h
-apply_stopped old new holder deadline failed files_old files_new staged_old staged_new (Parse error) ready free left whole h = ((inr (inl (error, h.1, refl)), rests_unless_failed old new (AppliesTo old holder deadline) (Parse error) (λ e. cc) left), whole ∙ ready)
+apply_stopped old new holder deadline failed files_old files_new staged_old staged_new (Parse error) ready free left whole h =
+    ((inr (inl (error, h.1, refl)), rests_unless_failed old new (AppliesTo old holder deadline) (Parse error) (λ e. cc) left), whole ∙ ready)
 apply_stopped old new holder deadline failed files_old files_new staged_old staged_new (NotTaken error) ready free left whole h = absurd h
-apply_stopped old new holder deadline failed files_old files_new staged_old staged_new (TooLarge bytes) ready free left whole h = ((inr (inr (bytes, h.1, refl)), rests_unless_failed old new (AppliesTo old holder deadline) (TooLarge bytes) (λ e. cc) left), whole ∙ ready)
+apply_stopped old new holder deadline failed files_old files_new staged_old staged_new (TooLarge bytes) ready free left whole h =
+    ((inr (inr (bytes, h.1, refl)), rests_unless_failed old new (AppliesTo old holder deadline) (TooLarge bytes) (λ e. cc) left), whole ∙ ready)
 apply_stopped old new holder deadline failed files_old files_new staged_old staged_new (NotHolder other) ready free left whole h = absurd h
-apply_stopped old new holder deadline failed files_old files_new staged_old staged_new NothingStaged ready free left whole h = ((inl (h.1, refl), rests_unless_failed old new (AppliesTo old holder deadline) NothingStaged (λ e. cc) left), whole ∙ ready)
+apply_stopped old new holder deadline failed files_old files_new staged_old staged_new NothingStaged ready free left whole h =
+    ((inl (h.1, refl), rests_unless_failed old new (AppliesTo old holder deadline) NothingStaged (λ e. cc) left), whole ∙ ready)
 apply_stopped old new holder deadline failed files_old files_new staged_old staged_new StoreMemory ready free left whole h = (rests_unless_failed old new (AppliesTo old holder deadline) StoreMemory (λ e. cc) left, whole ∙ ready)
 
-pub apply_refused : {U : Type 0} (old new : Store) (holder : ℕ) (deadline : Option ℕ) (failed : Bool) (files_old files_new staged_old staged_new : View) (error : StoreError) → has_failed old ≡ false → waiting_in old ≡ None → IsLeft old new (AppliesTo old holder deadline) U error → IsWhole {X = Unit {0}} (Err error) (has_failed old) failed
+pub apply_refused : {U : Type 0} (old new : Store) (holder : ℕ) (deadline : Option ℕ) (failed : Bool) (files_old files_new staged_old staged_new : View) (error : StoreError) → has_failed old ≡ false → waiting_in old ≡ None
+    → IsLeft old new (AppliesTo old holder deadline) U error → IsWhole {X = Unit {0}} (Err error) (has_failed old) failed
     → ApplyRefuses old holder files_old files_new staged_old staged_new error → ApplyDone holder old new (Err (store_told error)) deadline × HasDiskCause {X = Reply} (Err (store_told error)) failed files_old files_new staged_old staged_new
-apply_refused old new holder deadline failed files_old files_new staged_old staged_new error ready free left whole (inl h) = apply_stopped old new holder deadline failed files_old files_new staged_old staged_new error ready free left whole h
+apply_refused old new holder deadline failed files_old files_new staged_old staged_new error ready free left whole (inl h) =
+    apply_stopped old new holder deadline failed files_old files_new staged_old staged_new error ready free left whole h
 apply_refused old new holder deadline failed files_old files_new staged_old staged_new error ready free left whole (inr h) =
     let closed : failed ≡ true = subst (λ (e : StoreError). IsWhole {X = Unit {0}} (Err e) (has_failed old) failed) h.0 whole in
     subst (λ (e : StoreError). ApplyDone holder old new (Err (store_told e)) deadline × HasDiskCause {X = Reply} (Err (store_told e)) failed files_old files_new staged_old staged_new) (sym h.0)
@@ -139,7 +151,8 @@ own_waits : (holder other : ℕ) (pending : Option Pending) → IsOwn holder (op
 own_waits holder other None own apart h = h
 own_waits holder other (Some pending) own apart h = apart (sym h ∙ own)
 
-end_stopped : (told : Reply) (To : State → Type 0) (old new : Store) (holder : ℕ) (failed : Bool) (before after : View) (error : StoreError) → has_failed old ≡ false → IsOwn holder (waiting_in old) → Rests old new → IsWhole {X = Unit {0}} (Err error) (has_failed old) failed
+end_stopped : (told : Reply) (To : State → Type 0) (old new : Store) (holder : ℕ) (failed : Bool) (before after : View) (error : StoreError) → has_failed old ≡ false → IsOwn holder (waiting_in old) → Rests old new
+    → IsWhole {X = Unit {0}} (Err error) (has_failed old) failed
     → EndStops old holder error → EndDone told To old new (Err (store_told error)) × HasCause {X = Reply} (Err (store_told error)) failed before after
 end_stopped told To old new holder failed before after (Snap DiskFailed) ready own rests whole h = absurd h
 end_stopped told To old new holder failed before after (Snap Reopen) ready own rests whole h = absurd (ready_not_failed (has_failed old) ready h)
@@ -156,7 +169,8 @@ end_stopped told To old new holder failed before after (NotHolder other) ready o
 end_stopped told To old new holder failed before after NothingStaged ready own rests whole h = absurd h
 end_stopped told To old new holder failed before after StoreMemory ready own rests whole h = absurd h
 
-pub end_refused : (told : Reply) (To : State → Type 0) (old new : Store) (holder : ℕ) (failed : Bool) (before after : View) (error : StoreError) → has_failed old ≡ false → IsOwn holder (waiting_in old) → Rests old new → IsWhole {X = Unit {0}} (Err error) (has_failed old) failed
+pub end_refused : (told : Reply) (To : State → Type 0) (old new : Store) (holder : ℕ) (failed : Bool) (before after : View) (error : StoreError) → has_failed old ≡ false → IsOwn holder (waiting_in old) → Rests old new
+    → IsWhole {X = Unit {0}} (Err error) (has_failed old) failed
     → EndRefuses old holder before after error → EndDone told To old new (Err (store_told error)) × HasCause {X = Reply} (Err (store_told error)) failed before after
 end_refused told To old new holder failed before after error ready own rests whole (inl h) = end_stopped told To old new holder failed before after error ready own rests whole h
 end_refused told To old new holder failed before after error ready own rests whole (inr h) =
@@ -193,8 +207,15 @@ without_deadline (Err m) store holder (Denied grant) h = absurd h
 without_deadline (Err m) store holder DiskError h = absurd h
 without_deadline (Err m) store holder NoMemory h = record { answer = inr refl; rests = record { files = refl; staged = refl } }
 
-pub no_disk_failed : {X : Type 0} (found : Result X ℕ) (failed : Bool) (files_old files_new staged_old staged_new : View) (error : RpcError) → IsStatusOf found error → failed ≡ false → HasDiskCause {X = Reply} (Err error) failed files_old files_new staged_old staged_new
+pub no_disk_failed : {X : Type 0} (found : Result X ℕ) (failed : Bool) (files_old files_new staged_old staged_new : View) (error : RpcError) → IsStatusOf found error → failed ≡ false
+    → HasDiskCause {X = Reply} (Err error) failed files_old files_new staged_old staged_new
 no_disk_failed found failed files_old files_new staged_old staged_new (Status n) h ready = ready
 no_disk_failed found failed files_old files_new staged_old staged_new (Denied grant) h ready = absurd h
 no_disk_failed found failed files_old files_new staged_old staged_new DiskError h ready = absurd h
 no_disk_failed found failed files_old files_new staged_old staged_new NoMemory h ready = ready
+
+pub ruleset applying = (apply_refused, told_unless_failed, with_deadline, without_deadline, no_disk_failed)
+
+pub ruleset committing = (commit_refused, told_unless_failed, with_config, without_config)
+
+pub ruleset reverting = (revert_refused, told_unless_failed, with_config, without_config)

@@ -17,12 +17,14 @@ later_granted : (list : SessionList) (holder : ℕ) (waiting : Option ℕ) (now 
 later_granted list holder waiting now [] later e = e
 later_granted list holder waiting now (grant ∷ grants) later e = by (permitted list holder waiting now grant) (later_granted list holder waiting now grants later) e
   where
-    by : (t : Bool) → (first_missing list holder waiting now (grants ++ later) ≡ None → first_missing list holder waiting now later ≡ None) → (if t then first_missing list holder waiting now (grants ++ later) else Some grant) ≡ None → first_missing list holder waiting now later ≡ None
+    by : (t : Bool) → (first_missing list holder waiting now (grants ++ later) ≡ None → first_missing list holder waiting now later ≡ None) → (if t then first_missing list holder waiting now (grants ++ later) else Some grant) ≡ None
+        → first_missing list holder waiting now later ≡ None
     by true step f = step f
     by false step f = absurd (let g : ◌≡◌ {A = Option Grant} (Some grant) None = f in cc)
 
 -- nobody has the grants to commit and to apply while an apply waits
-nothing_waits : (list : SessionList) (holder : ℕ) (waiting : Option ℕ) (now : ℕ) (method : List ℕ) → ((other : ℕ) → permitted list holder (Some other) now (to_end method) ≡ false) → first_missing list holder waiting now (while_waiting waiting method) ≡ None → waiting ≡ None
+nothing_waits : (list : SessionList) (holder : ℕ) (waiting : Option ℕ) (now : ℕ) (method : List ℕ) → ((other : ℕ) → permitted list holder (Some other) now (to_end method) ≡ false)
+    → first_missing list holder waiting now (while_waiting waiting method) ≡ None → waiting ≡ None
 nothing_waits list holder None now method nobody e = refl
 nothing_waits list holder (Some other) now method nobody e = absurd (by (permitted list holder (Some other) now (to_end method)) (nobody other) e)
   where
@@ -41,7 +43,8 @@ apply_is_free call store e =
     (later_granted call.list (holder_of call.caller) (waiting_in store) call.now (of_session call.caller (map to_write (staged_names (holder_of call.caller) store))) (while_waiting (waiting_in store) (codes "apply")) e)
 
 -- and its holder alone has those to end it
-own_waits : (list : SessionList) (holder : ℕ) (waiting : Option ℕ) (now : ℕ) (method : List ℕ) → ((other : ℕ) → permitted list holder (Some other) now (to_end method) ≡ nat_eq other holder) → first_missing list holder waiting now (while_waiting waiting method) ≡ None → IsOwn holder waiting
+own_waits : (list : SessionList) (holder : ℕ) (waiting : Option ℕ) (now : ℕ) (method : List ℕ) → ((other : ℕ) → permitted list holder (Some other) now (to_end method) ≡ nat_eq other holder)
+    → first_missing list holder waiting now (while_waiting waiting method) ≡ None → IsOwn holder waiting
 own_waits list holder None now method own e = tt
 own_waits list holder (Some other) now method own e = by (nat_eq other holder) refl (subst (λ (t : Bool). (if t then None else Some (to_end method)) ≡ None) (own other) e)
   where

@@ -66,14 +66,16 @@ nothing_moved store view To sound on good files seen =
 
 -- ---- why a disk failed
 
-pub staged_failed : {X : Type 0} (result : Result X RpcError) (failed : Bool) (files_old files_new staged_old staged_new : View) → HasCause result failed staged_old staged_new → HasDiskCause result failed files_old files_new staged_old staged_new
+pub staged_failed : {X : Type 0} (result : Result X RpcError) (failed : Bool) (files_old files_new staged_old staged_new : View) → HasCause result failed staged_old staged_new
+    → HasDiskCause result failed files_old files_new staged_old staged_new
 staged_failed (Ok x) failed files_old files_new staged_old staged_new h = h
 staged_failed (Err (Status status)) failed files_old files_new staged_old staged_new h = h
 staged_failed (Err (Denied grant)) failed files_old files_new staged_old staged_new h = h
 staged_failed (Err DiskFailed) failed files_old files_new staged_old staged_new h = (h.0, inr h.1)
 staged_failed (Err Memory) failed files_old files_new staged_old staged_new h = h
 
-pub files_failed : {X : Type 0} (result : Result X RpcError) (failed : Bool) (files_old files_new staged_old staged_new : View) → HasCause result failed files_old files_new → HasDiskCause result failed files_old files_new staged_old staged_new
+pub files_failed : {X : Type 0} (result : Result X RpcError) (failed : Bool) (files_old files_new staged_old staged_new : View) → HasCause result failed files_old files_new
+    → HasDiskCause result failed files_old files_new staged_old staged_new
 files_failed (Ok x) failed files_old files_new staged_old staged_new h = h
 files_failed (Err (Status status)) failed files_old files_new staged_old staged_new h = h
 files_failed (Err (Denied grant)) failed files_old files_new staged_old staged_new h = h
@@ -81,7 +83,8 @@ files_failed (Err DiskFailed) failed files_old files_new staged_old staged_new h
 files_failed (Err Memory) failed files_old files_new staged_old staged_new h = h
 
 -- a question fails no disk
-pub ask_failed : (question : Question) (store : Store) (call : Call) (result : Result Reply RpcError) (failed : Bool) (files_old files_new staged_old staged_new : View) → AskAnswers question store call result → failed ≡ false → HasDiskCause result failed files_old files_new staged_old staged_new
+pub ask_failed : (question : Question) (store : Store) (call : Call) (result : Result Reply RpcError) (failed : Bool) (files_old files_new staged_old staged_new : View) → AskAnswers question store call result → failed ≡ false
+    → HasDiskCause result failed files_old files_new staged_old staged_new
 ask_failed question store call (Ok reply) failed files_old files_new staged_old staged_new h ready = ready
 ask_failed question store call (Err (Status status)) failed files_old files_new staged_old staged_new h ready = ready
 ask_failed question store call (Err (Denied grant)) failed files_old files_new staged_old staged_new h ready = absurd h
@@ -90,7 +93,8 @@ ask_failed question store call (Err Memory) failed files_old files_new staged_ol
 
 -- ---- grants that are needed
 
-pub needed_same : (method : Method) (caller : Caller) (args : List Attr) (staged names : List (List ℕ)) (waiting : Option ℕ) → (method ≡ Apply → staged ≡ names) → needed method caller args staged waiting ≡ needed method caller args names waiting
+pub needed_same : (method : Method) (caller : Caller) (args : List Attr) (staged names : List (List ℕ)) (waiting : Option ℕ) → (method ≡ Apply → staged ≡ names) → needed method caller args staged waiting
+    ≡ needed method caller args names waiting
 needed_same (Ask question) caller args staged names waiting h = refl
 needed_same (Stage edit) caller args staged names waiting h = refl
 needed_same Revert caller args staged names waiting h = refl
@@ -153,7 +157,8 @@ told_memory (Err error) ample (inl e) = ample (ap (λ (z : RpcError). Err z) e)
 told_memory (Err error) ample (inr e) = ample (ap (λ (z : RpcError). Err z) e)
 
 -- and where one is missing the call is told so
-pub is_denied : (method : Option Method) (admitted : Bool) (call : Call) (old new : Store) (result : Result Reply RpcError) (grant : Grant) → CallDone method admitted call old new result → result ≢ Err Memory → denied_grant method admitted call old ≡ Some grant → result ≡ Err (Denied grant)
+pub is_denied : (method : Option Method) (admitted : Bool) (call : Call) (old new : Store) (result : Result Reply RpcError) (grant : Grant) → CallDone method admitted call old new result → result ≢ Err Memory
+    → denied_grant method admitted call old ≡ Some grant → result ≡ Err (Denied grant)
 is_denied None admitted call old new result grant h ample e = absurd (let f : ◌≡◌ {A = Option Grant} None (Some grant) = e in cc)
 is_denied (Some method) false call old new result grant h ample e = absurd (let f : ◌≡◌ {A = Option Grant} None (Some grant) = e in cc)
 is_denied (Some method) true call old new result grant (inl h) ample e = absurd (told_memory result ample h.answer)
@@ -199,7 +204,8 @@ reloads_once_told method admitted call old new (Err error) h = tt
 
 -- the call is that of its arguments
 pub by_arguments : (list after : SessionList) (name : List ℕ) (args : List Attr) (now : ℕ) (caller : Caller) (method : Option Method) (admitted : Bool) (old new : Store) (result : Result Reply RpcError)
-    → caller ≡ caller_in args → after ≡ renewed caller now list → method ≡ method_of name → admitted ≡ is_admitted caller now list → CallDone method admitted (call_by after caller args now) old new result → Answers list name args now old new result
+    → caller ≡ caller_in args → after ≡ renewed caller now list → method ≡ method_of name → admitted ≡ is_admitted caller now list → CallDone method admitted (call_by after caller args now) old new result
+    → Answers list name args now old new result
 by_arguments list after name args now caller method admitted old new result c a m t done =
     let one = subst (λ (l : SessionList). CallDone method admitted (call_by l caller args now) old new result) a done in
     let two = subst (λ (b : Bool). CallDone method b (call_by (renewed caller now list) caller args now) old new result) t one in

@@ -59,24 +59,34 @@ sees_unnamed store holder fits config f c =
     subst (λ (t : Bool). SeesNamed store holder t config (Err bad_argument)) (sym f) (subst (λ (z : Option (List ℕ)). SeesNamed store holder true z (Err bad_argument)) (sym c) refl)
 
 -- of an error, as it is told
-pub unseen_named : (store : Store) (holder : ℕ) (fits : Bool) (config : Option (List ℕ)) (name : List ℕ) (error : RpcError) → fits ≡ true → config ≡ Some name → IsStatusFor (λ status. Sees store holder name (Err status)) error → IsStatusFor (λ status. SeesNamed store holder fits config (Err status)) error
+pub unseen_named : (store : Store) (holder : ℕ) (fits : Bool) (config : Option (List ℕ)) (name : List ℕ) (error : RpcError) → fits ≡ true → config ≡ Some name → IsStatusFor (λ status. Sees store holder name (Err status)) error
+    → IsStatusFor (λ status. SeesNamed store holder fits config (Err status)) error
 unseen_named store holder fits config name (Status status) f c s = sees_named store holder fits config name (Err status) f c s
 unseen_named store holder fits config name (Denied grant) f c s = absurd s
 unseen_named store holder fits config name DiskFailed f c s = absurd s
 unseen_named store holder fits config name RpcMemory f c s = tt
 
 -- what comes of what is seen, and of what is not
-pub comes_of : {X : Type 0} (store : Store) (holder : ℕ) (fits : Bool) (config : Option (List ℕ)) (next : Package → Result X ℕ) (view : Package) (x : X) → SeesNamed store holder fits config (Ok view) → next view ≡ Ok x → ComesOf store holder fits config next (Ok x)
+pub comes_of : {X : Type 0} (store : Store) (holder : ℕ) (fits : Bool) (config : Option (List ℕ)) (next : Package → Result X ℕ) (view : Package) (x : X) → SeesNamed store holder fits config (Ok view) → next view ≡ Ok x
+    → ComesOf store holder fits config next (Ok x)
 comes_of store holder fits config next view x s e = (Ok view, s, sym e)
 
-pub refused_of : {X : Type 0} (store : Store) (holder : ℕ) (fits : Bool) (config : Option (List ℕ)) (next : Package → Result X ℕ) (view : Package) (error : RpcError) → SeesNamed store holder fits config (Ok view) → IsStatusOf (next view) error → IsStatusFor (λ status. ComesOf store holder fits config next (Err status)) error
+pub refused_of : {X : Type 0} (store : Store) (holder : ℕ) (fits : Bool) (config : Option (List ℕ)) (next : Package → Result X ℕ) (view : Package) (error : RpcError) → SeesNamed store holder fits config (Ok view)
+    → IsStatusOf (next view) error → IsStatusFor (λ status. ComesOf store holder fits config next (Err status)) error
 refused_of store holder fits config next view (Status status) s e = (Ok view, s, sym e)
 refused_of store holder fits config next view (Denied grant) s e = absurd e
 refused_of store holder fits config next view DiskFailed s e = absurd e
 refused_of store holder fits config next view RpcMemory s e = tt
 
-pub unseen_of : {X : Type 0} (store : Store) (holder : ℕ) (fits : Bool) (config : Option (List ℕ)) (next : Package → Result X ℕ) (error : RpcError) → IsStatusFor (λ status. SeesNamed store holder fits config (Err status)) error → IsStatusFor (λ status. ComesOf store holder fits config next (Err status)) error
+pub unseen_of : {X : Type 0} (store : Store) (holder : ℕ) (fits : Bool) (config : Option (List ℕ)) (next : Package → Result X ℕ) (error : RpcError) → IsStatusFor (λ status. SeesNamed store holder fits config (Err status)) error
+    → IsStatusFor (λ status. ComesOf store holder fits config next (Err status)) error
 unseen_of store holder fits config next (Status status) s = (Err status, s, refl)
 unseen_of store holder fits config next (Denied grant) s = absurd s
 unseen_of store holder fits config next DiskFailed s = absurd s
 unseen_of store holder fits config next RpcMemory s = tt
+
+pub ruleset changes_by_name = (changes_named, none_named)
+
+pub ruleset sight_of = (comes_of, refused_of, unseen_of)
+
+pub ruleset seen_by_name = (sees_named, sees_unfit, sees_unnamed, unseen_named)

@@ -34,10 +34,12 @@ use Rattle.rpc_uci.specs.Staging.{TakesAll, IsStageable, IsCut, HasCause}
 use Rattle.rpc_uci.specs.Refused.{store_told}
 use Rattle.rpc_uci.proofs.PlanLemmas.{planned_takes}
 use Rattle.rpc_uci.proofs.SightLemmas.{one_file, one_sight}
+use Rattle.rpc_uci.proofs.EndingLemmas.{told_unless_failed}
 
 -- ---- what is planned may be staged
 
-stageable_of : (edit : Edit) (store : Store) (holder : ℕ) (args : List Attr) (plan : Plan) (name : List ℕ) (fits : Bool) (seen : Result Package ℕ) → SeesNamed store holder fits (Some name) seen → Ok plan ≡ and_then seen (planned_of edit (Some name) args) → IsStageable store holder name plan.deltas
+stageable_of : (edit : Edit) (store : Store) (holder : ℕ) (args : List Attr) (plan : Plan) (name : List ℕ) (fits : Bool) (seen : Result Package ℕ) → SeesNamed store holder fits (Some name) seen → Ok plan
+    ≡ and_then seen (planned_of edit (Some name) args) → IsStageable store holder name plan.deltas
 stageable_of edit store holder args plan name fits (Err status) sees e = absurd (let f : ◌≡◌ {A = Result Plan ℕ} (Ok plan) (Err status) = e in cc)
 stageable_of edit store holder args plan name false (Ok view) sees e = absurd (let f : ◌≡◌ {A = Result Package ℕ} (Ok view) (Err bad_argument) = sees in cc)
 stageable_of edit store holder args plan name true (Ok view) sees e = record {
@@ -86,7 +88,8 @@ staged_all old new holder name deltas fits snap h = record {
 }
 
 -- it refuses only for a disk or for memory
-taken_there : (store : Store) (holder : ℕ) (name : List ℕ) (deltas : List Delta) (error : DeltaError) (file : ℕ) (view : Package) → HasFile store name file → IsSeenAt store holder file view → all_taken view deltas ≡ Err error → IsStageable store holder name deltas → ⊥
+taken_there : (store : Store) (holder : ℕ) (name : List ℕ) (deltas : List Delta) (error : DeltaError) (file : ℕ) (view : Package) → HasFile store name file → IsSeenAt store holder file view → all_taken view deltas ≡ Err error
+    → IsStageable store holder name deltas → ⊥
 taken_there store holder name deltas error file view number seen refused fits =
     let same : file ≡ fits.file = one_file store name fits.file file fits.number number in
     let there : IsSeenAt store holder fits.file view = subst (λ (k : ℕ). IsSeenAt store holder k view) same seen in
@@ -101,7 +104,8 @@ reads_there store holder name deltas old new error h fits =
     let reads : ReadsAt store h.1.file fits.seen.base = subst (λ (k : ℕ). ReadsAt store k fits.seen.base) (sym same) fits.seen.reads in
     no_package (name_of (names_of store) h.1.file) (text_of (files_of store) h.1.file) error fits.seen.base h.1.fault reads
 
-pub batch_cut : (store : Store) (holder : ℕ) (name : List ℕ) (deltas : List Delta) (old new : View) (error : StoreError) → has_failed store ≡ false → 0 < length deltas → IsStageable store holder name deltas → BatchRefuses store holder name deltas old new error → IsCut deltas (store_told error)
+pub batch_cut : (store : Store) (holder : ℕ) (name : List ℕ) (deltas : List Delta) (old new : View) (error : StoreError) → has_failed store ≡ false → 0 < length deltas → IsStageable store holder name deltas
+    → BatchRefuses store holder name deltas old new error → IsCut deltas (store_told error)
 batch_cut store holder name deltas old new (Snap DiskFailed) ready some fits h = some
 batch_cut store holder name deltas old new (Snap Reopen) ready some fits h = absurd (let e : true ≡ false = sym h ∙ ready in cc)
 batch_cut store holder name deltas old new (Snap (Waiting deadline)) ready some fits h = absurd h
@@ -117,7 +121,8 @@ batch_cut store holder name deltas old new (NotHolder other) ready some fits h =
 batch_cut store holder name deltas old new NothingStaged ready some fits h = absurd h
 batch_cut store holder name deltas old new StoreMemory ready some fits h = tt
 
-pub batch_cause : (store : Store) (holder : ℕ) (name : List ℕ) (deltas : List Delta) (failed : Bool) (old new : View) (error : StoreError) → has_failed store ≡ false → IsWhole {X = Unit {0}} (Err error) (has_failed store) failed → IsStageable store holder name deltas → BatchRefuses store holder name deltas old new error → HasCause {X = Unit {0}} (Err (store_told error)) failed old new
+pub batch_cause : (store : Store) (holder : ℕ) (name : List ℕ) (deltas : List Delta) (failed : Bool) (old new : View) (error : StoreError) → has_failed store ≡ false → IsWhole {X = Unit {0}} (Err error) (has_failed store) failed
+    → IsStageable store holder name deltas → BatchRefuses store holder name deltas old new error → HasCause {X = Unit {0}} (Err (store_told error)) failed old new
 batch_cause store holder name deltas failed old new (Snap DiskFailed) ready whole fits h = (whole, h.3)
 batch_cause store holder name deltas failed old new (Snap Reopen) ready whole fits h = absurd (let e : true ≡ false = sym h ∙ ready in cc)
 batch_cause store holder name deltas failed old new (Snap (Waiting deadline)) ready whole fits h = absurd h
@@ -140,10 +145,12 @@ none_staged store holder (delta ∷ deltas) none = absurd (omega (arith, none))
 
 -- ---- a method that stages changes
 
-pub edit_is_staged : (edit : Edit) (holder : ℕ) (args : List Attr) (old new : Store) (plan : Plan) (reply : Reply) → EditComesTo edit old holder args (Ok plan) → reply ≡ quiet plan.told → HasStagedAll old new holder plan.deltas → EditDone edit holder args old new (Ok reply)
+pub edit_is_staged : (edit : Edit) (holder : ℕ) (args : List Attr) (old new : Store) (plan : Plan) (reply : Reply) → EditComesTo edit old holder args (Ok plan) → reply ≡ quiet plan.told → HasStagedAll old new holder plan.deltas
+    → EditDone edit holder args old new (Ok reply)
 edit_is_staged edit holder args old new plan reply comes told staged = record { plan = plan; comes = comes; told = told; staged = staged }
 
-pub edit_is_cut : (edit : Edit) (holder : ℕ) (args : List Attr) (old new : Store) (plan : Plan) (error : RpcError) → EditComesTo edit old holder args (Ok plan) → snap_of new ≡ snap_of old → staged_in new ≡ staged_in old → IsCut plan.deltas error → EditDone edit holder args old new (Err error)
+pub edit_is_cut : (edit : Edit) (holder : ℕ) (args : List Attr) (old new : Store) (plan : Plan) (error : RpcError) → EditComesTo edit old holder args (Ok plan) → snap_of new ≡ snap_of old → staged_in new ≡ staged_in old
+    → IsCut plan.deltas error → EditDone edit holder args old new (Err error)
 edit_is_cut edit holder args old new plan (Status status) comes snap kept cut = absurd cut
 edit_is_cut edit holder args old new plan (Denied grant) comes snap kept cut = absurd cut
 edit_is_cut edit holder args old new plan DiskError comes snap kept cut = record { plan = plan; comes = comes; some = cut; rests = record { files = ap state_of snap; staged = kept } }
@@ -165,3 +172,7 @@ edit_is_unnamed edit holder args store unnamed = (
   (Err bad_argument, subst (λ (config : Option (List ℕ)). SeesNamed store holder (edit_fits edit args) config (Err bad_argument)) (sym unnamed) (sees_none store holder (edit_fits edit args)), refl),
   record { files = refl; staged = refl },
 )
+
+pub ruleset edits = (edit_is_staged, edit_is_cut, edit_is_refused, edit_is_unnamed)
+
+pub ruleset staged_or_told = (none_staged, told_unless_failed)

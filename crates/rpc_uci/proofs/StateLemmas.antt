@@ -76,7 +76,8 @@ holds : (store : Store) (holder : ℕ) (a : List NewFile) (ps : Files) (new : Ne
 holds store holder [] ps new count all is (inl h) = absurd h
 holds store holder [] ps new count all is (inr e) = e
 holds store holder (one ∷ a) ps new count all is (inl (inr h)) = holds store holder a (with_package ps one.file one.bytes) new (length-set ps (one.file - 2) one.bytes ∙ count) all.1 is (inl h)
-holds store holder (one ∷ a) ps new count all is (inl (inl same)) = holds store holder a (with_package ps one.file one.bytes) new (length-set ps (one.file - 2) one.bytes ∙ count) all.1 is (inr (written store holder one ps new count all.0 is same))
+holds store holder (one ∷ a) ps new count all is (inl (inl same)) =
+    holds store holder a (with_package ps one.file one.bytes) new (length-set ps (one.file - 2) one.bytes ∙ count) all.1 is (inr (written store holder one ps new count all.0 is same))
 holds store holder (one ∷ a) ps new count all is (inr e) =
     let stays : new.bytes ≡ bytes_of (with_package ps one.file one.bytes) (new.file - 2) = elim (cases_eq new.file one.file) [
       | inl same ↦ written store holder one ps new count all.0 is same
@@ -155,7 +156,8 @@ commit_state holder old one other (Err (Denied grant)) g name h k = absurd h
 commit_state holder old one other (Err DiskFailed) g name h k = absurd g
 commit_state holder old one other (Err Memory) g name h k = absurd g
 
-apply_state : (holder : ℕ) (old one other : Store) (result : Result Reply RpcError) → IsStore old → IsGiven result → (deadline : Option ℕ) → ApplyDone holder old one result deadline → ApplyDone holder old other result deadline → Rests one other
+apply_state : (holder : ℕ) (old one other : Store) (result : Result Reply RpcError) → IsStore old → IsGiven result → (deadline : Option ℕ) → ApplyDone holder old one result deadline → ApplyDone holder old other result deadline
+    → Rests one other
 apply_state holder old one other (Ok reply) is g deadline h k =
     let a = h.1.leads.new in
     let b = k.1.leads.new in
@@ -169,7 +171,8 @@ apply_state holder old one other (Err (Denied grant)) is g deadline h k = absurd
 apply_state holder old one other (Err DiskFailed) is g deadline h k = absurd g
 apply_state holder old one other (Err Memory) is g deadline h k = absurd g
 
-end_state : (told : Reply) (To : State → Type 0) (old one other : Store) (result : Result Reply RpcError) → ((a b : State) → To a → To b → b ≡ a) → IsGiven result → EndDone told To old one result → EndDone told To old other result → Rests one other
+end_state : (told : Reply) (To : State → Type 0) (old one other : Store) (result : Result Reply RpcError) → ((a b : State) → To a → To b → b ≡ a) → IsGiven result → EndDone told To old one result → EndDone told To old other result
+    → Rests one other
 end_state told To old one other (Ok reply) same g h k = record { files = same (files_of one) (files_of other) h.1.files k.1.files; staged = k.1.staged ∙ sym h.1.staged }
 end_state told To old one other (Err (Status status)) same g h k = both_rest old one other h.2 k.2
 end_state told To old one other (Err (Denied grant)) same g h k = absurd h
@@ -178,11 +181,13 @@ end_state told To old one other (Err Memory) same g h k = absurd g
 
 -- ---- all
 
-config_state : (config : Option (List ℕ)) (old one other : Store) (result : Result Reply RpcError) (D E : List ℕ → Type 0) → ((name : List ℕ) → D name → E name → Rests one other) → WithConfig config old one result D → WithConfig config old other result E → Rests one other
+config_state : (config : Option (List ℕ)) (old one other : Store) (result : Result Reply RpcError) (D E : List ℕ → Type 0) → ((name : List ℕ) → D name → E name → Rests one other) → WithConfig config old one result D
+    → WithConfig config old other result E → Rests one other
 config_state None old one other result D E each h k = both_rest old one other h.rests k.rests
 config_state (Some name) old one other result D E each h k = each name h k
 
-deadline_state : (deadline : Result (Option ℕ) ℕ) (old one other : Store) (result : Result Reply RpcError) (D E : Option ℕ → Type 0) → ((d : Option ℕ) → D d → E d → Rests one other) → WithDeadline deadline old one result D → WithDeadline deadline old other result E → Rests one other
+deadline_state : (deadline : Result (Option ℕ) ℕ) (old one other : Store) (result : Result Reply RpcError) (D E : Option ℕ → Type 0) → ((d : Option ℕ) → D d → E d → Rests one other) → WithDeadline deadline old one result D
+    → WithDeadline deadline old other result E → Rests one other
 deadline_state (Err status) old one other result D E each h k = both_rest old one other h.rests k.rests
 deadline_state (Ok d) old one other result D E each h k = each d h k
 
@@ -194,25 +199,30 @@ method_state Revert call old one other result is g h k =
 method_state Commit call old one other result is g h k =
     config_state (config_in call.args) old one other result (CommitDone (holder_of call.caller) old one result) (CommitDone (holder_of call.caller) old other result) (commit_state (holder_of call.caller) old one other result g) h k
 method_state Apply call old one other result is g h k =
-    deadline_state (apply_deadline call.args call.now) old one other result (ApplyDone (holder_of call.caller) old one result) (ApplyDone (holder_of call.caller) old other result) (apply_state (holder_of call.caller) old one other result is g) h k
+    deadline_state (apply_deadline call.args call.now) old one other result (ApplyDone (holder_of call.caller) old one result) (ApplyDone (holder_of call.caller) old other result)
+    (apply_state (holder_of call.caller) old one other result is g) h k
 method_state Confirm call old one other result is g h k = end_state (quiet []) (ConfirmsTo old (holder_of call.caller)) old one other result (λ a b x y. y.files ∙ sym x.files) g h k
 method_state Rollback call old one other result is g h k = end_state reloading (RollsBackTo old (holder_of call.caller)) old one other result (λ a b x y. y.files ∙ sym x.files) g h k
 
-granted_state : (found : Option Grant) (method : Method) (call : Call) (old one other : Store) (result : Result Reply RpcError) → IsStore old → IsGiven result → GrantedDone found method call old one result → GrantedDone found method call old other result → Rests one other
+granted_state : (found : Option Grant) (method : Method) (call : Call) (old one other : Store) (result : Result Reply RpcError) → IsStore old → IsGiven result → GrantedDone found method call old one result
+    → GrantedDone found method call old other result → Rests one other
 granted_state (Some grant) method call old one other result is g h k = both_rest old one other h.rests k.rests
 granted_state None method call old one other result is g h k = method_state method call old one other result is g h k
 
-admitted_state : (admitted : Bool) (method : Method) (call : Call) (old one other : Store) (result : Result Reply RpcError) → IsStore old → IsGiven result → AdmittedDone admitted method call old one result → AdmittedDone admitted method call old other result → Rests one other
+admitted_state : (admitted : Bool) (method : Method) (call : Call) (old one other : Store) (result : Result Reply RpcError) → IsStore old → IsGiven result → AdmittedDone admitted method call old one result
+    → AdmittedDone admitted method call old other result → Rests one other
 admitted_state false method call old one other result is g h k = both_rest old one other h.rests k.rests
 admitted_state true method call old one other result is g (inl h) k = absurd (memory_given result g h.answer)
 admitted_state true method call old one other result is g (inr h) (inl k) = absurd (memory_given result g k.answer)
 admitted_state true method call old one other result is g (inr h) (inr k) = granted_state (missing method call old) method call old one other result is g h k
 
-call_state : (method : Option Method) (admitted : Bool) (call : Call) (old one other : Store) (result : Result Reply RpcError) → IsStore old → IsGiven result → CallDone method admitted call old one result → CallDone method admitted call old other result → Rests one other
+call_state : (method : Option Method) (admitted : Bool) (call : Call) (old one other : Store) (result : Result Reply RpcError) → IsStore old → IsGiven result → CallDone method admitted call old one result
+    → CallDone method admitted call old other result → Rests one other
 call_state None admitted call old one other result is g h k = both_rest old one other h.rests k.rests
 call_state (Some method) admitted call old one other result is g h k = admitted_state admitted method call old one other result is g h k
 
-pub states_are_one : (list : SessionList) (name : List ℕ) (args : List Attr) (now : ℕ) (store one other : Store) (result again : Result Reply RpcError) → IsStore store → Answers list name args now store one result → Answers list name args now store other again → IsGiven result → IsGiven again → Rests one other
+pub states_are_one : (list : SessionList) (name : List ℕ) (args : List Attr) (now : ℕ) (store one other : Store) (result again : Result Reply RpcError) → IsStore store → Answers list name args now store one result
+    → Answers list name args now store other again → IsGiven result → IsGiven again → Rests one other
 states_are_one list name args now store one other result again is h k g f =
     let same : again ≡ result = answers_are_one list name args now store one other result again h k g f in
     let there : Answers list name args now store other result = subst (Answers list name args now store other) same k in

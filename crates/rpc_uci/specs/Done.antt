@@ -1,5 +1,6 @@
 -- What a call leaves and answers (OpenWrt's rpcd, but for rules of our own that `rpc_rules` names).
-use Rattle.std.specs.Prelude.{ℕ, ◌≡◌, ◌<◌, ◌⊎◌, List, [], ◌++◌, length, Option, Some, None, Result, Ok, Err, Bool, true, false, map, unwrap_or}
+use Rattle.std.specs.Prelude.{ℕ, ◌≡◌, ◌<◌, ◌⊎◌, List, [], ◌++◌, length, Option, Some, None, Result, Ok, Err, Bool, true}
+use Rattle.std.specs.Prelude.{false, map, unwrap_or}
 use Rattle.blob_codec.specs.declared.blob.Attr.{Attr}
 use Rattle.snap_disk.specs.Opened.{State}
 use Rattle.snap_disk.specs.Open.{pending_of}
@@ -123,18 +124,22 @@ path_of name = record { «package» = name; section = None; option = None }
 
 -- `revert`: what the holder has staged of the package goes
 abbrev pub RevertDone : ℕ → Store → Store → Result Reply RpcError → List ℕ → Type 0
-RevertDone holder old new (Ok reply) name = (reply ≡ quiet []) × HasReverted old new holder (path_of name) × (files_of new ≡ files_of old)
+RevertDone holder old new (Ok reply) name = (reply ≡ quiet []) × HasReverted old new holder (path_of name)
+    × (files_of new ≡ files_of old)
 RevertDone holder old new (Err (Status status)) name = HasNoFile old name × (status ≡ not_found) × Rests old new
 RevertDone holder old new (Err (Denied grant)) name = ⊥
 RevertDone holder old new (Err DiskFailed) name = Rests old new
 RevertDone holder old new (Err Memory) name = Rests old new
 
--- why a commit is refused: no file has the name; something is staged, and the file does not read or the new one is too large
+-- why a commit is refused: no file has the name; something is staged, and the file does not read or the new one is too
+-- large
 abbrev pub CommitIsRefused : Store → ℕ → List ℕ → ℕ → Type 0
 CommitIsRefused store holder name status =
     (HasNoFile store name × (status ≡ not_found))
-    ⊎ (OfStaged store holder name (λ file. (error : TreeError) × LacksReading store file error) × (status ≡ bad_argument))
-    ⊎ (OfStaged store holder name (λ file. (bytes : ℕ) × IsSeenTooLarge store holder file bytes) × (status ≡ unknown_error))
+    ⊎ (OfStaged store holder name (λ file. (error : TreeError) × LacksReading store file error)
+    × (status ≡ bad_argument))
+    ⊎ (OfStaged store holder name (λ file. (bytes : ℕ) × IsSeenTooLarge store holder file bytes)
+    × (status ≡ unknown_error))
 
 -- a disk that failed may have left the files that a call leads to
 pub record LeavesEither (old new : Store) (To : State → Type 0) : Type 0 where
@@ -178,7 +183,8 @@ pub record HasEnded (old new : Store) (To : State → Type 0) : Type 0 where
 
 abbrev pub EndDone : Reply → (State → Type 0) → Store → Store → Result Reply RpcError → Type 0
 EndDone told To old new (Ok reply) = (reply ≡ told) × HasEnded old new To
-EndDone told To old new (Err (Status status)) = (pending_of (files_of old).waits ≡ None) × (status ≡ no_data) × Rests old new
+EndDone told To old new (Err (Status status)) = (pending_of (files_of old).waits ≡ None) × (status ≡ no_data)
+    × Rests old new
 EndDone told To old new (Err (Denied grant)) = ⊥
 EndDone told To old new (Err DiskFailed) = Rests old new
 EndDone told To old new (Err Memory) = Rests old new
@@ -189,9 +195,12 @@ EndDone told To old new (Err Memory) = Rests old new
 abbrev pub MethodDone : Method → Call → Store → Store → Result Reply RpcError → Type 0
 MethodDone (Ask question) call old new result = AskDone question call old new result
 MethodDone (Stage edit) call old new result = EditDone edit (holder_of call.caller) call.args old new result
-MethodDone Revert call old new result = WithConfig (config_in call.args) old new result (RevertDone (holder_of call.caller) old new result)
-MethodDone Commit call old new result = WithConfig (config_in call.args) old new result (CommitDone (holder_of call.caller) old new result)
-MethodDone Apply call old new result = WithDeadline (apply_deadline call.args call.now) old new result (ApplyDone (holder_of call.caller) old new result)
+MethodDone Revert call old new result =
+    WithConfig (config_in call.args) old new result (RevertDone (holder_of call.caller) old new result)
+MethodDone Commit call old new result =
+    WithConfig (config_in call.args) old new result (CommitDone (holder_of call.caller) old new result)
+MethodDone Apply call old new result =
+    WithDeadline (apply_deadline call.args call.now) old new result (ApplyDone (holder_of call.caller) old new result)
 MethodDone Confirm call old new result = EndDone (quiet []) (ConfirmsTo old (holder_of call.caller)) old new result
 MethodDone Rollback call old new result = EndDone reloading (RollsBackTo old (holder_of call.caller)) old new result
 
@@ -203,7 +212,8 @@ GrantedDone None method call old new result = MethodDone method call old new res
 -- a session that is no live one goes before that
 abbrev pub AdmittedDone : Bool → Method → Call → Store → Store → Result Reply RpcError → Type 0
 AdmittedDone false method call old new result = IsRefused (Status not_found) old new result
-AdmittedDone true method call old new result = IsRefused Memory old new result ⊎ GrantedDone (missing method call old) method call old new result
+AdmittedDone true method call old new result =
+    IsRefused Memory old new result ⊎ GrantedDone (missing method call old) method call old new result
 
 -- A call, in this order: its method, its session, its grants, its arguments, and what it looks up.
 abbrev pub CallDone : Option Method → Bool → Call → Store → Store → Result Reply RpcError → Type 0
@@ -211,11 +221,13 @@ CallDone None admitted call old new result = IsRefused (Status no_method) old ne
 CallDone (Some method) admitted call old new result = AdmittedDone admitted method call old new result
 
 abbrev pub Answers : SessionList → List ℕ → List Attr → ℕ → Store → Store → Result Reply RpcError → Type 0
-Answers list method args now old new result = CallDone (method_of method) (is_admitted (caller_in args) now list) (call_of list args now) old new result
+Answers list method args now old new result =
+    CallDone (method_of method) (is_admitted (caller_in args) now list) (call_of list args now) old new result
 
 -- the grant that the call is told to lack
 abbrev pub denied : SessionList → List ℕ → List Attr → ℕ → Store → Option Grant
-denied list method args now store = denied_grant (method_of method) (is_admitted (caller_in args) now list) (call_of list args now) store
+denied list method args now store =
+    denied_grant (method_of method) (is_admitted (caller_in args) now list) (call_of list args now) store
 
 -- whether the packages are read anew after it
 abbrev pub reloads : Option Method → Bool
@@ -236,7 +248,8 @@ MethodLeads (Ask question) call old after = ⊥
 MethodLeads (Stage edit) call old after = ⊥
 MethodLeads Revert call old after = ⊥
 MethodLeads Commit call old after = ConfigLeads (config_in call.args) (CommitsTo old (holder_of call.caller)) after
-MethodLeads Apply call old after = DeadlineLeads (apply_deadline call.args call.now) (AppliesTo old (holder_of call.caller)) after
+MethodLeads Apply call old after =
+    DeadlineLeads (apply_deadline call.args call.now) (AppliesTo old (holder_of call.caller)) after
 MethodLeads Confirm call old after = ConfirmsTo old (holder_of call.caller) after
 MethodLeads Rollback call old after = RollsBackTo old (holder_of call.caller) after
 
@@ -254,7 +267,8 @@ CallLeads None admitted call old after = ⊥
 CallLeads (Some method) admitted call old after = AdmittedLeads admitted method call old after
 
 abbrev pub Leads : SessionList → List ℕ → List Attr → ℕ → Store → State → Type 0
-Leads list method args now old after = CallLeads (method_of method) (is_admitted (caller_in args) now list) (call_of list args now) old after
+Leads list method args now old after =
+    CallLeads (method_of method) (is_admitted (caller_in args) now list) (call_of list args now) old after
 
 -- neither did a disk fail, nor was there no memory
 abbrev pub IsGiven : Result Reply RpcError → Type 0

@@ -12,7 +12,8 @@ abbrev pub IsOwn : ℕ → Option ℕ → Type 0
 IsOwn holder None = Unit {0}
 IsOwn holder (Some other) = other ≡ holder
 
--- where a disk failed the count of one of the two rose, and the store refuses calls from then on; else no call has failed
+-- where a disk failed the count of one of the two rose, and the store refuses calls from then on; else no call has
+-- failed
 abbrev pub HasDiskCause : {X : Type 0} → Result X RpcError → Bool → View → View → View → View → Type 0
 HasDiskCause (Ok x) failed files_old files_new staged_old staged_new = failed ≡ false
 HasDiskCause (Err (Status status)) failed files_old files_new staged_old staged_new = failed ≡ false
@@ -25,8 +26,8 @@ HasDiskCause (Err Memory) failed files_old files_new staged_old staged_new = fai
 abbrev pub UnlessFailed : Type 0 → RpcError → Type 0
 UnlessFailed Untouched error = error ≢ DiskFailed → Untouched
 
--- The disks that a method leaves alone, whatever comes of it: a question both; what stages, or drops what is staged, the packages;
--- what ends an apply the staged changes.
+-- The disks that a method leaves alone, whatever comes of it: a question both; what stages, or drops what is staged,
+-- the packages; what ends an apply the staged changes.
 abbrev pub LeavesAlone : Method → Type 0 → Type 0 → Type 0
 LeavesAlone (Ask question) Packages Changes = Packages × Changes
 LeavesAlone (Stage edit) Packages Changes = Packages

@@ -1,5 +1,6 @@
 -- What a call comes to before anything changes.
-use Rattle.std.specs.Prelude.{ℕ, ◌≡◌, List, [], ◌∷◌, Option, Some, None, Result, Ok, Err, Bool, true, false, ◌&&◌, is_some, map, filter, if◌then◌else◌}
+use Rattle.std.specs.Prelude.{ℕ, ◌≡◌, List, [], ◌∷◌, Option, Some, None, Result, Ok, Err, Bool, true, false, ◌&&◌}
+use Rattle.std.specs.Prelude.{is_some, map, filter, if◌then◌else◌}
 use Rattle.blob_codec.specs.declared.blob.Attr.{Attr}
 use Rattle.uci_tree.specs.declared.package.Package.{Package}
 use Rattle.uci_delta.specs.declared.delta.Delta.{Delta}
@@ -20,8 +21,8 @@ use Rattle.rpc_rules.specs.Edits.{planned}
 use Rattle.rpc_uci.specs.Call.{Call}
 use Rattle.rpc_uci.specs.Sight.{deltas_named, are_some, Sees}
 
--- What is seen of the package that the arguments name. Arguments that are missing or of another form go first, and the package is
--- one of them.
+-- What is seen of the package that the arguments name. Arguments that are missing or of another form go first, and the
+-- package is one of them.
 abbrev pub SeesNamed : Store → ℕ → Bool → Option (List ℕ) → Result Package ℕ → Type 0
 SeesNamed store holder false config seen = seen ≡ Err bad_argument
 SeesNamed store holder true None seen = seen ≡ Err bad_argument
@@ -36,7 +37,8 @@ ComesOf store holder fits config next outcome =
 
 -- `get`: the package, the section or the option that is named
 abbrev pub GetComesTo : Store → ℕ → List Attr → Result (List Attr) ℕ → Type 0
-GetComesTo store holder args outcome = ComesOf store holder (question_fits Get args) (config_in args) (get_told args) outcome
+GetComesTo store holder args outcome =
+    ComesOf store holder (question_fits Get args) (config_in args) (get_told args) outcome
 
 -- what is staged of a package
 abbrev pub changes_of : Store → ℕ → List ℕ → Attr
@@ -54,13 +56,15 @@ package_told name deltas = if are_some deltas then package_changes name deltas �
 -- `changes`: of the package that is named, or of all that may be read; one of which nothing is staged is left out
 abbrev pub changes_asked : Store → Call → Option (List ℕ) → Result (List Attr) ℕ
 changes_asked store call None =
-    Ok (changes_told (map (changes_of store (holder_of call.caller)) (filter (is_told store call.list call.caller call.now) (names_of store))))
+    Ok (changes_told (map (changes_of store (holder_of call.caller))
+    (filter (is_told store call.list call.caller call.now) (names_of store))))
 changes_asked store call (Some name) =
     if is_some (file_of (names_of store) name)
     then Ok (changes_told (package_told name (deltas_named (holder_of call.caller) store name))) else Err not_found
 
 abbrev pub changes_outcome : Store → Call → Result (List Attr) ℕ
-changes_outcome store call = if question_fits Changes call.args then changes_asked store call (config_in call.args) else Err bad_argument
+changes_outcome store call = if question_fits Changes call.args then changes_asked store call (config_in call.args)
+    else Err bad_argument
 
 abbrev pub AskComesTo : Question → Store → Call → Result (List Attr) ℕ → Type 0
 AskComesTo Configs store call outcome = outcome ≡ Ok (configs_told (names_of store))
@@ -76,4 +80,5 @@ planned_of edit (Some name) args tree = planned edit name args tree
 
 -- what a method is to stage
 abbrev pub EditComesTo : Edit → Store → ℕ → List Attr → Result Plan ℕ → Type 0
-EditComesTo edit store holder args outcome = ComesOf store holder (edit_fits edit args) (config_in args) (planned_of edit (config_in args) args) outcome
+EditComesTo edit store holder args outcome =
+    ComesOf store holder (edit_fits edit args) (config_in args) (planned_of edit (config_in args) args) outcome

@@ -1,8 +1,10 @@
 -- How refusals of a store are told.
 use Rattle.snap_disk.specs.declared.snap_error.SnapError.{SnapError}
-use Rattle.snap_disk.specs.declared.snap_error.SnapError.TheVariants.{DiskFailed as SnapFailed, Waiting, NothingWaits, BadSnapshot, Reopen, Limit, Memory as SnapMemory}
+use Rattle.snap_disk.specs.declared.snap_error.SnapError.TheVariants.{DiskFailed as SnapFailed, Waiting, NothingWaits}
+use Rattle.snap_disk.specs.declared.snap_error.SnapError.TheVariants.{BadSnapshot, Reopen, Limit, Memory as SnapMemory}
 use Rattle.uci_store.specs.declared.store_error.StoreError.{StoreError}
-use Rattle.uci_store.specs.declared.store_error.StoreError.TheVariants.{Snap, NoPackage, Parse, Delta, TooLarge, NotHolder, NothingStaged, Memory as StoreMemory}
+use Rattle.uci_store.specs.declared.store_error.StoreError.TheVariants.{Snap, NoPackage, Parse, Delta, TooLarge}
+use Rattle.uci_store.specs.declared.store_error.StoreError.TheVariants.{NotHolder, NothingStaged, Memory as StoreMemory}
 use Rattle.rpc_rules.specs.declared.rpc_error.RpcError.{RpcError}
 use Rattle.rpc_rules.specs.declared.rpc_error.RpcError.TheVariants.{Status, DiskFailed, Memory}
 use Rattle.rpc_rules.specs.Status.{bad_argument, not_found, no_data, unknown_error, error_of}

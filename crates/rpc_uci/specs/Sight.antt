@@ -1,5 +1,6 @@
 -- What a call sees of packages.
-use Rattle.std.specs.Prelude.{ℕ, ◌≡◌, ◌⊎◌, List, [], ◌∷◌, Option, Some, None, Result, Ok, Err, Bool, true, false, filter}
+use Rattle.std.specs.Prelude.{ℕ, ◌≡◌, ◌⊎◌, List, [], ◌∷◌, Option, Some, None, Result, Ok, Err, Bool, true, false}
+use Rattle.std.specs.Prelude.{filter}
 use Rattle.uci_tree.specs.declared.package.Package.{Package}
 use Rattle.uci_tree.specs.declared.tree_error.TreeError.{TreeError}
 use Rattle.uci_delta.specs.declared.delta.Delta.{Delta}
@@ -28,7 +29,8 @@ staged_names holder store = filter (λ name. are_some (deltas_named holder store
 -- why a package is not seen: no file has its name, or its file does not read
 abbrev pub IsUnseen : Store → List ℕ → ℕ → Type 0
 IsUnseen store name status =
-    (HasNoFile store name × (status ≡ not_found)) ⊎ ((error : TreeError) × DoesNotRead store name error × (status ≡ bad_argument))
+    (HasNoFile store name × (status ≡ not_found)) ⊎
+    ((error : TreeError) × DoesNotRead store name error × (status ≡ bad_argument))
 
 -- what the holder sees of the package of a name, or the status of a call that asks for it
 abbrev pub Sees : Store → ℕ → List ℕ → Result Package ℕ → Type 0

@@ -13,7 +13,8 @@ use Rattle.rpc_rules.specs.declared.rpc_error.RpcError.TheVariants.{Status, Deni
 -- the package takes the deltas one after another, all of them deltas of that name
 abbrev pub TakesAll : List ℕ → Package → List Delta → Type 0
 TakesAll name tree [] = Unit {0}
-TakesAll name tree (delta ∷ deltas) = (delta.package ≡ name) × ((next : Package) × (applied tree delta ≡ Ok next) × TakesAll name next deltas)
+TakesAll name tree (delta ∷ deltas) = (delta.package ≡ name)
+    × ((next : Package) × (applied tree delta ≡ Ok next) × TakesAll name next deltas)
 
 -- what the holder sees of the package of that name takes them
 pub record IsStageable (store : Store) (holder : ℕ) (name : List ℕ) (deltas : List Delta) : Type 0 where

@@ -49,7 +49,7 @@ pub(crate) fn ask(
 }
 
 /// The package, the section or the option that is named.
-#[tactic(auto, using(crate::proofs::SightLemmas::comes_of, crate::proofs::SightLemmas::refused_of, crate::proofs::SightLemmas::unseen_of))]
+#[tactic(auto, using(crate::proofs::SightLemmas::sight_of))]
 fn get(alloc: Global, store: &Store, holder: u128, args: &[Attr]) -> Result<Items<Attr>, RpcError>
     requires { IsStore store.now }
     ensures told { IfOk result (λ told. spec.GetComesTo store.now holder args.now (Ok told)) }
@@ -67,7 +67,8 @@ fn get(alloc: Global, store: &Store, holder: u128, args: &[Attr]) -> Result<Item
     }
 }
 
-/// What is staged of the package that is named, or of all that may be read. One of which nothing is staged is left out.
+/// What is staged of the package that is named, or of all that may be read. One of which nothing is
+/// staged is left out.
 fn changes(
     alloc: Global,
     sessions: &Sessions,

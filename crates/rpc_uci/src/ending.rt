@@ -2,7 +2,8 @@
 ghost use Rattle.std.specs.Prelude.{◌≡◌, ◌≢◌, None, false, [], IfErr};
 ghost use Rattle.snap_disk.specs.Images.{SameDisk};
 ghost use Rattle.uci_staged.specs.Kept.{Follows};
-ghost use Rattle.uci_store.specs.Store.{names_of, snap_of, staged_in, has_failed, IsOnFiles, IsOnStaged};
+ghost use Rattle.uci_store.specs.Store.{names_of, snap_of, staged_in, has_failed, IsOnFiles};
+ghost use Rattle.uci_store.specs.Store.{IsOnStaged};
 ghost use Rattle.uci_store.specs.Stops.{StopLeaves};
 ghost use Rattle.uci_store.specs.Committing.{CommitsTo};
 ghost use Rattle.uci_store.specs.Applying.{AppliesTo};
@@ -24,7 +25,7 @@ use uci_store::Store;
 use uci_tree::Path;
 
 /// Drops what the holder has staged of the package that is named.
-#[tactic(auto, using(crate::proofs::EndingLemmas::revert_refused, crate::proofs::EndingLemmas::told_unless_failed, crate::proofs::EndingLemmas::with_config, crate::proofs::EndingLemmas::without_config))]
+#[tactic(auto, using(crate::proofs::EndingLemmas::reverting))]
 pub(crate) fn revert<T: Disk>(
     alloc: Global,
     store: &mut Store,
@@ -59,7 +60,7 @@ pub(crate) fn revert<T: Disk>(
 }
 
 /// Writes the package that is named as the holder sees it.
-#[tactic(auto, using(crate::proofs::EndingLemmas::commit_refused, crate::proofs::EndingLemmas::told_unless_failed, crate::proofs::EndingLemmas::with_config, crate::proofs::EndingLemmas::without_config))]
+#[tactic(auto, using(crate::proofs::EndingLemmas::committing))]
 pub(crate) fn commit<D: Disk, T: Disk>(
     alloc: Global,
     store: &mut Store,
@@ -97,7 +98,7 @@ pub(crate) fn commit<D: Disk, T: Disk>(
 }
 
 /// Writes all that the holder has staged, and lets it wait where the arguments say so.
-#[tactic(auto, using(crate::proofs::EndingLemmas::apply_refused, crate::proofs::EndingLemmas::told_unless_failed, crate::proofs::EndingLemmas::with_deadline, crate::proofs::EndingLemmas::without_deadline, crate::proofs::EndingLemmas::no_disk_failed))]
+#[tactic(auto, using(crate::proofs::EndingLemmas::applying))]
 pub(crate) fn apply<D: Disk, T: Disk>(
     alloc: Global,
     store: &mut Store,

@@ -8,18 +8,23 @@ ghost use Rattle.rpc_uci.specs.declared.reply.Reply.{Reply as Told};
 ghost use Rattle.uci_store.specs.Store.{IsStore};
 ghost use Rattle.rpc_uci.specs.Done.{Answers, IsGiven, Rests};
 
-/// A call has at most one answer, where no disk fails and there is memory. So each answer comes exactly where its cause holds.
+/// A call has at most one answer, where no disk fails and there is memory. So each answer comes
+/// exactly where its cause holds.
 pub fn one_answer()
-    ensures { (list : SessionList) (method : List ℕ) (args : List Attr) (now : ℕ) (store one other : Store)
+    ensures { (list : SessionList) (method : List ℕ) (args : List Attr) (now : ℕ)
+        (store one other : Store)
         (result again : Result Told Error) → Answers list method args now store one result →
         Answers list method args now store other again → IsGiven result → IsGiven again →
         again ≡ result }
 {}
 
-/// And what it leaves of a store that was opened is one state: the files, what waits and all that is staged.
+/// And what it leaves of a store that was opened is one state: the files, what waits and all that
+/// is staged.
 pub fn one_state()
-    ensures { (list : SessionList) (method : List ℕ) (args : List Attr) (now : ℕ) (store one other : Store)
-        (result again : Result Told Error) → IsStore store → Answers list method args now store one result →
+    ensures { (list : SessionList) (method : List ℕ) (args : List Attr) (now : ℕ)
+        (store one other : Store)
+        (result again : Result Told Error) → IsStore store
+        → Answers list method args now store one result →
         Answers list method args now store other again → IsGiven result → IsGiven again →
         Rests one other }
 {}

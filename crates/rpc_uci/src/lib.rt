@@ -1,5 +1,6 @@
-//! The object `uci` of the message bus, as OpenWrt's rpcd has it: packages are read, staged, applied, confirmed and rolled back by
-//! sessions with grants for each package, and an apply that waits is its holder's alone to confirm or to undo.
+//! The object `uci` of the message bus, as OpenWrt's rpcd has it: packages are read, staged,
+//! applied, confirmed and rolled back by sessions with grants for each package, and an apply that
+//! waits is its holder's alone to confirm or to undo.
 #![tactic(auto)]
 
 mod asking;

@@ -29,7 +29,7 @@ fn see(alloc: Global, store: &Store, holder: u128, name: &[u8]) -> Result<Packag
 }
 
 /// The package that the arguments name as the holder sees it, where they are of their form.
-#[tactic(auto, using(crate::proofs::SightLemmas::sees_named, crate::proofs::SightLemmas::sees_unfit, crate::proofs::SightLemmas::sees_unnamed, crate::proofs::SightLemmas::unseen_named))]
+#[tactic(auto, using(crate::proofs::SightLemmas::seen_by_name))]
 pub(crate) fn see_named(
     alloc: Global,
     store: &Store,
@@ -56,7 +56,7 @@ pub(crate) fn see_named(
 }
 
 /// What the holder has staged of the package of that name: nothing where there is no such package.
-#[tactic(auto, using(crate::proofs::SightLemmas::changes_named, crate::proofs::SightLemmas::none_named))]
+#[tactic(auto, using(crate::proofs::SightLemmas::changes_by_name))]
 pub(crate) fn deltas_named(
     alloc: Global,
     store: &Store,

@@ -8,7 +8,8 @@ ghost use Rattle.rpc_rules.specs.Method.{method_of};
 ghost use Rattle.rpc_rules.specs.Arguments.{caller_in, holder_of};
 ghost use Rattle.rpc_rules.specs.Grants.{is_admitted};
 ghost use Rattle.rpc_uci.specs.Sight.{staged_names as names_staged};
-ghost use Rattle.rpc_uci.specs.Call.{call_by, missing as missing_of, renewed, waiting_in as waiting_of};
+ghost use Rattle.rpc_uci.specs.Call.{call_by, missing as missing_of, renewed};
+ghost use Rattle.rpc_uci.specs.Call.{waiting_in as waiting_of};
 ghost use Rattle.rpc_uci.specs.Done as spec;
 ghost use Rattle.rpc_uci.specs.Ending.{HasDiskCause, UnlessFailed, LeavesAlone, CallLeavesAlone};
 
@@ -28,19 +29,22 @@ use uci_store::Store;
 
 /// Carries out a call of the object `uci`, and gives its answer.
 ///
-/// The methods are `configs`, `get`, `add`, `set`, `delete`, `rename`, `order`, `changes`, `revert`, `commit`, `apply`, `confirm` and
-/// `rollback`. The session that the argument `ubus_rpc_session` names holds the staged changes; without it they are the command
-/// line's, and no grant of a package is asked. A live session that is named is renewed, whatever the method is and whether it is
-/// refused.
+/// The methods are `configs`, `get`, `add`, `set`, `delete`, `rename`, `order`, `changes`,
+/// `revert`, `commit`, `apply`, `confirm` and `rollback`. The session that the argument
+/// `ubus_rpc_session` names holds the staged changes; without it they are the command line's, and
+/// no grant of a package is asked. A live session that is named is renewed, whatever the method is
+/// and whether it is refused.
 ///
 /// # Errors
 ///
-/// In this order: `Status` 3 where there is no such method; `Status` 4 where no live session has the id that is named; `Denied`
-/// exactly where a grant is missing, with the first one that is; `Status` 2 where an argument is missing or of another form; `Status`
-/// 4 where a package, a section or an option that is named is not there; `Status` 2 where a package does not read or does not take a
-/// change, 5 where nothing is staged or nothing waits, 9 where a package is too large for its file. `DiskFailed` only where a disk
-/// failed, and `Memory`. None of the changes of a call is staged where it is refused, in whatever way; after a disk failed the new
-/// files of a `commit` or an `apply` may be written.
+/// In this order: `Status` 3 where there is no such method; `Status` 4 where no live session has
+/// the id that is named; `Denied` exactly where a grant is missing, with the first one that is;
+/// `Status` 2 where an argument is missing or of another form; `Status` 4 where a package, a
+/// section or an option that is named is not there; `Status` 2 where a package does not read or
+/// does not take a change, 5 where nothing is staged or nothing waits, 9 where a package is too
+/// large for its file. `DiskFailed` only where a disk failed, and `Memory`. None of the changes of
+/// a call is staged where it is refused, in whatever way; after a disk failed the new files of a
+/// `commit` or an `apply` may be written.
 pub fn serve<D: Disk, T: Disk>(
     alloc: Global,
     sessions: &mut Sessions,
@@ -211,7 +215,8 @@ fn carry_out<D: Disk, T: Disk>(
     requires files { IsOnFiles store.old (D.view files.old) }
     requires staged { IsOnStaged store.old (T.view staged.old) }
     requires ready { has_failed store.old ≡ false }
-    requires granted { missing_of method (call_by sessions.now caller args.now now) store.old ≡ None }
+    requires granted { missing_of method (call_by sessions.now caller args.now now) store.old
+        ≡ None }
     ensures same { SameDisk (D.view files.old) (D.view files.new) }
     ensures follows { Follows (T.view staged.old) (T.view staged.new) }
     ensures aside { holder_of caller ≢ 0 → staged.new ≡ staged.old }

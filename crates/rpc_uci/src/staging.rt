@@ -1,7 +1,8 @@
 //! Changes that calls stage: tried on the view first, and staged at once where none is refused.
 ghost use Rattle.std.specs.Prelude.{◌≡◌, ◌≢◌, Some, Ok, Err, false, IfOk, IfErr, OnOk, OnErr};
 ghost use Rattle.uci_staged.specs.Kept.{Follows};
-ghost use Rattle.uci_store.specs.Store.{names_of, snap_of, staged_in, has_failed, IsStore, IsOnStaged};
+ghost use Rattle.uci_store.specs.Store.{names_of, snap_of, staged_in, has_failed, IsStore};
+ghost use Rattle.uci_store.specs.Store.{IsOnStaged};
 ghost use Rattle.rpc_rules.specs.Arguments.{config_in as config_of, holder_of};
 ghost use Rattle.rpc_uci.specs.Outcome.{EditComesTo};
 ghost use Rattle.rpc_uci.specs.Done as spec;
@@ -20,7 +21,7 @@ use uci_delta::Delta;
 use uci_store::Store;
 
 /// Carries out a method that stages changes of a package.
-#[tactic(auto, using(crate::proofs::StagingLemmas::edit_is_staged, crate::proofs::StagingLemmas::edit_is_cut, crate::proofs::StagingLemmas::edit_is_refused, crate::proofs::StagingLemmas::edit_is_unnamed))]
+#[tactic(auto, using(crate::proofs::StagingLemmas::edits))]
 pub(crate) fn stage_edit<T: Disk>(
     alloc: Global,
     store: &mut Store,
@@ -56,7 +57,7 @@ pub(crate) fn stage_edit<T: Disk>(
 }
 
 /// What the method is to stage of the package that the arguments name.
-#[tactic(auto, using(crate::proofs::SightLemmas::comes_of, crate::proofs::SightLemmas::refused_of, crate::proofs::SightLemmas::unseen_of))]
+#[tactic(auto, using(crate::proofs::SightLemmas::sight_of))]
 fn plan_edit(
     alloc: Global,
     store: &Store,
@@ -82,7 +83,7 @@ fn plan_edit(
 }
 
 /// Stages changes of a package at once, which the holder's view takes one after another.
-#[tactic(auto, using(crate::proofs::StagingLemmas::none_staged, crate::proofs::EndingLemmas::told_unless_failed))]
+#[tactic(auto, using(crate::proofs::StagingLemmas::staged_or_told))]
 fn stage_all<T: Disk>(
     alloc: Global,
     store: &mut Store,

@@ -42,7 +42,8 @@ some_digit text numeral =
 pub numeral_is_utf8 : (text : List ℕ) → is_numeral text ≡ true → IsUtf8 text
 numeral_is_utf8 text numeral = IsUtf8-from_ascii text (IsAscii-from_digits text (own.to text (digits_in text numeral)))
 
-too_long : {E : Type 0} (text : List ℕ) (r : Result ℕ E) → is_numeral text ≡ true → ParsesUnsigned 64 10 text r → ((n : ℕ) → r ≡ Ok n → ⊥) → (nat_lt (digits_value 10 text) 18446744073709551616 ≡ true) ⊎ (nat_lt (digits_value 10 text) 18446744073709551616 ≡ false) → None ≡ of_64_bits (digits_value 10 text)
+too_long : {E : Type 0} (text : List ℕ) (r : Result ℕ E) → is_numeral text ≡ true → ParsesUnsigned 64 10 text r → ((n : ℕ) → r ≡ Ok n → ⊥)
+    → (nat_lt (digits_value 10 text) 18446744073709551616 ≡ true) ⊎ (nat_lt (digits_value 10 text) 18446744073709551616 ≡ false) → None ≡ of_64_bits (digits_value 10 text)
 too_long text r numeral parses bad (inl fits) = absurd (bad (digits_value 10 text) (parse_gives own 64 text r parses (digits_in text numeral) (some_digit text numeral) (ltb-true (digits_value 10 text) 18446744073709551616 fits)))
 too_long text r numeral parses bad (inr long) = rw long refl
 

@@ -1,4 +1,5 @@
-//! The lines of a script: what each asks for, and the texts of errors and statuses that are printed for it.
+//! The lines of a script: what each asks for, and the texts of errors and statuses that are printed
+//! for it.
 #![tactic(auto)]
 
 mod arguments;

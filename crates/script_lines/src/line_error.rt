@@ -58,7 +58,8 @@ pub enum LineError {
     WrongPorts { wanted: u64 },
     /// A list is longer than this number allows.
     Limit { number: u64 },
-    /// The words are in no row of the table of lines, or an argument is of no such form. It is this line of the script.
+    /// The words are in no row of the table of lines, or an argument is of no such form. It is this
+    /// line of the script.
     BadLine { line: u32 },
     /// No radio has that name.
     NoRadio,

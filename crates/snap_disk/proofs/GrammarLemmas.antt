@@ -1,5 +1,6 @@
 -- The reading of a body is what its grammar says.
-use Rattle.std.proofs.Common.{◌≡◌, ◌≢◌, ◌<◌, ◌≤◌, ◌⊎◌, inl, inr, ⊎_elim, ℕ, zero, suc, ◌+◌, ◌-◌, ◌||◌, List, [], ◌∷◌, ◌++◌, length, length-append, length-take, length-drop, take, drop, Bool, true, false, nat_eq, nat_lt, Option, Some, None, Result, Ok, Err, refl, sym, ◌∙◌, ap, subst, arith}
+use Rattle.std.proofs.Common.{◌≡◌, ◌≢◌, ◌<◌, ◌≤◌, ◌⊎◌, inl, inr, ⊎_elim, ℕ, zero, suc, ◌+◌, ◌-◌, ◌||◌, List, [], ◌∷◌, ◌++◌, length, length-append, length-take, length-drop, take, drop, Bool, true, false, nat_eq, nat_lt, Option, Some, None}
+use Rattle.std.proofs.Common.{Result, Ok, Err, refl, sym, ◌∙◌, ap, subst, arith}
 use Rattle.std.specs.Prelude.{if◌then◌else◌}
 use Rattle.std.specs.Int.{w32, w64, w128, from_be_bytes}
 use Rattle.std.specs.Cmp.Lexicographic.{pointwise, bytes_decides}
@@ -118,7 +119,8 @@ file_reads names are before place front rest file s =
     ∙ ap (λ (n : ℕ). Ok (file, n)) (file_long names before front file s)
 
 -- a file that is wrong
-known_refuses : (names : List (List ℕ)) → AreDiskNames names → (before : List NewFile) (name : List ℕ) (named place : ℕ) (tail : List ℕ) → ((file : ℕ) → IsNameOf names name file → Stands before file) → known (number_of names name) before named place tail ≡ Err place
+known_refuses : (names : List (List ℕ)) → AreDiskNames names → (before : List NewFile) (name : List ℕ) (named place : ℕ) (tail : List ℕ) → ((file : ℕ) → IsNameOf names name file → Stands before file)
+    → known (number_of names name) before named place tail ≡ Err place
 known_refuses names are before name named place tail wrong = ⊎_elim
     (λ found. ap (λ (o : Option ℕ). known o before named place tail) (found_name names are name found.0 found.1)
     ∙ then_of _ _ _ (⊎_elim (λ s. s.1) (λ s. absurd (s.0 (wrong found.0 found.1))) (stands_test before found.0)))

@@ -55,7 +55,8 @@ load_later old mid new Memory quiet h = h
 -- ---- the packages
 
 -- one package more
-pub package_read : (packages pushed : Files) (bytes : List ℕ) (file : ℕ) (files : Files) → pushed ≡ packages ++ bytes ∷ [] → file ≡ length packages + 2 → file < length files → packages ≡ take (file - 2) (drop 2 files) → bytes ≡ bytes_of files file
+pub package_read : (packages pushed : Files) (bytes : List ℕ) (file : ℕ) (files : Files) → pushed ≡ packages ++ bytes ∷ [] → file ≡ length packages + 2 → file < length files → packages ≡ take (file - 2) (drop 2 files) → bytes
+    ≡ bytes_of files file
     → pushed ≡ take (file + 1 - 2) (drop 2 files)
 package_read packages pushed bytes file files pushes long within so_far is =
     let i = file - 2 in
@@ -76,7 +77,8 @@ small_push packages pushed bytes pushes small little k = subst (λ (l : Files). 
     by (x ∷ l) (suc j) h = by l j (λ i. h (suc i))
 
 -- what is read is the layout
-pub layout_read : (view : View) → IsSound view → 2 ≤ length view.names → (files : Files) → view.seen ≡ Some files → (gate second : ℕ) (body : List ℕ) (packages : Files) → bytes_of files 0 ≡ gate ∷ second ∷ [] → body ≡ bytes_of files 1 → packages ≡ drop 2 files
+pub layout_read : (view : View) → IsSound view → 2 ≤ length view.names → (files : Files) → view.seen ≡ Some files → (gate second : ℕ) (body : List ℕ) (packages : Files) → bytes_of files 0 ≡ gate ∷ second ∷ [] → body ≡ bytes_of files 1
+    → packages ≡ drop 2 files
     → files ≡ (gate ∷ second ∷ []) ∷ body ∷ packages
 layout_read view sound some files seen gate second body packages gates b ps = by files (told (λ f. length f ≡ length view.names) view.seen files sound.counted seen) gates b ps
   where
@@ -102,7 +104,8 @@ opens_behind snap old new l r may done phase count within none on shows =
       | inr was ↦ (done l, phase.ends l (on was.0 was.1), subst (λ (n : List (List ℕ)). Shows n snap (done l)) (sym phase.names) shows)
     ])
 
-pub rested_shows : (names : List (List ℕ)) (after : Snap) (files seen : List NewFile) (ps : Files) (m : Layout) → m.gate ≡ 0 → m.packages ≡ put seen ps → seen ≡ files → after.packages.items ≡ put files ps → after.kept ≡ None → Shows names after m
+pub rested_shows : (names : List (List ℕ)) (after : Snap) (files seen : List NewFile) (ps : Files) (m : Layout) → m.gate ≡ 0 → m.packages ≡ put seen ps → seen ≡ files → after.packages.items ≡ put files ps → after.kept ≡ None
+    → Shows names after m
 rested_shows names after files seen ps m shut puts same is none = record {
   packages = puts ∙ ap (λ (f : List NewFile). put f ps) same ∙ sym is;
   waits = subst (λ (k : Option Kept). WaitsAs names k m) (sym none) (omega (arith, shut));
@@ -116,7 +119,8 @@ from_state : (names : List (List ℕ)) (now : ℕ) (s : State) (c other : Files)
 from_state names now s c other same opens = record { from = λ m le. opens.at m ∙ same m le; within = λ w. opens.within }
 
 -- behind the deadline an apply that waits opens as one that is rolled back
-pub overdue : (names : List (List ℕ)) (now : ℕ) (kept : Kept) (l : Layout) → IsWaiting names kept l → IsWithin l.packages → kept.pending.deadline ≤ now → (m : ℕ) → now ≤ m → opened names (files_of l) m ≡ Ok (durable (settled (put kept.files l.packages)) m)
+pub overdue : (names : List (List ℕ)) (now : ℕ) (kept : Kept) (l : Layout) → IsWaiting names kept l → IsWithin l.packages → kept.pending.deadline ≤ now → (m : ℕ) → now ≤ m → opened names (files_of l) m
+    ≡ Ok (durable (settled (put kept.files l.packages)) m)
 overdue names now kept l is within over_now m le = (waiting_opens names kept l is within).at m ∙ ap (λ (f : Found). Ok f) late
   where
     late : durable (over l.packages kept) m ≡ durable (settled (put kept.files l.packages)) m
@@ -130,7 +134,8 @@ restored_images now kept seen l old new r done phase same on is within f told_se
     (λ m le. sym ((restoring_opens old.names kept l is within).at m ∙ ap (λ (n : List NewFile). Ok (durable (settled (put n l.packages)) m)) (sym same))) (restores kept is (sym same) within))
 
 pub undone_images : {T E : Type 0} (now : ℕ) (kept : Kept) (seen : List NewFile) (l : Layout) (old new : View) (r : Result T E) (done : Layout → Layout) → Phase old new r (Undoes old.names seen) done → seen ≡ kept.files
-    → ((files : Files) → old.seen ≡ Some files → IsOn old (files_of l)) → IsWaiting old.names kept l → IsWithin l.packages → kept.pending.deadline ≤ now → (files : Files) → old.seen ≡ Some files → LeavesOnly old new (λ c. OpensFrom old.names now c (files_of l))
+    → ((files : Files) → old.seen ≡ Some files → IsOn old (files_of l)) → IsWaiting old.names kept l → IsWithin l.packages → kept.pending.deadline ≤ now → (files : Files) → old.seen ≡ Some files
+    → LeavesOnly old new (λ c. OpensFrom old.names now c (files_of l))
 undone_images now kept seen l old new r done phase same on is within over_now f told_seen =
     widens old new (Undoes old.names seen l) (λ c. OpensFrom old.names now c (files_of l)) (phase.images l (on f told_seen)) (λ c undoes. ⊎_elim
     (from_state old.names now (over l.packages kept) c (files_of l) (λ m le. sym ((waiting_opens old.names kept l is within).at m)))
@@ -164,7 +169,8 @@ opened_giving names f was now state same within settles = subst (λ (d : Files).
 pub image_since : (old new : View) (P : Files → Type 0) → LeavesOnly old new P → IsSound new → (c : Files) → new.is_image c → P c
 image_since old new P run sound c left = run.each c (sound.wider old.moment new.moment c run.later (sound.now_counts c left))
 
-pub after_since : (now : ℕ) (names : List (List ℕ)) (behind new : View) (f was : Files) → behind.names ≡ names → f ≡ was → LeavesOnly behind new (λ c. OpensFrom behind.names now c was) → IsSound new → (c : Files) → new.is_image c → OpensFrom names now c f
+pub after_since : (now : ℕ) (names : List (List ℕ)) (behind new : View) (f was : Files) → behind.names ≡ names → f ≡ was → LeavesOnly behind new (λ c. OpensFrom behind.names now c was) → IsSound new → (c : Files) → new.is_image c
+    → OpensFrom names now c f
 after_since now names behind new f was named same acts sound c left =
     subst (λ (n : List (List ℕ)). OpensFrom n now c f) named (subst (λ (d : Files). OpensFrom behind.names now c d) (sym same) (image_since behind new (λ i. OpensFrom behind.names now i was) acts sound c left))
 

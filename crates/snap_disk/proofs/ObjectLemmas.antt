@@ -18,7 +18,8 @@ use Rattle.snap_disk.proofs.PutLemmas.{put_beside, within_beside, length-put}
 use Rattle.snap_disk.proofs.OpeningLemmas.{shut_opens, waiting_opens, opens_by}
 
 -- a layout that shows an object opens as its state
-shows_opens : (names : List (List ℕ)) (packages : Files) (kept : Option Kept) (l : Layout) → l.packages ≡ packages → WaitsAs names kept l → IsWithin packages → OpensAs names (record { packages = packages; waits = waits_of kept packages }) (files_of l)
+shows_opens : (names : List (List ℕ)) (packages : Files) (kept : Option Kept) (l : Layout) → l.packages ≡ packages → WaitsAs names kept l → IsWithin packages
+    → OpensAs names (record { packages = packages; waits = waits_of kept packages }) (files_of l)
 shows_opens names packages None l same waits within = subst (λ (t : Files). OpensAs names (settled t) (files_of l)) same (shut_opens names l waits (subst IsWithin (sym same) within))
 shows_opens names packages (Some kept) l same waits within = subst (λ (t : Files). OpensAs names (over t kept) (files_of l)) same (waiting_opens names kept l waits (subst IsWithin (sym same) within))
 
@@ -52,10 +53,12 @@ images_of_phase snap old new r may done P phase is_open step ready f seen =
     widens old new (may w.0) P (phase.images w.0 w.1) (λ c m. step w.0 c w.2 m)
 
 -- a body and files that were read from where they are kept
-pub staged_seen : (names : List (List ℕ)) (snap : Snap) (kept : Kept) (text seen_text : List ℕ) (new seen_new : List NewFile) → seen_text ≡ text → seen_new ≡ new → IsStaged names text new snap kept → IsStaged names seen_text seen_new snap kept
+pub staged_seen : (names : List (List ℕ)) (snap : Snap) (kept : Kept) (text seen_text : List ℕ) (new seen_new : List NewFile) → seen_text ≡ text → seen_new ≡ new → IsStaged names text new snap kept
+    → IsStaged names seen_text seen_new snap kept
 staged_seen names snap kept text seen_text new seen_new t n staged = subst (λ (x : List ℕ). IsStaged names x seen_new snap kept) (sym t) (subst (λ (x : List NewFile). IsStaged names text x snap kept) (sym n) staged)
 
-is_ready : (names : List (List ℕ)) (snap : Snap) (kept : Kept) (text : List ℕ) (new : List NewFile) → snap.kept ≡ None → IsWithin snap.packages.items → IsStaged names text new snap kept → (l : Layout) → Shows names snap l → IsReady names text new kept l
+is_ready : (names : List (List ℕ)) (snap : Snap) (kept : Kept) (text : List ℕ) (new : List NewFile) → snap.kept ≡ None → IsWithin snap.packages.items → IsStaged names text new snap kept → (l : Layout) → Shows names snap l
+    → IsReady names text new kept l
 is_ready names snap kept text new none within staged l shows = record {
   gate = subst (λ (k : Option Kept). WaitsAs names k l) none shows.waits;
   reads = staged.reads;
@@ -94,7 +97,8 @@ applied_state count new kept pending ps qs are back until is =
     let old : put kept.files qs ≡ ps = ap (put kept.files) is ∙ back (put new ps) (put_beside count new ps are) in
     λ i. record { packages = is i; waits = Some (record { pending = until i; before = old i }) }
 
-pub apply_shows : (names : List (List ℕ)) (snap after : Snap) (kept : Kept) (text : List ℕ) (new seen : List NewFile) → seen ≡ new → after.packages.items ≡ put new snap.packages.items → after.kept ≡ Some kept → read_body names text ≡ Ok kept
+pub apply_shows : (names : List (List ℕ)) (snap after : Snap) (kept : Kept) (text : List ℕ) (new seen : List NewFile) → seen ≡ new → after.packages.items ≡ put new snap.packages.items → after.kept ≡ Some kept → read_body names text
+    ≡ Ok kept
     → (l : Layout) → Shows names snap l → Shows names after (record { gate = 79; second_gate = 79; body = text; packages = put seen l.packages })
 apply_shows names snap after kept text new seen same is some reads l shows = record {
   packages = (λ i. put (same i) (shows.packages i)) ∙ sym is;
@@ -131,7 +135,8 @@ pub rolled_packages : (snap after : Snap) (kept : Kept) → snap.kept ≡ Some k
 rolled_packages snap after kept some is = ap (λ (s : State). s.packages) is ∙ ap (λ (k : Option Kept). before (waits_of k snap.packages.items) snap.packages.items) some
 
 -- a confirm
-pub confirm_images : (names : List (List ℕ)) (snap : Snap) (kept : Kept) → snap.kept ≡ Some kept → IsWithin snap.packages.items → (l : Layout) (c : Files) → Shows names snap l → AnyGate l c → OpensAsEither names (state_of snap) (confirmed (state_of snap)) c
+pub confirm_images : (names : List (List ℕ)) (snap : Snap) (kept : Kept) → snap.kept ≡ Some kept → IsWithin snap.packages.items → (l : Layout) (c : Files) → Shows names snap l → AnyGate l c
+    → OpensAsEither names (state_of snap) (confirmed (state_of snap)) c
 confirm_images names snap kept some within l c shows any =
     let is = waiting_shown names snap kept l some shows in
     let ps = snap.packages.items in

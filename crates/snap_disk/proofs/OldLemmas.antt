@@ -54,7 +54,8 @@ put_of ps (x ∷ files) are =
     ap (put files) same ∙ put_of ps files are.1
 
 -- the old files, from a place of the packages on
-old_step : (new : List NewFile) (file : ℕ) (bytes : List ℕ) (ps : Files) (P : List NewFile → Type 0) → P (record { file = file; bytes = bytes } ∷ old_files new (file + 1) ps) → P (old_files new (file + 1) ps) → P (old_files new file (bytes ∷ ps))
+old_step : (new : List NewFile) (file : ℕ) (bytes : List ℕ) (ps : Files) (P : List NewFile → Type 0) → P (record { file = file; bytes = bytes } ∷ old_files new (file + 1) ps) → P (old_files new (file + 1) ps)
+    → P (old_files new file (bytes ∷ ps))
 old_step new file bytes ps P has lacks = by_case (has_number new file) refl
   where
     by_case : (b : Bool) → has_number new file ≡ b → P (old_files new file (bytes ∷ ps))

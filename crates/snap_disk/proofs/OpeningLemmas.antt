@@ -49,7 +49,8 @@ gate_torn names kept l second body within c any = elim (cases_eq any.0 79) [
 pub restores_packages : (names : List (List ℕ)) (files : List NewFile) (l : Layout) (c : Files) → AnyPackages files l c → Restores names files l c
 restores_packages names files l c any kept is same within =
     let here : put kept.files any.0 ≡ put files l.packages = ap (λ (f : List NewFile). put f any.0) same ∙ put_again files l.packages any.0 any.2 in
-    same_rest names _ _ c here (opens_by names _ c _ any.1 (restoring_opens names kept (record l { packages = any.0 }) (record { gate = is.gate; second_gate = is.second_gate; body = is.body }) (within_beside files l.packages any.0 within any.2)))
+    same_rest names _ _ c here (opens_by names _ c _ any.1 (restoring_opens names kept (record l { packages = any.0 }) (record { gate = is.gate; second_gate = is.second_gate; body = is.body })
+    (within_beside files l.packages any.0 within any.2)))
 
 pub restores_gate : (names : List (List ℕ)) (count : ℕ) (files : List NewFile) → ArePackageFiles count files → (l : Layout) (c : Files) → AnyGate (record l { packages = put files l.packages }) c → Restores names files l c
 restores_gate names count files are l c any kept is same within =
@@ -61,7 +62,8 @@ restores_gate names count files are l c any kept is same within =
 pub undoes_gate : (names : List (List ℕ)) (files : List NewFile) (l : Layout) (c : Files) → AnySecondGate l c → Undoes names files l c
 undoes_gate names files l c any kept is same within = elim (cases_eq any.0 79) [
   | inl open_there ↦ inl (opens_by names _ c _ any.1 (waiting_opens names kept (record l { second_gate = any.0 }) (record { gate = is.gate; second_gate = open_there; body = is.body }) within))
-  | inr shut ↦ inr (same_rest names _ _ c (ap (λ (f : List NewFile). put f l.packages) same) (opens_by names _ c _ any.1 (restoring_opens names kept (record l { second_gate = any.0 }) (record { gate = is.gate; second_gate = shut; body = is.body }) within)))
+  | inr shut ↦ inr (same_rest names _ _ c (ap (λ (f : List NewFile). put f l.packages) same)
+      (opens_by names _ c _ any.1 (restoring_opens names kept (record l { second_gate = any.0 }) (record { gate = is.gate; second_gate = shut; body = is.body }) within)))
 ]
 
 pub undoes_rest : (names : List (List ℕ)) (files : List NewFile) (l : Layout) (c : Files) → Restores names files (record l { second_gate = 0 }) c → Undoes names files l c
@@ -83,12 +85,14 @@ stages_prepared names body new l c prepares kept is = prepares kept (record { ga
 
 pub stages_packages : (names : List (List ℕ)) (body : List ℕ) (new : List NewFile) (l : Layout) (c : Files) → AnyPackages new (record { gate = 79; second_gate = 0; body = body; packages = l.packages }) c → Stages names body new l c
 stages_packages names body new l c any kept is =
-    same_rest names _ _ c (is.back any.0 any.2) (opens_by names _ c _ any.1 (restoring_opens names kept (record { gate = 79; second_gate = 0; body = body; packages = any.0 }) (record { gate = refl; second_gate = omega arith; body = is.reads }) (within_beside new l.packages any.0 is.within any.2)))
+    same_rest names _ _ c (is.back any.0 any.2) (opens_by names _ c _ any.1
+    (restoring_opens names kept (record { gate = 79; second_gate = 0; body = body; packages = any.0 }) (record { gate = refl; second_gate = omega arith; body = is.reads }) (within_beside new l.packages any.0 is.within any.2)))
 
 pub applies_stage : (names : List (List ℕ)) (body : List ℕ) (new : List NewFile) (l : Layout) (c : Files) → Stages names body new l c → Applies names body new l c
 applies_stage names body new l c stages kept is = inl (stages kept is)
 
-pub applies_gate : (names : List (List ℕ)) (count : ℕ) (body : List ℕ) (new : List NewFile) → ArePackageFiles count new → (l : Layout) (c : Files) → AnySecondGate (record { gate = 79; second_gate = 0; body = body; packages = put new l.packages }) c → Applies names body new l c
+pub applies_gate : (names : List (List ℕ)) (count : ℕ) (body : List ℕ) (new : List NewFile) → ArePackageFiles count new → (l : Layout) (c : Files)
+    → AnySecondGate (record { gate = 79; second_gate = 0; body = body; packages = put new l.packages }) c → Applies names body new l c
 applies_gate names count body new are l c any kept is =
     let beside = put_beside count new l.packages are in
     let back : put kept.files (put new l.packages) ≡ l.packages = is.back (put new l.packages) beside in
@@ -103,7 +107,8 @@ applies_gate names count body new are l c any kept is =
 pub commits_stage : (names : List (List ℕ)) (body : List ℕ) (new : List NewFile) (l : Layout) (c : Files) → Stages names body new l c → Commits names body new l c
 commits_stage names body new l c stages kept is = inl (stages kept is)
 
-pub commits_gate : (names : List (List ℕ)) (count : ℕ) (body : List ℕ) (new : List NewFile) → ArePackageFiles count new → (l : Layout) (c : Files) → AnyGate (record { gate = 79; second_gate = 0; body = body; packages = put new l.packages }) c → Commits names body new l c
+pub commits_gate : (names : List (List ℕ)) (count : ℕ) (body : List ℕ) (new : List NewFile) → ArePackageFiles count new → (l : Layout) (c : Files)
+    → AnyGate (record { gate = 79; second_gate = 0; body = body; packages = put new l.packages }) c → Commits names body new l c
 commits_gate names count body new are l c any kept is =
     let beside = put_beside count new l.packages are in
     ⊎_elim (λ o. inr o) (λ o. inl (same_rest names _ _ c (is.back (put new l.packages) beside) o))

@@ -44,7 +44,13 @@ pub back_16 : (n : ℕ) → n < 2 ^ 128 → from_be_bytes w128 (to_be_bytes w128
 back_16 n fits =
     let low : n ≡ n % 256 + n / 256 * 256 = omega arith in
     let high : n / 1329227995784915872903807060280344576 ≡ n / 1329227995784915872903807060280344576 % 256 = omega arith in
-    joined_16 n (n % 256) (n / 256 % 256) (n / 65536 % 256) (n / 16777216 % 256) (n / 4294967296 % 256) (n / 1099511627776 % 256) (n / 281474976710656 % 256) (n / 72057594037927936 % 256) (n / 18446744073709551616 % 256) (n / 4722366482869645213696 % 256) (n / 1208925819614629174706176 % 256) (n / 309485009821345068724781056 % 256) (n / 79228162514264337593543950336 % 256) (n / 20282409603651670423947251286016 % 256) (n / 5192296858534827628530496329220096 % 256) (n / 1329227995784915872903807060280344576 % 256) (n / 256) (n / 65536) (n / 16777216) (n / 4294967296) (n / 1099511627776) (n / 281474976710656) (n / 72057594037927936) (n / 18446744073709551616) (n / 4722366482869645213696) (n / 1208925819614629174706176) (n / 309485009821345068724781056) (n / 79228162514264337593543950336) (n / 20282409603651670423947251286016) (n / 5192296858534827628530496329220096) (n / 1329227995784915872903807060280344576) low (byte_rest n 256) (byte_rest n 65536) (byte_rest n 16777216) (byte_rest n 4294967296) (byte_rest n 1099511627776) (byte_rest n 281474976710656) (byte_rest n 72057594037927936) (byte_rest n 18446744073709551616) (byte_rest n 4722366482869645213696) (byte_rest n 1208925819614629174706176) (byte_rest n 309485009821345068724781056) (byte_rest n 79228162514264337593543950336) (byte_rest n 20282409603651670423947251286016) (byte_rest n 5192296858534827628530496329220096) high
+    joined_16 n (n % 256) (n / 256 % 256) (n / 65536 % 256) (n / 16777216 % 256) (n / 4294967296 % 256) (n / 1099511627776 % 256) (n / 281474976710656 % 256) (n / 72057594037927936 % 256) (n / 18446744073709551616 % 256)
+    (n / 4722366482869645213696 % 256) (n / 1208925819614629174706176 % 256) (n / 309485009821345068724781056 % 256) (n / 79228162514264337593543950336 % 256) (n / 20282409603651670423947251286016 % 256)
+    (n / 5192296858534827628530496329220096 % 256) (n / 1329227995784915872903807060280344576 % 256) (n / 256) (n / 65536) (n / 16777216) (n / 4294967296) (n / 1099511627776) (n / 281474976710656) (n / 72057594037927936)
+    (n / 18446744073709551616) (n / 4722366482869645213696) (n / 1208925819614629174706176) (n / 309485009821345068724781056) (n / 79228162514264337593543950336) (n / 20282409603651670423947251286016)
+    (n / 5192296858534827628530496329220096) (n / 1329227995784915872903807060280344576) low (byte_rest n 256) (byte_rest n 65536) (byte_rest n 16777216) (byte_rest n 4294967296) (byte_rest n 1099511627776) (byte_rest n 281474976710656)
+    (byte_rest n 72057594037927936) (byte_rest n 18446744073709551616) (byte_rest n 4722366482869645213696) (byte_rest n 1208925819614629174706176) (byte_rest n 309485009821345068724781056) (byte_rest n 79228162514264337593543950336)
+    (byte_rest n 20282409603651670423947251286016) (byte_rest n 5192296858534827628530496329220096) high
 
 -- the next file
 sized_back : (file named place : ℕ) (bytes rest : List ℕ) → length bytes ≤ most_bytes
@@ -123,8 +129,10 @@ body_back names are kept deadline holder few is rising =
     let behind_d : drop 8 (d ++ (h ++ (n ++ t))) ≡ h ++ (n ++ t) = behind_of 8 d (h ++ (n ++ t)) refl in
     let behind_h : drop 16 (drop 8 (d ++ (h ++ (n ++ t)))) ≡ n ++ t = ap (λ (l : List ℕ). drop 16 l) behind_d ∙ behind_of 16 h (n ++ t) refl in
     let number_d : from_be_bytes w64 (take 8 (d ++ (h ++ (n ++ t)))) ≡ kept.pending.deadline = ap (from_be_bytes w64) (front_of 8 d (h ++ (n ++ t)) refl) ∙ from_be_bytes-to_be_bytes_8 kept.pending.deadline deadline in
-    let number_h : from_be_bytes w128 (take 16 (drop 8 (d ++ (h ++ (n ++ t))))) ≡ kept.pending.holder = ap (λ (l : List ℕ). from_be_bytes w128 (take 16 l)) behind_d ∙ ap (from_be_bytes w128) (front_of 16 h (n ++ t) refl) ∙ back_16 kept.pending.holder holder in
-    let number_n : from_be_bytes w32 (take 4 (drop 16 (drop 8 (d ++ (h ++ (n ++ t)))))) ≡ length kept.files = ap (λ (l : List ℕ). from_be_bytes w32 (take 4 l)) behind_h ∙ ap (from_be_bytes w32) (front_of 4 n t refl) ∙ from_be_bytes-to_be_bytes_4 (length kept.files) few in
+    let number_h : from_be_bytes w128 (take 16 (drop 8 (d ++ (h ++ (n ++ t))))) ≡ kept.pending.holder = ap (λ (l : List ℕ). from_be_bytes w128 (take 16 l)) behind_d ∙ ap (from_be_bytes w128) (front_of 16 h (n ++ t) refl)
+    ∙ back_16 kept.pending.holder holder in
+    let number_n : from_be_bytes w32 (take 4 (drop 16 (drop 8 (d ++ (h ++ (n ++ t)))))) ≡ length kept.files = ap (λ (l : List ℕ). from_be_bytes w32 (take 4 l)) behind_h ∙ ap (from_be_bytes w32) (front_of 4 n t refl)
+    ∙ from_be_bytes-to_be_bytes_4 (length kept.files) few in
     let rest : drop 4 (drop 16 (drop 8 (d ++ (h ++ (n ++ t))))) ≡ t = ap (λ (l : List ℕ). drop 4 l) behind_h ∙ behind_of 4 n t refl in
     let e_h : 16 ≤ length (drop 8 (d ++ (h ++ (n ++ t)))) = let e = ap length behind_d in omega (arith, e, long_h) in
     let e_n : 4 ≤ length (drop 16 (drop 8 (d ++ (h ++ (n ++ t))))) = let e = ap length behind_h in omega (arith, e, long_n) in

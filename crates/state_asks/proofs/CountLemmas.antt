@@ -74,13 +74,16 @@ module _ (inputs : Inputs) (os : List OpenInterface) (next : ℕ) (name : List �
     | inr other ↦ ap (λ os. cond {A = List Object} s.is_up os []) (given_same r (other_answer r other) s.layer)
   ]
 
-  pub givers_still : (states : List InterfaceState) (gs : Gifts) (place : ℕ) (row : InterfaceRow) (st : InterfaceState) (n : Option ℕ) → ((p : ℕ) (r : InterfaceRow) (s : InterfaceState) → slice_get inputs.conf.interfaces p ≡ Some r → slice_get states p ≡ Some s → IsQuiet r s) → slice_get inputs.conf.interfaces place ≡ Some row → slice_get states place ≡ Some st → HasGivers (facts_of inputs) inputs.conf.interfaces states gs → HasGivers (facts_of now) inputs.conf.interfaces (slice_set states place (numbered st n)) gs
+  pub givers_still : (states : List InterfaceState) (gs : Gifts) (place : ℕ) (row : InterfaceRow) (st : InterfaceState) (n : Option ℕ)
+      → ((p : ℕ) (r : InterfaceRow) (s : InterfaceState) → slice_get inputs.conf.interfaces p ≡ Some r → slice_get states p ≡ Some s → IsQuiet r s) → slice_get inputs.conf.interfaces place ≡ Some row → slice_get states place ≡ Some st
+      → HasGivers (facts_of inputs) inputs.conf.interfaces states gs → HasGivers (facts_of now) inputs.conf.interfaces (slice_set states place (numbered st n)) gs
   givers_still states gs place row st n quiet at here_is was = λ o.
       let rows = inputs.conf.interfaces in
       let g : InterfaceRow × InterfaceState → List Object = λ e. gives (facts_of now) e.0 e.1 in
       let k : ℕ = times_in o (gives (facts_of now) row st) in
       let moves : times_in o (all_gives (facts_of now) rows (slice_set states place (numbered st n))) + k ≡ times_in o (all_gives (facts_of now) rows states) + k = times_move g rows states place row st (numbered st n) o at here_is in
-      let alike : times_in o (all_gives (facts_of now) rows states) ≡ times_in o (all_gives (facts_of inputs) rows states) = ap (times_in o) (gives_agree g (λ (e : InterfaceRow × InterfaceState). gives (facts_of inputs) e.0 e.1) rows states (λ p r s r_at s_at. gives_same r s (quiet p r s r_at s_at))) in
+      let alike : times_in o (all_gives (facts_of now) rows states) ≡ times_in o (all_gives (facts_of inputs) rows states) =
+      ap (times_in o) (gives_agree g (λ (e : InterfaceRow × InterfaceState). gives (facts_of inputs) e.0 e.1) rows states (λ p r s r_at s_at. gives_same r s (quiet p r s r_at s_at))) in
       let back : times_in o (all_gives (facts_of now) rows (slice_set states place (numbered st n))) ≡ times_in o (all_gives (facts_of now) rows states) = omega (arith, moves) in
       was o ∙ sym alike ∙ sym back
 

@@ -38,7 +38,8 @@ pub record Moves (inputs : Inputs) (os : List OpenInterface) (next : ℕ) (place
   pub own : AreOwnAsks (moved inputs os next)
   pub reach : IsReachOf (moved inputs os next) now.reach
 
-module _ (inputs : Inputs) (os : List OpenInterface) (next : ℕ) (place : ℕ) (row : InterfaceRow) (st : InterfaceState) (n : Option ℕ) (before now : States) (at : slice_get inputs.conf.interfaces place ≡ Some row) (here_is : slice_get before.list.items place ≡ Some st) (st_first : st.is_first ≡ true) (was : IsTied inputs before) (kept : IsKeptOtherwise place st n before now) (moves : Moves inputs os next place row n now) where
+module _ (inputs : Inputs) (os : List OpenInterface) (next : ℕ) (place : ℕ) (row : InterfaceRow) (st : InterfaceState) (n : Option ℕ) (before now : States) (at : slice_get inputs.conf.interfaces place ≡ Some row)
+    (here_is : slice_get before.list.items place ≡ Some st) (st_first : st.is_first ≡ true) (was : IsTied inputs before) (kept : IsKeptOtherwise place st n before now) (moves : Moves inputs os next place row n now) where
   abbrev after : Inputs
   after = moved inputs os next
 
@@ -52,7 +53,9 @@ module _ (inputs : Inputs) (os : List OpenInterface) (next : ℕ) (place : ℕ) 
   states_there p other = ap (λ (xs : List InterfaceState). slice_get xs p) kept.list ∙ set_other before.list.items place p (numbered st n) other
 
   -- a fact of the states at all places, told of the one at the place and of all others
-  pub at_each : (P : ℕ → InterfaceRow → InterfaceState → Type 0) → P place row (numbered st n) → ((p : ℕ) (r : InterfaceRow) (s : InterfaceState) → (p ≡ place → ⊥) → slice_get inputs.conf.interfaces p ≡ Some r → slice_get before.list.items p ≡ Some s → P p r s) → (p : ℕ) (r : InterfaceRow) (s : InterfaceState) → slice_get inputs.conf.interfaces p ≡ Some r → slice_get now.list.items p ≡ Some s → P p r s
+  pub at_each : (P : ℕ → InterfaceRow → InterfaceState → Type 0) → P place row (numbered st n)
+      → ((p : ℕ) (r : InterfaceRow) (s : InterfaceState) → (p ≡ place → ⊥) → slice_get inputs.conf.interfaces p ≡ Some r → slice_get before.list.items p ≡ Some s → P p r s) → (p : ℕ) (r : InterfaceRow) (s : InterfaceState)
+      → slice_get inputs.conf.interfaces p ≡ Some r → slice_get now.list.items p ≡ Some s → P p r s
   at_each P own others p r s r_at s_at = by (p == place) refl
     where
       by : (b : Bool) → (p == place) ≡ b → P p r s
@@ -66,9 +69,11 @@ module _ (inputs : Inputs) (os : List OpenInterface) (next : ℕ) (place : ℕ) 
           others p r s other r_at (sym (states_there p other) ∙ s_at)
 
   number_there : (p : ℕ) (r : InterfaceRow) → slice_get inputs.conf.interfaces p ≡ Some r → is_first inputs.conf.interfaces p r.name ≡ true → (p ≡ place → ⊥) → number_of after r.name ≡ number_of inputs r.name
-  number_there p r r_at r_first other = ap (λ (o : Option OpenInterface). option_map (λ (x : OpenInterface). x.number) o) (moves.others r.name (other_name inputs os next row.name moves.others place row refl at row_first p r r_at r_first other))
+  number_there p r r_at r_first other = ap (λ (o : Option OpenInterface). option_map (λ (x : OpenInterface). x.number) o)
+      (moves.others r.name (other_name inputs os next row.name moves.others place row refl at row_first p r r_at r_first other))
 
-  noted_there : (p : ℕ) (r : InterfaceRow) (s : InterfaceState) → (p ≡ place → ⊥) → slice_get inputs.conf.interfaces p ≡ Some r → slice_get before.list.items p ≡ Some s → (b : Bool) → s.is_first ≡ b → IsNotedAs b inputs r s → IsNotedAs b after r s
+  noted_there : (p : ℕ) (r : InterfaceRow) (s : InterfaceState) → (p ≡ place → ⊥) → slice_get inputs.conf.interfaces p ≡ Some r → slice_get before.list.items p ≡ Some s → (b : Bool) → s.is_first ≡ b → IsNotedAs b inputs r s
+      → IsNotedAs b after r s
   noted_there p r s other r_at s_at true is h = record {
     device = h.device;
     number = h.number ∙ sym (number_there p r r_at (sym (was.noted.first p r s r_at s_at) ∙ is) other);
@@ -90,7 +95,8 @@ module _ (inputs : Inputs) (os : List OpenInterface) (next : ℕ) (place : ℕ) 
     spare_size = kept.spare_size ∙ was.noted.spare_size;
     first = at_each (λ p r s. s.is_first ≡ is_first inputs.conf.interfaces p r.name) (was.noted.first place row st at here_is) (λ p r s other r_at s_at. was.noted.first p r s r_at s_at);
     each = at_each (λ p r s. IsNotedAs s.is_first after r s) noted_here (λ p r s other r_at s_at. noted_there p r s other r_at s_at s.is_first refl (was.noted.each p r s r_at s_at));
-    at_hand = at_each (λ p r s. s.is_first ≡ true → asks_nothing r.proto ≡ false → s.number ≡ None → IsAtHand r (slice_get now.spare.items p)) (λ f asks none. moves.hand none) (λ p r s other r_at s_at f asks none. hand_there p r other (was.noted.at_hand p r s r_at s_at f asks none));
+    at_hand = at_each (λ p r s. s.is_first ≡ true → asks_nothing r.proto ≡ false → s.number ≡ None → IsAtHand r (slice_get now.spare.items p)) (λ f asks none. moves.hand none)
+        (λ p r s other r_at s_at f asks none. hand_there p r other (was.noted.at_hand p r s r_at s_at f asks none));
   }
 
   pub tied_still : IsTied after now

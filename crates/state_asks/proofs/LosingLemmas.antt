@@ -26,7 +26,8 @@ use Rattle.state_asks.proofs.ListLemmas.{set_here, set_other, set_size, item_at,
 use Rattle.state_asks.proofs.KeptLemmas.{IsKeptOtherwise, between_still}
 use Rattle.state_asks.proofs.LostLemmas.{needed_stays, unasked_stays, is_the_first, row_first, found_so, left_is, lost_is, closed_asks, tells_none, left, lost_moves}
 
-module _ (k : Known) (states : States) (tied : IsTied k.inputs states) (place : ℕ) (within : place < length k.inputs.conf.interfaces) (once : StandOnce k.inputs) (needs : Bool) (test : (row : InterfaceRow) → slice_get k.inputs.conf.interfaces place ≡ Some row → needs ≡ needs_ask (facts_of k.inputs) row) where
+module _ (k : Known) (states : States) (tied : IsTied k.inputs states) (place : ℕ) (within : place < length k.inputs.conf.interfaces) (once : StandOnce k.inputs) (needs : Bool)
+    (test : (row : InterfaceRow) → slice_get k.inputs.conf.interfaces place ≡ Some row → needs ≡ needs_ask (facts_of k.inputs) row) where
   row_at : (row : InterfaceRow) × (slice_get k.inputs.conf.interfaces place ≡ Some row)
   row_at = item_at k.inputs.conf.interfaces place within
 
@@ -70,14 +71,18 @@ module _ (k : Known) (states : States) (tied : IsTied k.inputs states) (place : 
         number_lost = lost_is k.inputs states tied place row_at.0 st row_at.1 here_is number numbered once closed is needless
 
         -- what the answer told is told no longer
-        pub reach_left : (reach : Reach) (was : Option (List ℕ)) → was ≡ option_and_then (λ (answer : Answer). answer.device) closed.answer → ((before now : Inputs) (interface : List ℕ) → IsReachOf before states.reach → interface_place before.conf interface ≡ Some place → TellsLayer before now interface was None → IsReachOf now reach) → IsReachOf (left_at k.inputs (place ∷ [])) reach
+        pub reach_left : (reach : Reach) (was : Option (List ℕ)) → was ≡ option_and_then (λ (answer : Answer). answer.device) closed.answer
+            → ((before now : Inputs) (interface : List ℕ) → IsReachOf before states.reach → interface_place before.conf interface ≡ Some place → TellsLayer before now interface was None → IsReachOf now reach)
+            → IsReachOf (left_at k.inputs (place ∷ [])) reach
         reach_left reach was told moves =
             let first = row_first k.inputs states tied place row_at.0 st row_at.1 here_is number numbered in
             let tells = tells_none k.inputs states tied place row_at.0 st row_at.1 here_is number numbered once closed is needless in
             moves k.inputs (left_at k.inputs (place ∷ [])) row_at.0.name tied.reach (place_of_first k.inputs.conf.interfaces place row_at.0 row_at.1 first)
             (subst (λ (o : Option (List ℕ)). TellsLayer k.inputs (left_at k.inputs (place ∷ [])) row_at.0.name o None) (sym told) tells)
 
-        module _ (now : States) (reach : Reach) (reached : IsReachOf (left_at k.inputs (place ∷ [])) reach) (list : (s : InterfaceState) → slice_get states.list.items place ≡ Some s → now.list.items ≡ slice_set states.list.items place (record s { number = None })) (spare : now.spare.items ≡ slice_set states.spare.items place (Some closed.ask)) (others : now ≡ record states { reach = reach; list = now.list; spare = now.spare }) where
+        module _ (now : States) (reach : Reach) (reached : IsReachOf (left_at k.inputs (place ∷ [])) reach)
+            (list : (s : InterfaceState) → slice_get states.list.items place ≡ Some s → now.list.items ≡ slice_set states.list.items place (record s { number = None }))
+            (spare : now.spare.items ≡ slice_set states.spare.items place (Some closed.ask)) (others : now ≡ record states { reach = reach; list = now.list; spare = now.spare }) where
           kept : IsKeptOtherwise place st None states now
           kept = record {
             list = list st here_is;
@@ -96,7 +101,8 @@ module _ (k : Known) (states : States) (tied : IsTied k.inputs states) (place : 
 
           pub between_left : (after : Known) → after ≡ record k { inputs = without_ask k.inputs number } → (places : List ℕ) (c : Course) → has places place ≡ true → AreBetween k.inputs places states c → AreBetween after.inputs places now c
           between_left after same places c touched between =
-              let moves = lost_moves k.inputs states tied place row_at.0 st row_at.1 here_is number numbered once closed is needless now hand (subst (IsReachOf (left_at k.inputs (place ∷ []))) (sym (ap (λ (s : States). s.reach) others)) reached) in
+              let moves = lost_moves k.inputs states tied place row_at.0 st row_at.1 here_is number numbered once closed is needless now hand
+              (subst (IsReachOf (left_at k.inputs (place ∷ []))) (sym (ap (λ (s : States). s.reach) others)) reached) in
               let asks = left k.inputs states tied place row_at.0 st row_at.1 here_is number numbered once closed is needless in
               let first = is_the_first k.inputs states tied place row_at.0 st row_at.1 here_is number numbered in
               let there : AreBetween (left_at k.inputs (place ∷ [])) places now c = between_still k.inputs asks k.inputs.next place row_at.0 st None states now row_at.1 here_is first tied kept moves places c between touched in

@@ -40,7 +40,8 @@ use Rattle.state_asks.proofs.KeptLemmas.{Moves}
 -- ---- what is open, and needed
 
 -- an ask that is what its row is asked is needed where the row needs one
-pub needed_is : (inputs : Inputs) (row : InterfaceRow) (o : OpenInterface) → interface_named inputs.conf row.name ≡ Some row → o.ask.name ≡ row.name → o.ask ≡ interface_ask (facts_of inputs) row → is_needed (facts_of inputs) o ≡ needs_ask (facts_of inputs) row
+pub needed_is : (inputs : Inputs) (row : InterfaceRow) (o : OpenInterface) → interface_named inputs.conf row.name ≡ Some row → o.ask.name ≡ row.name → o.ask ≡ interface_ask (facts_of inputs) row → is_needed (facts_of inputs) o
+    ≡ needs_ask (facts_of inputs) row
 needed_is inputs row o found named own =
     ap (λ (need : Option InterfaceAsk). is_same_need same_interface_ask need o.ask) (ap (interface_need_of (facts_of inputs)) named ∙ ap (option_and_then (interface_need (facts_of inputs))) found)
     ∙ by (needs_ask (facts_of inputs) row)
@@ -69,7 +70,8 @@ none_open inputs name is = by (open_interface inputs.interfaces name) refl is
     by None at h = at
     by (Some o) at h = cc h
 
-module _ (inputs : Inputs) (states : States) (tied : IsTied inputs states) (place : ℕ) (row : InterfaceRow) (st : InterfaceState) (at : slice_get inputs.conf.interfaces place ≡ Some row) (here_is : slice_get states.list.items place ≡ Some st) where
+module _ (inputs : Inputs) (states : States) (tied : IsTied inputs states) (place : ℕ) (row : InterfaceRow) (st : InterfaceState) (at : slice_get inputs.conf.interfaces place ≡ Some row)
+    (here_is : slice_get states.list.items place ≡ Some st) where
   abbrev rows : List InterfaceRow
   rows = inputs.conf.interfaces
 
@@ -174,7 +176,8 @@ module _ (inputs : Inputs) (states : States) (tied : IsTied inputs states) (plac
         pub tells_none : TellsLayer inputs (left_at inputs (place ∷ [])) row.name (option_and_then (λ (answer : Answer). answer.device) closed.answer) None
         tells_none =
             let found : open_interface inputs.interfaces closed.ask.name ≡ Some closed = found_named inputs closed once (subst (Contains inputs.interfaces) same_ask member) in
-            let told : told_layer inputs closed.ask.name ≡ option_and_then (λ (answer : Answer). answer.device) closed.answer = ap (λ (o : Option OpenInterface). option_and_then (λ (x : OpenInterface). option_and_then (λ (answer : Answer). answer.device) x.answer) o) found in
+            let told : told_layer inputs closed.ask.name ≡ option_and_then (λ (answer : Answer). answer.device) closed.answer =
+            ap (λ (o : Option OpenInterface). option_and_then (λ (x : OpenInterface). option_and_then (λ (answer : Answer). answer.device) x.answer) o) found in
             subst (λ (q : List ℕ). TellsLayer inputs (left_at inputs (place ∷ [])) q (option_and_then (λ (answer : Answer). answer.device) closed.answer) None) closed_named
             (subst (λ (now : Inputs). TellsLayer inputs now closed.ask.name (option_and_then (λ (answer : Answer). answer.device) closed.answer) None) (sym left_is)
             (subst (λ (was : Option (List ℕ)). TellsLayer inputs (without_ask inputs number) closed.ask.name was None) told (closed_tells inputs number closed once is)))

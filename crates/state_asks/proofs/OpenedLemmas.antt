@@ -48,7 +48,8 @@ nothing_behind : {X : Type 0} (o : Option X) → first_some o None ≡ o
 nothing_behind None = refl
 nothing_behind (Some x) = refl
 
-module _ (inputs : Inputs) (states : States) (tied : IsTied inputs states) (place : ℕ) (row : InterfaceRow) (st : InterfaceState) (at : slice_get inputs.conf.interfaces place ≡ Some row) (here_is : slice_get states.list.items place ≡ Some st) where
+module _ (inputs : Inputs) (states : States) (tied : IsTied inputs states) (place : ℕ) (row : InterfaceRow) (st : InterfaceState) (at : slice_get inputs.conf.interfaces place ≡ Some row)
+    (here_is : slice_get states.list.items place ≡ Some st) where
   abbrev rows : List InterfaceRow
   rows = inputs.conf.interfaces
 

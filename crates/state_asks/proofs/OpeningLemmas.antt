@@ -23,7 +23,8 @@ use Rattle.state_asks.proofs.KeptLemmas.{IsKeptOtherwise, between_still}
 use Rattle.state_asks.proofs.OpenedLemmas.{nothing_opens, is_the_first, at_hand, not_open, named_row, ask_named, after_is, told_is, asks, opened_moves}
 use Rattle.state_asks.proofs.StepLemmas.{none_told, none_opened}
 
-module _ (k : Known) (states : States) (tied : IsTied k.inputs states) (place : ℕ) (within : place < length k.inputs.conf.interfaces) (lacks : Bool) (test : (row : InterfaceRow) (st : InterfaceState) → slice_get k.inputs.conf.interfaces place ≡ Some row → slice_get states.list.items place ≡ Some st → lacks ≡ lacks_ask (facts_of k.inputs) row st) where
+module _ (k : Known) (states : States) (tied : IsTied k.inputs states) (place : ℕ) (within : place < length k.inputs.conf.interfaces) (lacks : Bool)
+    (test : (row : InterfaceRow) (st : InterfaceState) → slice_get k.inputs.conf.interfaces place ≡ Some row → slice_get states.list.items place ≡ Some st → lacks ≡ lacks_ask (facts_of k.inputs) row st) where
   row_at : (row : InterfaceRow) × (slice_get k.inputs.conf.interfaces place ≡ Some row)
   row_at = item_at k.inputs.conf.interfaces place within
 
@@ -56,7 +57,8 @@ module _ (k : Known) (states : States) (tied : IsTied k.inputs states) (place : 
         let same : Some hand.0 ≡ taken = some_is (Some hand.0) taken (sym hand.1 ∙ there) in
         cc (same, none)
 
-    module _ (st : InterfaceState) (read : st ≡ get_or states.list.items place st) (spare ask : InterfaceAsk) (taken : Option InterfaceAsk) (there : slice_get states.spare.items place ≡ Some taken) (some : taken ≡ Some spare) (ask_is : ask ≡ record spare { device = st.device }) where
+    module _ (st : InterfaceState) (read : st ≡ get_or states.list.items place st) (spare ask : InterfaceAsk) (taken : Option InterfaceAsk) (there : slice_get states.spare.items place ≡ Some taken) (some : taken ≡ Some spare)
+        (ask_is : ask ≡ record spare { device = st.device }) where
       here_is : slice_get states.list.items place ≡ Some st
       here_is = read_at states.list.items place st list_within read
 
@@ -87,13 +89,16 @@ module _ (k : Known) (states : States) (tied : IsTied k.inputs states) (place : 
           ∙ ap (λ n. items ++ notice_of n (Some (place, st.device)) ∷ []) next
           ∙ ap (λ (ns : List Notice). items ++ ns) (sym (told_is k.inputs states tied place row_at.0 st row_at.1 here_is lacks_so spare ask spare_is ask_is))
 
-      module _ (mid now : States) (number : ℕ) (next : number ≡ k.inputs.next) (left : mid.spare.items ≡ slice_set states.spare.items place None) (first_others : mid ≡ record states { spare = mid.spare }) (list : (s : InterfaceState) → slice_get mid.list.items place ≡ Some s → now.list.items ≡ slice_set mid.list.items place (record s { number = Some number })) (last : now.spare.items ≡ slice_set mid.spare.items place None) (others : now ≡ record mid { list = now.list; spare = now.spare }) where
+      module _ (mid now : States) (number : ℕ) (next : number ≡ k.inputs.next) (left : mid.spare.items ≡ slice_set states.spare.items place None) (first_others : mid ≡ record states { spare = mid.spare })
+          (list : (s : InterfaceState) → slice_get mid.list.items place ≡ Some s → now.list.items ≡ slice_set mid.list.items place (record s { number = Some number })) (last : now.spare.items ≡ slice_set mid.spare.items place None)
+          (others : now ≡ record mid { list = now.list; spare = now.spare }) where
         same_list : mid.list.items ≡ states.list.items
         same_list = ap (λ (s : States). s.list.items) first_others
 
         kept : IsKeptOtherwise place st (Some k.inputs.next) states now
         kept = record {
-          list = list st (ap (λ (xs : List InterfaceState). slice_get xs place) same_list ∙ here_is) ∙ ap (λ (xs : List InterfaceState). slice_set xs place (record st { number = Some number })) same_list ∙ ap (λ (n : ℕ). slice_set states.list.items place (record st { number = Some n })) next;
+          list = list st (ap (λ (xs : List InterfaceState). slice_get xs place) same_list ∙ here_is) ∙ ap (λ (xs : List InterfaceState). slice_set xs place (record st { number = Some number })) same_list
+              ∙ ap (λ (n : ℕ). slice_set states.list.items place (record st { number = Some n })) next;
           spare_size = ap (λ (xs : List (Option InterfaceAsk)). length xs) last ∙ set_size mid.spare.items place None ∙ ap (λ (xs : List (Option InterfaceAsk)). length xs) left ∙ set_size states.spare.items place None;
           spare_others = λ p other.
               ap (λ (xs : List (Option InterfaceAsk)). slice_get xs p) last

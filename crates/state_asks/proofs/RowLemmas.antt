@@ -19,7 +19,8 @@ use Rattle.asked_places.proofs.PlaceLemmas.{place_of_first}
 use Rattle.net_states.specs.Kept.{FollowBut}
 
 -- first rows at two places have two names
-pub named_apart : (rows : List InterfaceRow) (p q : ℕ) (a b : InterfaceRow) → slice_get rows p ≡ Some a → is_first rows p a.name ≡ true → slice_get rows q ≡ Some b → is_first rows q b.name ≡ true → (q ≡ p → ⊥) → bytes_eq b.name a.name ≡ false
+pub named_apart : (rows : List InterfaceRow) (p q : ℕ) (a b : InterfaceRow) → slice_get rows p ≡ Some a → is_first rows p a.name ≡ true → slice_get rows q ≡ Some b → is_first rows q b.name ≡ true → (q ≡ p → ⊥) → bytes_eq b.name a.name
+    ≡ false
 named_apart rows p q a b a_at a_first b_at b_first other = false_of_not (bytes_eq b.name a.name) (λ h.
     other (some_is q p (sym (place_of_first rows q b b_at b_first) ∙ ap (place_of (names_of_rows rows)) (bytes_same b.name a.name h) ∙ place_of_first rows p a a_at a_first)))
 
@@ -32,7 +33,9 @@ first_found (r ∷ rs) zero row at first =
     ∙ at
 first_found (r ∷ rs) (suc k) row at first = by (bytes_eq r.name row.name) refl first (λ h. first_found rs k row at h)
   where
-    by : (b : Bool) → bytes_eq r.name row.name ≡ b → not (b || list_any (λ x. bytes_eq x.name row.name) (take k rs)) ≡ true → (not (list_any (λ x. bytes_eq x.name row.name) (take k rs)) ≡ true → find (λ (x : InterfaceRow). bytes_eq x.name row.name) rs ≡ Some row) → cond (bytes_eq r.name row.name) (Some r) (find (λ (x : InterfaceRow). bytes_eq x.name row.name) rs) ≡ Some row
+    by : (b : Bool) → bytes_eq r.name row.name ≡ b → not (b || list_any (λ x. bytes_eq x.name row.name) (take k rs)) ≡ true
+        → (not (list_any (λ x. bytes_eq x.name row.name) (take k rs)) ≡ true → find (λ (x : InterfaceRow). bytes_eq x.name row.name) rs ≡ Some row)
+        → cond (bytes_eq r.name row.name) (Some r) (find (λ (x : InterfaceRow). bytes_eq x.name row.name) rs) ≡ Some row
     by true is h rest = cc h
     by false is h rest = ap (λ b. cond b (Some r) (find (λ (x : InterfaceRow). bytes_eq x.name row.name) rs)) is ∙ rest h
 
@@ -61,7 +64,8 @@ module _ (inputs : Inputs) (os : List OpenInterface) (next : ℕ) where
       pub other_name : (p : ℕ) (r : InterfaceRow) → slice_get inputs.conf.interfaces p ≡ Some r → is_first inputs.conf.interfaces p r.name ≡ true → (p ≡ place → ⊥) → bytes_eq r.name name ≡ false
       other_name p r r_at r_first other = ap (bytes_eq r.name) (sym named) ∙ named_apart inputs.conf.interfaces place p row r at first r_at r_first other
 
-      state_as : (p : ℕ) (r : InterfaceRow) (s : InterfaceState) → slice_get inputs.conf.interfaces p ≡ Some r → (p ≡ place → ⊥) → (b : Bool) → is_first inputs.conf.interfaces p r.name ≡ b → IsStateAs b (facts_of inputs) r s → IsStateAs b (facts_of moved) r s
+      state_as : (p : ℕ) (r : InterfaceRow) (s : InterfaceState) → slice_get inputs.conf.interfaces p ≡ Some r → (p ≡ place → ⊥) → (b : Bool) → is_first inputs.conf.interfaces p r.name ≡ b → IsStateAs b (facts_of inputs) r s
+          → IsStateAs b (facts_of moved) r s
       state_as p r s r_at other true is h = state_same (facts_of inputs) (facts_of moved).answer r (answer_same r.name (other_name p r r_at is other)) s h
       state_as p r s r_at other false is h = h
 

@@ -29,7 +29,8 @@ use Rattle.state_asks.proofs.ListLemmas.{not_before}
 
 -- ---- room for numbers
 
-pub between_noted : (inputs : Inputs) (places : List ℕ) (before now : States) (c : Course) → now ≡ record before { lost = now.lost } → vec_capacity now.lost ≡ vec_capacity before.lost → AreBetween inputs places before c → AreBetween inputs places now c
+pub between_noted : (inputs : Inputs) (places : List ℕ) (before now : States) (c : Course) → now ≡ record before { lost = now.lost } → vec_capacity now.lost ≡ vec_capacity before.lost → AreBetween inputs places before c
+    → AreBetween inputs places now c
 between_noted inputs places before now c same room was =
     let other : States = record before { lost = now.lost } in
     let there : AreBetween inputs places other c = record {
@@ -53,14 +54,16 @@ between_noted inputs places before now c same room was =
 
 -- ---- asks that are lost
 
-pub left_step : (first old new : Known) (places : List ℕ) (i : ℕ) → i < length places → old ≡ record first { inputs = left_at first.inputs (take i places) } → new ≡ record old { inputs = left_at old.inputs (get_or places i 0 ∷ []) } → new ≡ record first { inputs = left_at first.inputs (take (i + 1) places) }
+pub left_step : (first old new : Known) (places : List ℕ) (i : ℕ) → i < length places → old ≡ record first { inputs = left_at first.inputs (take i places) } → new ≡ record old { inputs = left_at old.inputs (get_or places i 0 ∷ []) } → new
+    ≡ record first { inputs = left_at first.inputs (take (i + 1) places) }
 left_step first old new places i within was step =
     let p = get_or places i 0 in
     step
     ∙ ap (λ (k : Known). let then : Known = record k { inputs = left_at k.inputs (p ∷ []) } in then) was
     ∙ ap (λ (x : Inputs). let then : Known = record first { inputs = x } in then) (left_more first.inputs (take i places) p ∙ ap (left_at first.inputs) (sym (take_more places i 0 within)))
 
-pub lost_step : (first old : Known) (places : List ℕ) (i bound : ℕ) (number : Option ℕ) → AreRising 0 bound places → i < length places → old ≡ record first { inputs = left_at first.inputs (take i places) } → number ≡ lost_at old.inputs (get_or places i 0) → lost_at_places first.inputs (take i places) ++ option_to_list number ≡ lost_at_places first.inputs (take (i + 1) places)
+pub lost_step : (first old : Known) (places : List ℕ) (i bound : ℕ) (number : Option ℕ) → AreRising 0 bound places → i < length places → old ≡ record first { inputs = left_at first.inputs (take i places) } → number
+    ≡ lost_at old.inputs (get_or places i 0) → lost_at_places first.inputs (take i places) ++ option_to_list number ≡ lost_at_places first.inputs (take (i + 1) places)
 lost_step first old places i bound number rising within was is =
     let p = get_or places i 0 in
     ap (λ (n : Option ℕ). lost_at_places first.inputs (take i places) ++ option_to_list n) (is ∙ ap (λ (k : Known). lost_at k.inputs p) was ∙ lost_still first.inputs (take i places) p (not_before 0 bound places i rising within))
@@ -89,13 +92,15 @@ none_told inputs place none = ap (λ (o : Option InterfaceAsk). map (interface_n
 pub none_opened : (inputs : Inputs) (place : ℕ) → opened_at inputs place ≡ None → opened_after inputs place ≡ inputs
 none_opened inputs place none = ap (with_opened inputs) none
 
-pub opened_step : (first old new : Known) (places : List ℕ) (i : ℕ) → i < length places → fold opened_after old.inputs (drop i places) ≡ fold opened_after first.inputs places → new ≡ record old { inputs = opened_after old.inputs (get_or places i 0) } → fold opened_after new.inputs (drop (i + 1) places) ≡ fold opened_after first.inputs places
+pub opened_step : (first old new : Known) (places : List ℕ) (i : ℕ) → i < length places → fold opened_after old.inputs (drop i places) ≡ fold opened_after first.inputs places → new
+    ≡ record old { inputs = opened_after old.inputs (get_or places i 0) } → fold opened_after new.inputs (drop (i + 1) places) ≡ fold opened_after first.inputs places
 opened_step first old new places i within was step =
     ap (λ (k : Known). fold opened_after k.inputs (drop (i + 1) places)) step
     ∙ sym (at_drop_more (fold opened_after old.inputs) places i 0 within)
     ∙ was
 
-pub told_step : (old new : Known) (items more all : List Notice) (places : List ℕ) (i : ℕ) → i < length places → items ++ told_of_all old.inputs (drop i places) ≡ all → new ≡ record old { inputs = opened_after old.inputs (get_or places i 0) } → more ≡ items ++ opened_notices old.inputs (get_or places i 0) → more ++ told_of_all new.inputs (drop (i + 1) places) ≡ all
+pub told_step : (old new : Known) (items more all : List Notice) (places : List ℕ) (i : ℕ) → i < length places → items ++ told_of_all old.inputs (drop i places) ≡ all → new
+    ≡ record old { inputs = opened_after old.inputs (get_or places i 0) } → more ≡ items ++ opened_notices old.inputs (get_or places i 0) → more ++ told_of_all new.inputs (drop (i + 1) places) ≡ all
 told_step old new items more all places i within was step is =
     let p = get_or places i 0 in
     ap (λ (k : Known). more ++ told_of_all k.inputs (drop (i + 1) places)) step
@@ -106,7 +111,8 @@ told_step old new items more all places i within was step is =
 
 -- ---- all that is asked, and told
 
-pub known_asked : (first mid last : Known) (places : List ℕ) → AreRising 0 (length first.inputs.conf.interfaces) places → mid ≡ record first { inputs = left_at first.inputs places } → last ≡ record mid { inputs = fold opened_after mid.inputs places } → last ≡ record first { inputs = asked_of (is_touched first.inputs.conf.interfaces places) first.inputs }
+pub known_asked : (first mid last : Known) (places : List ℕ) → AreRising 0 (length first.inputs.conf.interfaces) places → mid ≡ record first { inputs = left_at first.inputs places } → last
+    ≡ record mid { inputs = fold opened_after mid.inputs places } → last ≡ record first { inputs = asked_of (is_touched first.inputs.conf.interfaces places) first.inputs }
 known_asked first mid last places rising lost opened =
     opened
     ∙ ap (λ (k : Known). let now : Known = record k { inputs = fold opened_after k.inputs places } in now) lost
@@ -114,7 +120,9 @@ known_asked first mid last places rising lost opened =
     (opened_all (left_at first.inputs places) 0 (length first.inputs.conf.interfaces) places rising
     ∙ ap (with_all (left_at first.inputs places)) (opened_touched first.inputs places rising))
 
-pub all_told : (first mid : Known) (places numbers : List ℕ) (items middle last : List Notice) → StandOnce first.inputs → AreRising 0 (length first.inputs.conf.interfaces) places → mid ≡ record first { inputs = left_at first.inputs places } → IsStrictlySortedBy nat_cmp numbers → ((n : ℕ) → Contains numbers n ↔ Contains (lost_at_places first.inputs places) n) → middle ≡ items ++ map notice.Dropped numbers → last ≡ middle ++ told_of_all mid.inputs places → last ≡ items ++ told_of (is_touched first.inputs.conf.interfaces places) first.inputs
+pub all_told : (first mid : Known) (places numbers : List ℕ) (items middle last : List Notice) → StandOnce first.inputs → AreRising 0 (length first.inputs.conf.interfaces) places → mid ≡ record first { inputs = left_at first.inputs places }
+    → IsStrictlySortedBy nat_cmp numbers → ((n : ℕ) → Contains numbers n ↔ Contains (lost_at_places first.inputs places) n) → middle ≡ items ++ map notice.Dropped numbers → last ≡ middle ++ told_of_all mid.inputs places → last ≡ items
+    ++ told_of (is_touched first.inputs.conf.interfaces places) first.inputs
 all_told first mid places numbers items middle last once rising lost sorted members before after =
     let inputs : Inputs = first.inputs in
     let touched = is_touched inputs.conf.interfaces places in

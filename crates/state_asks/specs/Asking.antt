@@ -19,8 +19,8 @@ needs_ask facts row = is_ready facts row && not (asks_nothing row.proto)
 abbrev pub lacks_ask : Facts → InterfaceRow → InterfaceState → Bool
 lacks_ask facts row st = (st.is_first && is_none st.number) && needs_ask facts row
 
--- Interfaces at some places are neither claimed nor up, all others are what they are by the inputs, and the graph and the gifts are
--- counted over them.
+-- Interfaces at some places are neither claimed nor up, all others are what they are by the inputs, and the graph and
+-- the gifts are counted over them.
 pub record AreBetween (inputs : Inputs) (places : List ℕ) (states : States) (c : Course) : Type 0 where
   pub tied : IsTied inputs states
   pub idle : AreIdleAt places states.list.items

@@ -1,4 +1,5 @@
-//! Touched interfaces follow what happened: what they give and claim, and their asks. None of this takes memory.
+//! Touched interfaces follow what happened: what they give and claim, and their asks. None of this
+//! takes memory.
 #![tactic(auto)]
 
 mod asking;

@@ -1,5 +1,6 @@
 //! Asks that are lost.
-ghost use Rattle.std.specs.Prelude.{◌≡◌, ◌<◌, ◌∷◌, [], ◌++◌, ℕ, List, true, length, option_to_list, vec_len, vec_capacity};
+ghost use Rattle.std.specs.Prelude.{◌≡◌, ◌<◌, ◌∷◌, [], ◌++◌, ℕ, List, true, length, option_to_list};
+ghost use Rattle.std.specs.Prelude.{vec_len, vec_capacity};
 ghost use Rattle.std.specs.Option.{option_and_then};
 ghost use Rattle.net_rules.specs.Numbers.{AreRising};
 ghost use Rattle.net_states.specs.Kept.{IsTied};
@@ -14,7 +15,8 @@ use known_inputs::KnownInputs;
 use net_rules::{Answer, OpenInterface};
 use net_states::{GraphSettling, States};
 
-/// The asks of the interfaces at some places are lost that are no longer needed. Their numbers are noted.
+/// The asks of the interfaces at some places are lost that are no longer needed. Their numbers are
+/// noted.
 pub(crate) fn lose_asks(
     places: &[usize],
     inputs: &mut KnownInputs,
@@ -48,7 +50,8 @@ fn note_lost(states: &mut States, number: Option<u64>)
     }
 }
 
-// The ask of the interface at a place is lost where it is open and no longer needed. It is at hand again.
+// The ask of the interface at a place is lost where it is open and no longer needed. It is at hand
+// again.
 fn lose_ask(
     place: usize,
     inputs: &mut KnownInputs,

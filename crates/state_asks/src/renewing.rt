@@ -18,8 +18,9 @@ use std::collections::VecDeque;
 use std::sync::ledger::Ledger;
 use use_counts::Steps;
 
-/// The interfaces at some places follow what happened, where all others are what they are by the inputs: what they give and claim, and
-/// their asks. Asks that are lost are told first, then those that are opened. It takes no memory.
+/// The interfaces at some places follow what happened, where all others are what they are by the
+/// inputs: what they give and claim, and their asks. Asks that are lost are told first, then those
+/// that are opened. It takes no memory.
 pub fn renew<L: Ledger>(
     places: &[usize],
     inputs: &mut KnownInputs,

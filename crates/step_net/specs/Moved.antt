@@ -1,6 +1,7 @@
 -- What a line leaves, makes of the kernel and says, as a function of the plane before it and of its
 -- luck: what it does, then its settling, then its answer.
-use Rattle.std.specs.Prelude.{ℕ, ◌≡◌, ◌+◌, List, [], ◌∷◌, ◌++◌, Bool, true, false, not, ◌&&◌, Option, Some, None, is_none, is_some, take, drop, map, length, nat_lt, codes, refl, if◌then◌else◌}
+use Rattle.std.specs.Prelude.{ℕ, ◌≡◌, ◌+◌, List, [], ◌∷◌, ◌++◌, Bool, true, false, not, ◌&&◌, Option, Some, None}
+use Rattle.std.specs.Prelude.{is_none, is_some, take, drop, map, length, nat_lt, codes, refl, if◌then◌else◌}
 use Rattle.std.specs.Option.{option_map}
 use Rattle.kern_model.specs.declared.object.Call.{Call}
 use Rattle.kern_model.specs.declared.kernel.Asked.{Asked}

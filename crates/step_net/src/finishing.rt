@@ -45,7 +45,8 @@ pub fn finish<K: Kernel, O: Sink>(
     Ok(is_fine(told, stopped))
 }
 
-/// Settles, and shows a text behind the lines of the calls. It takes no memory. A call of the kernel that failed is not told.
+/// Settles, and shows a text behind the lines of the calls. It takes no memory. A call of the
+/// kernel that failed is not told.
 ///
 /// # Errors
 ///

@@ -1,5 +1,5 @@
-//! One line of a script on the plane of interfaces: events, answers and operators' commands are taken, committed files are loaded, the kernel
-//! is settled, and status is shown.
+//! One line of a script on the plane of interfaces: events, answers and operators' commands are
+//! taken, committed files are loaded, the kernel is settled, and status is shown.
 #![tactic(auto)]
 
 mod asks;

@@ -30,7 +30,8 @@ use Rattle.touch_laws.specs.Staying.{StaysAs, FollowTouched}
 use Rattle.touch_laws.proofs.PlaceLemmas.{StandsAt, first_stands, itself, touched_at}
 
 -- the layer-3 device of an interface is its device, or that of the latest answer
-told_by : (found : Option OpenInterface) → option_and_then (λ (a : Answer). a.device) (option_and_then (λ (o : OpenInterface). o.answer) found) ≡ option_and_then (λ (o : OpenInterface). option_and_then (λ (a : Answer). a.device) o.answer) found
+told_by : (found : Option OpenInterface) → option_and_then (λ (a : Answer). a.device) (option_and_then (λ (o : OpenInterface). o.answer) found)
+    ≡ option_and_then (λ (o : OpenInterface). option_and_then (λ (a : Answer). a.device) o.answer) found
 told_by None = refl
 told_by (Some o) = refl
 
@@ -66,7 +67,8 @@ module _ (inputs : Inputs) (row : InterfaceRow) (name : List ℕ) (place : ℕ) 
   at_device_of is = at_own is
 
 -- an interface that is not touched is at no name above
-module _ (inputs : Inputs) (base : List ℕ) (places : List ℕ) (are : AreTouched inputs base places) (row : InterfaceRow) (member : Contains (interfaces_of inputs.conf) row) (off : is_touched inputs.conf.interfaces places row.name ≡ false) where
+module _ (inputs : Inputs) (base : List ℕ) (places : List ℕ) (are : AreTouched inputs base places) (row : InterfaceRow) (member : Contains (interfaces_of inputs.conf) row)
+    (off : is_touched inputs.conf.interfaces places row.name ≡ false) where
   abbrev stands : StandsAt inputs.conf row
   stands = first_stands inputs.conf row member
 

@@ -63,13 +63,15 @@ state_stays before now row st stays is = record {
   up = is.up ∙ sym stays.up;
 }
 
-pub behind_device : (inputs : Inputs) (what : DevEvent) (places : List ℕ) (place : ℕ) (row : InterfaceRow) (st : InterfaceState) → AreTouched inputs (name_of what) places → slice_get inputs.conf.interfaces place ≡ Some row → is_first inputs.conf.interfaces place row.name ≡ true
+pub behind_device : (inputs : Inputs) (what : DevEvent) (places : List ℕ) (place : ℕ) (row : InterfaceRow) (st : InterfaceState) → AreTouched inputs (name_of what) places → slice_get inputs.conf.interfaces place ≡ Some row
+    → is_first inputs.conf.interfaces place row.name ≡ true
     → (Contains places place → ⊥) → IsStateOf (facts_of inputs) row st → IsStateOf (facts_of (changed inputs (event.Device what))) row st
 behind_device inputs what places place row st are at first outside is =
     state_stays (facts_of inputs) (facts_of (changed inputs (event.Device what))) row st
     (devices.stays_as inputs what places are row (first_among inputs.conf place row at first) (untouched_at inputs.conf place row at first places outside)) is
 
-pub behind_command : (inputs : Inputs) (interface : List ℕ) (up : Bool) (own place : ℕ) (row : InterfaceRow) (st : InterfaceState) → place_of (names_of_rows inputs.conf.interfaces) interface ≡ Some own → slice_get inputs.conf.interfaces place ≡ Some row
+pub behind_command : (inputs : Inputs) (interface : List ℕ) (up : Bool) (own place : ℕ) (row : InterfaceRow) (st : InterfaceState) → place_of (names_of_rows inputs.conf.interfaces) interface ≡ Some own
+    → slice_get inputs.conf.interfaces place ≡ Some row
     → is_first inputs.conf.interfaces place row.name ≡ true → (Contains (own ∷ []) place → ⊥) → IsStateOf (facts_of inputs) row st → IsStateOf (facts_of (changed inputs (event.Operator interface up))) row st
 behind_command inputs interface up own place row st is_own at first outside is =
     state_stays (facts_of inputs) (facts_of (changed inputs (event.Operator interface up))) row st

@@ -24,7 +24,8 @@ pub record StaysAs (before now : Facts) (row : InterfaceRow) : Type 0 where
   pub need : interface_need now row ≡ interface_need before row
   pub gives : given now row ≡ given before row
 
--- what is told where the asks of touched interfaces follow their needs: the asks that are lost, then those that are opened
+-- what is told where the asks of touched interfaces follow their needs: the asks that are lost, then those that are
+-- opened
 abbrev pub told_of : (List ℕ → Bool) → Inputs → List Notice
 told_of touched now =
     map notice.Dropped (lost_numbers (facts_of now) touched now.interfaces)

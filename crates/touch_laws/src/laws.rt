@@ -1,5 +1,6 @@
 // Laws of the definitions. Each body is empty, and the contract is the law.
-ghost use Rattle.std.specs.Prelude.{◌≡◌, ◌↔◌, ℕ, List, [], ◌∷◌, Bool, Contains, map, Some, true, false, slice_get};
+ghost use Rattle.std.specs.Prelude.{◌≡◌, ◌↔◌, ℕ, List, [], ◌∷◌, Bool, Contains, map, Some, true};
+ghost use Rattle.std.specs.Prelude.{false, slice_get};
 ghost use Rattle.kern_model.specs.declared.object.DevEvent.{DevEvent};
 ghost use Rattle.net_rows.specs.declared.rows.InterfaceRow.{InterfaceRow};
 ghost use Rattle.net_rules.specs.declared.inputs.Inputs.{Inputs};
@@ -19,8 +20,9 @@ ghost use Rattle.net_reach.specs.Reach.{AreTouched};
 ghost use Rattle.asked_places.specs.Touched.{is_touched};
 ghost use Rattle.touch_laws.specs.Staying.{StaysAs, FollowTouched, told_of};
 
-/// What happens to a device leaves alone each interface that does not stand at one of the places that the walk up from its name finds.
-/// The asks of the others alone follow it. The walk finds the same before and after it.
+/// What happens to a device leaves alone each interface that does not stand at one of the places
+/// that the walk up from its name finds. The asks of the others alone follow it. The walk finds the
+/// same before and after it.
 pub fn devices_touch_the_places_above()
     ensures stay { (inputs : Inputs) (what : DevEvent) (places : List ℕ) (row : InterfaceRow)
         → AreTouched inputs (name_of what) places → Contains (interfaces_of inputs.conf) row
@@ -34,7 +36,8 @@ pub fn devices_touch_the_places_above()
         ↔ AreTouched inputs (name_of what) places }
 {}
 
-/// A command leaves alone each interface that does not stand at the place of its own, and the asks of that one alone follow it.
+/// A command leaves alone each interface that does not stand at the place of its own, and the asks
+/// of that one alone follow it.
 pub fn commands_touch_one_place()
     ensures stay { (inputs : Inputs) (interface : List ℕ) (up : Bool) (place : ℕ)
         (row : InterfaceRow)
@@ -48,8 +51,8 @@ pub fn commands_touch_one_place()
         (is_touched inputs.conf.interfaces (place ∷ [])) }
 {}
 
-/// Inputs that events led to have the asks that they need: whichever interfaces are touched, their asks stay, and nothing is told. Each is
-/// what the handler of its row is asked.
+/// Inputs that events led to have the asks that they need: whichever interfaces are touched, their
+/// asks stay, and nothing is told. Each is what the handler of its row is asked.
 pub fn needed_asks_stay()
     ensures stay { (inputs : Inputs) (touched : List ℕ → Bool) → IsReached inputs
         → asked_of touched inputs ≡ inputs }
@@ -60,7 +63,8 @@ pub fn needed_asks_stay()
         → o.ask ≡ interface_ask (facts_of inputs) row }
 {}
 
-/// What the first row of a name is stays so where its place is none of those that a device touches, and not that of a command's interface.
+/// What the first row of a name is stays so where its place is none of those that a device touches,
+/// and not that of a command's interface.
 pub fn untouched_states_stay()
     ensures device { (inputs : Inputs) (what : DevEvent) (places : List ℕ) (place : ℕ)
         (row : InterfaceRow) (st : InterfaceState) → AreTouched inputs (name_of what) places

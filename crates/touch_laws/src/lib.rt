@@ -1,4 +1,5 @@
-//! Laws on the places of touched interfaces: what happens to a device touches those that the walk up from its name finds, a command one.
+//! Laws on the places of touched interfaces: what happens to a device touches those that the walk
+//! up from its name finds, a command one.
 #![tactic(auto)]
 
 mod laws;

@@ -3,7 +3,8 @@ use Rattle.std.specs.Prelude.{ℕ, List, Bool, ◌||◌, codes}
 use Rattle.std.specs.List.{list_any}
 use Rattle.ubus_acl.specs.declared.record.Record.{Record}
 use Rattle.ubus_acl.specs.declared.acl.Acl.{Acl}
-use Rattle.ubus_acl.specs.Record.{same_text, allows_call, allows_publish, allows_subscribe, allows_send, allows_listen, lets}
+use Rattle.ubus_acl.specs.Record.{same_text, allows_call, allows_publish, allows_subscribe, allows_send, allows_listen}
+use Rattle.ubus_acl.specs.Record.{lets}
 
 abbrev pub is_root : List ℕ → Bool
 is_root user = same_text user (codes "root")

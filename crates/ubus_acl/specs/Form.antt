@@ -1,8 +1,10 @@
 -- Which texts are access lists: JSON arrays of records (RFC 8259).
-use Rattle.std.specs.Prelude.{ℕ, ◌+◌, ◌<◌, ◌≡◌, List, [], ◌∷◌, Bool, Option, Some, None, IsSome, Result, Ok, Err, ◌&&◌, is_none, codes, if◌then◌else◌}
+use Rattle.std.specs.Prelude.{ℕ, ◌+◌, ◌<◌, ◌≡◌, List, [], ◌∷◌, Bool, Option, Some, None, IsSome, Result, Ok, Err, ◌&&◌}
+use Rattle.std.specs.Prelude.{is_none, codes, if◌then◌else◌}
 use Rattle.std.specs.Option.{option_map, option_and_then}
 use Rattle.std.specs.Str.{is_utf8}
-use Rattle.serde_json.specs.Data.{Data, null, boolean, number, string, array, object, Items, no_items, item, Members, no_members, member}
+use Rattle.serde_json.specs.Data.{Data, null, boolean, number, string, array, object, Items, no_items, item, Members}
+use Rattle.serde_json.specs.Data.{no_members, member}
 use Rattle.serde_json.specs.Find.{get, get_item, as_str}
 use Rattle.serde_json.specs.Read.{read}
 use Rattle.ubus_acl.specs.declared.access_error.AclError.{AclError}
@@ -79,7 +81,16 @@ record_of value =
     option_and_then (λ publish.
     option_and_then (λ subscribe.
     option_and_then (λ send.
-    option_map (λ listen. record { user = user; group = group; access = access; publish = publish; subscribe = subscribe; send = send; listen = listen })
+    option_map (λ listen. record {
+      user = user;
+      group = group;
+      access = access;
+      publish = publish;
+      subscribe = subscribe;
+      send = send;
+      listen =
+          listen;
+    })
     (texts_in (get (codes "listen") value)))
     (texts_in (get (codes "send") value)))
     (texts_in (get (codes "subscribe") value)))

@@ -3,7 +3,8 @@ ghost use Rattle.serde_json.specs.View.{view};
 ghost use Rattle.ubus_acl.specs.declared.access_error.AclError.TheVariants.{Memory as NoMemory};
 ghost use Rattle.std.specs.List.{list_any};
 ghost use Rattle.ubus_acl.specs.Acl as spec;
-ghost use Rattle.ubus_acl.specs.Record.{lets, allows_call, allows_publish, allows_subscribe, allows_send, allows_listen};
+ghost use Rattle.ubus_acl.specs.Record.{lets, allows_call, allows_publish, allows_subscribe};
+ghost use Rattle.ubus_acl.specs.Record.{allows_send, allows_listen};
 ghost use Rattle.ubus_acl.specs.Form.{acl_of, acl_in};
 
 use crate::read::read_records;
@@ -12,7 +13,8 @@ use plane_io::Items;
 use serde_json::Value;
 use std::alloc::Global;
 
-/// An access list. A client may do what some record of its user or its group allows. The user `root` may do all.
+/// An access list. A client may do what some record of its user or its group allows. The user
+/// `root` may do all.
 #[derive(Drop)]
 pub struct Acl {
     pub records: Items<Record>,
@@ -21,14 +23,14 @@ pub struct Acl {
 impl Acl {
     /// Reads an access list: a JSON array of objects.
     ///
-    /// Each has `user` or `group` or both, texts. `access` maps patterns of objects to objects with `methods`, an array of
-    /// texts. `publish`, `subscribe`, `send` and `listen` are arrays of texts. All but one of `user` and `group` may be absent,
-    /// and other keys are passed over.
+    /// Each has `user` or `group` or both, texts. `access` maps patterns of objects to objects with
+    /// `methods`, an array of texts. `publish`, `subscribe`, `send` and `listen` are arrays of
+    /// texts. All but one of `user` and `group` may be absent, and other keys are passed over.
     ///
     /// # Errors
     ///
-    /// `BadJson` where the text is no JSON array, `BadRecord` for the first item that is of another form, and `Memory` where
-    /// there was not enough memory.
+    /// `BadJson` where the text is no JSON array, `BadRecord` for the first item that is of another
+    /// form, and `Memory` where there was not enough memory.
     pub fn read(alloc: Global, text: &[u8]) -> Result<Acl, AclError>
         ensures { result ≢ Err NoMemory → result ≡ acl_of text.now }
     {
@@ -98,7 +100,8 @@ fn is_root(user: &[u8]) -> bool
 }
 
 fn some_lets_call(rows: &[Record], user: &[u8], group: &[u8], object: &[u8], method: &[u8]) -> bool
-    ensures { result ≡ list_any (lets (allows_call object.now method.now) user.now group.now) rows.now }
+    ensures { result ≡ list_any (lets (allows_call object.now method.now) user.now group.now)
+        rows.now }
 {
     rows.iter()
         .any(|row| row.lets_call(user, group, object, method))

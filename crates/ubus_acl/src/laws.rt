@@ -1,4 +1,5 @@
-ghost use Rattle.std.specs.Prelude.{◌≡◌, ◌<◌, ◌↔◌, ℕ, List, Result, Err, Some, None, IsSome, true, codes};
+ghost use Rattle.std.specs.Prelude.{◌≡◌, ◌<◌, ◌↔◌, ℕ, List, Result, Err, Some, None, IsSome, true};
+ghost use Rattle.std.specs.Prelude.{codes};
 ghost use Rattle.serde_json.specs.Data.{Items, Data, array};
 ghost use Rattle.serde_json.specs.Find.{get_item};
 ghost use Rattle.ubus_acl.specs.declared.acl.Acl.{Acl};

@@ -77,7 +77,8 @@ fn read_text(alloc: Global, value: Option<&Value>) -> Result<Option<Option<Text>
 
 /// An array of texts, empty where it is absent.
 fn read_texts(alloc: Global, value: Option<&Value>) -> Result<Option<Items<Text>>, Memory>
-    ensures { IfOk result (λ texts. texts ≡ spec.texts_in (option_map (λ v. view v.now) value.entry)) }
+    ensures { IfOk result (λ texts. texts
+        ≡ spec.texts_in (option_map (λ v. view v.now) value.entry)) }
 {
     match value {
         None => Ok(Some(Items::new(alloc))),
@@ -109,7 +110,8 @@ fn copy_texts(alloc: Global, items: &Vec<Value>) -> Result<Option<Items<Text>>, 
 
 /// Methods by patterns of objects, none where it is absent.
 fn read_access(alloc: Global, value: Option<&Value>) -> Result<Option<Items<Access>>, Memory>
-    ensures { IfOk result (λ access. access ≡ spec.access_in (option_map (λ v. view v.now) value.entry)) }
+    ensures { IfOk result (λ access. access
+        ≡ spec.access_in (option_map (λ v. view v.now) value.entry)) }
 {
     match value {
         None => Ok(Some(Items::new(alloc))),

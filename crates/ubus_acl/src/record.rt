@@ -11,8 +11,8 @@ pub struct Access {
     pub methods: Items<Text>,
 }
 
-/// What the clients of a user, or of a group, may do. All texts but the user and the group are patterns, in which a last `*`
-/// stands for any rest.
+/// What the clients of a user, or of a group, may do. All texts but the user and the group are
+/// patterns, in which a last `*` stands for any rest.
 #[derive(Drop)]
 pub struct Record {
     pub user: Option<Text>,
@@ -37,7 +37,8 @@ impl Record {
         is_named(&self.user, user) || is_named(&self.group, group)
     }
 
-    /// Whether the record lets a client of this user and this group call a method of the objects of a path.
+    /// Whether the record lets a client of this user and this group call a method of the objects of
+    /// a path.
     pub(crate) fn lets_call(&self, user: &[u8], group: &[u8], object: &[u8], method: &[u8]) -> bool
         ensures { result ≡ spec.lets (spec.allows_call object.now method.now) user.now group.now
             self.now }

@@ -14,7 +14,9 @@ use Rattle.ubus_requests.proofs.PlanLemmas.{passed}
 -- the step of a message of this kind
 abbrev pub by_kind : ℕ → Step → Step → Step → Step → Step → Step → Step → Step → Step → Step → Step → Step
 by_kind kind status answer ping lookup invoke add remove subscribe unsubscribe notify other =
-    if kind == 1 then status else (if kind == 2 then answer else (if kind == 3 then ping else (if kind == 4 then lookup else (if kind == 5 then invoke else (if kind == 6 then add else (if kind == 7 then remove else (if kind == 8 then subscribe else (if kind == 9 then unsubscribe else (if kind == 10 then notify else other)))))))))
+    if kind == 1 then status else (if kind == 2 then answer else (if kind == 3 then ping
+    else (if kind == 4 then lookup else (if kind == 5 then invoke
+    else (if kind == 6 then add else (if kind == 7 then remove else (if kind == 8 then subscribe else (if kind == 9 then unsubscribe else (if kind == 10 then notify else other)))))))))
 
 differs : (kind n : ℕ) → kind ≢ n → (kind == n) ≡ false
 differs kind n h = grind (arith, nat_tests, h)

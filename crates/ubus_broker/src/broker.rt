@@ -1,4 +1,5 @@
-ghost use Rattle.std.specs.Prelude.{◌≡◌, ◌≢◌, ◌↔◌, ◌≤◌, ◌==◌, ◌+◌, ◌++◌, false, IfOk, OnOk, OnErr, None, true, Err, [], ◌∷◌, filter, not, is_none};
+ghost use Rattle.std.specs.Prelude.{◌≡◌, ◌≢◌, ◌↔◌, ◌≤◌, ◌==◌, ◌+◌, ◌++◌, false, IfOk, OnOk, OnErr};
+ghost use Rattle.std.specs.Prelude.{None, true, Err, [], ◌∷◌, filter, not, is_none};
 ghost use Rattle.std.specs.Option.{option_copied};
 ghost use Rattle.ubus_table.specs.Table as table;
 ghost use Rattle.ubus_table.specs.Clients as clients;
@@ -7,7 +8,8 @@ ghost use Rattle.ubus_table.specs.Frames.{plain, hello};
 ghost use Rattle.ubus_send.specs.declared.outbox.Outgoing.{Outgoing as OutgoingRow};
 ghost use Rattle.ubus_send.specs.Fits.{fits};
 ghost use Rattle.ubus_send.specs.Out.{out_of};
-ghost use Rattle.ubus_broker.specs.declared.broker_error.BrokerError.TheVariants.{Full as IsFull, NoClient as NoSuchClient};
+ghost use Rattle.ubus_broker.specs.declared.broker_error.BrokerError.TheVariants.{Full as IsFull};
+ghost use Rattle.ubus_broker.specs.declared.broker_error.BrokerError.TheVariants as refusal;
 ghost use Rattle.ubus_requests.specs.Plan.{Plans};
 ghost use Rattle.ubus_broker.specs.Did.{table_of, Did};
 
@@ -61,15 +63,15 @@ impl Broker {
     ///
     /// # Errors
     ///
-    /// `Full` where there are 256 clients or their numbers are used up, `Memory` where there was not enough memory. The bus
-    /// stays as it was.
+    /// `Full` where there are 256 clients or their numbers are used up, `Memory` where there was
+    /// not enough memory. The bus stays as it was.
     pub fn connect(&mut self, user: &[u8], group: &[u8]) -> Result<Joined, BrokerError>
         ensures ok { IfOk result (λ joined. Did
             (served fits (table_of self.old) (connect user.now group.now))
             (table_of self.new) joined.out None) }
         ensures number { IfOk result (λ joined. joined.client ≡ (table_of self.old).next_client) }
         ensures full { (result ≡ Err IsFull) ↔ (clients.is_full (table_of self.old) ≡ true) }
-        ensures other { result ≢ Err NoSuchClient }
+        ensures other { result ≢ Err refusal.NoClient }
         ensures err { OnErr result (table_of self.new ≡ table_of self.old) }
     {
         if self.has_all_clients() {
@@ -123,12 +125,13 @@ impl Broker {
     ///
     /// # Errors
     ///
-    /// `NoClient` where no such client is connected, `Memory` where there was not enough memory. The bus stays as it was.
+    /// `NoClient` where no such client is connected, `Memory` where there was not enough memory.
+    /// The bus stays as it was.
     pub fn client_frame(&mut self, client: u32, frame: &Frame) -> Result<Served, BrokerError>
         ensures ok { IfOk result (λ done. Did
             (served fits (table_of self.old) (event_frame client frame.now))
             (table_of self.new) done.out done.call) }
-        ensures no_client { (result ≡ Err NoSuchClient)
+        ensures no_client { (result ≡ Err refusal.NoClient)
             ↔ (table.client_of (table_of self.old) client ≡ None) }
         ensures other { result ≢ Err IsFull }
         ensures err { OnErr result (table_of self.new ≡ table_of self.old) }
@@ -181,11 +184,12 @@ impl Broker {
     ///
     /// # Errors
     ///
-    /// `NoClient` where no such client is connected, `Memory` where there was not enough memory. The bus stays as it was.
+    /// `NoClient` where no such client is connected, `Memory` where there was not enough memory.
+    /// The bus stays as it was.
     pub fn disconnect(&mut self, client: u32) -> Result<Served, BrokerError>
         ensures ok { IfOk result (λ done. Did (served fits (table_of self.old) (leave client))
             (table_of self.new) done.out done.call) }
-        ensures no_client { (result ≡ Err NoSuchClient)
+        ensures no_client { (result ≡ Err refusal.NoClient)
             ↔ (table.is_connected (table_of self.old) client ≡ false) }
         ensures other { result ≢ Err IsFull }
         ensures err { OnErr result (table_of self.new ≡ table_of self.old) }

@@ -14,7 +14,8 @@ ghost use Rattle.ubus_broker.specs.Ran.{Ran, marked};
 
 use ubus_table::places_change_nothing;
 
-/// A broker sends what the definitions send from the first event on, in this order, and nothing else.
+/// A broker sends what the definitions send from the first event on, in this order, and nothing
+/// else.
 pub fn sent_as_defined()
     ensures { (acl : Acl) (events : List BusEvent) (out : List Outgoing) (now : Table) →
         Ran (nobody acl) events out now → out ≡ out_of (marked acl events) }
@@ -34,8 +35,8 @@ pub fn at_most_one_status()
     ubus_table::at_most_one_status();
 }
 
-/// An INVOKE that asks for a reply and is refused, or answered by the event object, has one STATUS sent for it, whatever
-/// comes later.
+/// An INVOKE that asks for a reply and is refused, or answered by the event object, has one STATUS
+/// sent for it, whatever comes later.
 pub fn over_at_once()
     ensures { (acl : Acl) (earlier later : List BusEvent) (number : ℕ) (client : Client)
         (message : Frame) (first second : List Outgoing) (before now : Table) → Asks message →
@@ -50,8 +51,9 @@ pub fn over_at_once()
     ubus_table::over_at_once();
 }
 
-/// An INVOKE that asks for a reply has one STATUS sent for it once its object's owner has sent its STATUS, removed the object
-/// or left, or the local object has answered, whatever comes later, unless its caller left first.
+/// An INVOKE that asks for a reply has one STATUS sent for it once its object's owner has sent its
+/// STATUS, removed the object or left, or the local object has answered, whatever comes later,
+/// unless its caller left first.
 pub fn answered_once()
     ensures { (acl : Acl) (earlier between later : List BusEvent) (event : BusEvent)
         (number object : ℕ) (client : Client) (message : Frame)
@@ -70,7 +72,8 @@ pub fn answered_once()
     ubus_table::answered_once();
 }
 
-/// Each STATUS that is sent for an INVOKE that asks for a reply goes to its caller, with its sequence.
+/// Each STATUS that is sent for an INVOKE that asks for a reply goes to its caller, with its
+/// sequence.
 pub fn sent_to_its_caller()
     ensures { (acl : Acl) (earlier later : List BusEvent) (number : ℕ) (client : Client)
         (message : Frame) (first second : List Outgoing) (before now : Table) → Asks message →

@@ -1,4 +1,5 @@
-//! The message bus: clients come, send and leave, local objects answer; with the laws on statuses over runs of its calls.
+//! The message bus: clients come, send and leave, local objects answer; with the laws on statuses
+//! over runs of its calls.
 #![tactic(auto)]
 
 mod broker;

@@ -1,4 +1,5 @@
-ghost use Rattle.std.specs.Prelude.{◌≡◌, ◌<◌, ◌∷◌, ◌++◌, ◌&&◌, not, [], Some, OnErr, IfOk, IfErr, true, length, if◌then◌else◌};
+ghost use Rattle.std.specs.Prelude.{◌≡◌, ◌<◌, ◌∷◌, ◌++◌, ◌&&◌, not, [], Some, OnErr, IfOk, IfErr};
+ghost use Rattle.std.specs.Prelude.{true, length, if◌then◌else◌};
 ghost use Rattle.std.specs.List.{list_any, position};
 ghost use Rattle.ubus_table.specs.Table as table;
 ghost use Rattle.ubus_table.specs.Clients as spec;
@@ -8,7 +9,7 @@ ghost use Rattle.ubus_table.specs.Objects.{told};
 ghost use Rattle.ubus_state.specs.Calls.{call_of};
 ghost use Rattle.ubus_send.specs.Fits.{fits};
 ghost use Rattle.ubus_send.specs.Out.{out_of};
-ghost use Rattle.ubus_broker.specs.declared.broker_error.BrokerError.TheVariants.{Memory as NoMemory};
+ghost use Rattle.ubus_broker.specs.declared.broker_error.BrokerError.TheVariants as refusal;
 ghost use Rattle.ubus_broker.specs.Did.{table_of, Did};
 
 use crate::{Broker, BrokerError, Served};
@@ -32,7 +33,8 @@ impl Broker {
             .is_handed_out(call.caller, call.seq, call.object)
     }
 
-    /// Serves the answer of a local object. The call was handed out, and is not answered yet, as `is_handed_out` tells.
+    /// Serves the answer of a local object. The call was handed out, and is not answered yet, as
+    /// `is_handed_out` tells.
     ///
     /// # Errors
     ///
@@ -48,7 +50,7 @@ impl Broker {
         ensures ok { IfOk result (λ done. Did (served fits (table_of self.old)
             (reply_event call.now.caller call.now.seq call.now.object status payload))
             (table_of self.new) done.out done.call) }
-        ensures only_memory { IfErr result (λ error. error ≡ NoMemory) }
+        ensures only_memory { IfErr result (λ error. error ≡ refusal.Memory) }
         ensures err { OnErr result (table_of self.new ≡ table_of self.old) }
     {
         match self.answer(call, status, payload) {

@@ -1,7 +1,8 @@
 -- The first fault of bytes that begin with no frame.
 use Rattle.std.specs.Prelude.{ℕ, ◌+◌, ◌≡◌, ◌≢◌, ◌<◌, ◌≤◌, List, length, Some, false}
 use Rattle.blob_codec.specs.declared.blob_error.BlobError.{BlobError}
-use Rattle.blob_codec.specs.declared.blob_error.BlobError.TheVariants.{Short, BadLength, BadType, Double, NoNul, Deep, Memory}
+use Rattle.blob_codec.specs.declared.blob_error.BlobError.TheVariants.{Short, BadLength, BadType, Double, NoNul, Deep}
+use Rattle.blob_codec.specs.declared.blob_error.BlobError.TheVariants.{Memory}
 use Rattle.blob_codec.specs.Attribute.{padded, flag_in, type_in, length_in, behind, is_terminated}
 use Rattle.blob_codec.specs.Fault.{IsBlobFault, first_held}
 use Rattle.ubus_frames.specs.declared.frame.TheConstants.{MOST_BLOB}

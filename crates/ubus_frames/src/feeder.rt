@@ -1,9 +1,11 @@
-ghost use Rattle.std.specs.Prelude.{◌≡◌, ◌≢◌, ◌≤◌, [], IfOk, IfErr, OnErr, IfSome, IfNone, Err, MatchOption, List, ℕ, drop, length};
+ghost use Rattle.std.specs.Prelude.{◌≡◌, ◌≢◌, ◌≤◌, [], IfOk, IfErr, OnErr, IfSome, IfNone, Err};
+ghost use Rattle.std.specs.Prelude.{MatchOption, List, ℕ, drop, length};
 ghost use Rattle.ubus_frames.specs.declared.frame_error.FrameError.{FrameError};
 ghost use Rattle.ubus_frames.specs.Fault.{IsFrameFault};
 ghost use Rattle.ubus_frames.specs.Feeding.{HasFound, HasFront, Moves, StandInFront};
 ghost use Rattle.ubus_frames.specs.Layout.{BeginsWithFrame, IsUnfinished};
-ghost use Rattle.ubus_frames.specs.Stream.{Feeds, Holds, IsRest, Refuses, Takes, behind_frame, empty};
+ghost use Rattle.ubus_frames.specs.Stream.{Feeds, Holds, IsRest, Refuses, Takes, behind_frame};
+ghost use Rattle.ubus_frames.specs.Stream.{empty};
 
 use crate::{Frame, FrameError, frame_size, read_frame};
 use plane_io::Memory;
@@ -57,8 +59,9 @@ impl Feeder {
     ///
     /// # Errors
     ///
-    /// The fault that stands behind the whole frames. The piece that brings it is appended, and the frames in front of it
-    /// can be taken; each later feed is refused for the same fault and appends nothing. Want of memory changes nothing.
+    /// The fault that stands behind the whole frames. The piece that brings it is appended, and the
+    /// frames in front of it can be taken; each later feed is refused for the same fault and
+    /// appends nothing. Want of memory changes nothing.
     pub fn feed(&mut self, piece: &[u8]) -> Result<(), FrameError>
         ensures fed { IfOk result (λ _. Feeds piece.now self.old self.new) }
         ensures refused { (error : FrameError) → result ≡ Err error → error ≢ FrameError.Memory →
@@ -93,7 +96,8 @@ impl Feeder {
     }
 }
 
-/// Moves the frames in front of the bytes to the end of the others, and answers the fault behind them.
+/// Moves the frames in front of the bytes to the end of the others, and answers the fault behind
+/// them.
 fn move_frames(
     ready: &mut VecDeque<Frame>,
     bytes: &mut Vec<u8>,
@@ -136,7 +140,8 @@ struct Found {
     fault: Option<FrameError>,
 }
 
-/// Pushes the whole frames in front of the bytes behind the others. Where memory is wanting, some of them stay there.
+/// Pushes the whole frames in front of the bytes behind the others. Where memory is wanting, some
+/// of them stay there.
 fn push_frames(ready: &mut VecDeque<Frame>, bytes: &[u8]) -> Result<Found, Memory>
     ensures found { IfOk result (λ front.
         HasFound bytes.now ready.old.items ready.new.items front) }

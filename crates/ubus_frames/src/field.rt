@@ -53,7 +53,7 @@ pub(crate) fn split_field(bytes: &[u8], place: usize) -> Result<Parts<'_>, BlobE
     })
 }
 
-#[tactic(auto, unfolding(blob_codec::specs::Attribute::word_in, blob_codec::specs::Attribute::flag_in, blob_codec::specs::Attribute::type_in, blob_codec::specs::Attribute::length_in))]
+#[tactic(auto, using(blob_codec::proofs::HeadLemmas::head_fields))]
 pub(crate) fn read_word(bytes: &[u8]) -> Option<Word>
     ensures { MatchOption result (length bytes.now < 4) (λ word. IsWord bytes.now word) }
 {

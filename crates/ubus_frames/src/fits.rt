@@ -3,7 +3,8 @@ ghost use Rattle.blob_codec.specs.Attribute.{padded};
 ghost use Rattle.blob_codec.specs.Limits.{FitsBlob, HasNoNul};
 ghost use Rattle.blob_codec.specs.Written.{written as blob_bytes};
 ghost use Rattle.ubus_frames.specs.declared.frame.TheConstants.{MOST_BLOB};
-ghost use Rattle.ubus_frames.specs.Written.{FitsFrame, PartsFit, number_bytes, numbers_bytes, text_bytes, truth_bytes, written_fields};
+ghost use Rattle.ubus_frames.specs.Written.{FitsFrame, PartsFit, number_bytes, numbers_bytes};
+ghost use Rattle.ubus_frames.specs.Written.{text_bytes, truth_bytes, written_fields};
 ghost use Rattle.ubus_frames.specs.Sizes.{FitsPart, HasSize, size_where};
 
 use crate::field::padded_size;
@@ -13,8 +14,9 @@ use lanes_scan::first_nul;
 use plane_io::Text;
 use sqlite_items::Items;
 
-/// Whether the frame has a spelling: its signature and its data are such as `write_blob` takes, its texts have no zero
-/// byte, and it has at most 1,048,576 bytes behind its first eight. It takes no memory.
+/// Whether the frame has a spelling: its signature and its data are such as `write_blob` takes, its
+/// texts have no zero byte, and it has at most 1,048,576 bytes behind its first eight. It takes no
+/// memory.
 pub fn frame_fits(frame: &Frame) -> bool
     ensures fits { result ≡ true → FitsFrame frame.now }
     ensures unfit { result ≡ false → FitsFrame frame.now → ⊥ }

@@ -11,8 +11,8 @@ pub const MOST_BLOB: u32 = 1_048_576;
 /// A message of the bus.
 #[derive(Drop)]
 pub struct Frame {
-    /// The type: 0 HELLO, 1 STATUS, 2 DATA, 3 PING, 4 LOOKUP, 5 INVOKE, 6 ADD_OBJECT, 7 REMOVE_OBJECT, 8 SUBSCRIBE,
-    /// 9 UNSUBSCRIBE, 10 NOTIFY, 11 MONITOR. Others are taken too.
+    /// The type: 0 HELLO, 1 STATUS, 2 DATA, 3 PING, 4 LOOKUP, 5 INVOKE, 6 ADD_OBJECT, 7
+    /// REMOVE_OBJECT, 8 SUBSCRIBE, 9 UNSUBSCRIBE, 10 NOTIFY, 11 MONITOR. Others are taken too.
     pub kind: u8,
     /// The sequence, by which a reply names its request.
     pub seq: u16,

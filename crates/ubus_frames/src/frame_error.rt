@@ -25,7 +25,8 @@ pub enum FrameError {
 }
 
 impl FrameError {
-    /// The number of the kind of error: 50 for `Version`, 51 for `TooLong`, 52 for `BadBlob`, 8 for `Memory`.
+    /// The number of the kind of error: 50 for `Version`, 51 for `TooLong`, 52 for `BadBlob`, 8 for
+    /// `Memory`.
     pub fn number(&self) -> u8
         ensures { result ≡ number_of self.now }
     {

@@ -11,8 +11,9 @@ use blob_codec::BlobError;
 ///
 /// # Errors
 ///
-/// `Version` where the first byte is not 0. With twelve bytes: `TooLong` where the blob has more than 1,048,576, and
-/// `BadBlob` where it has less than 4 (`BadLength` at 8), or the flag or another id than 0 (`BadType` at 8).
+/// `Version` where the first byte is not 0. With twelve bytes: `TooLong` where the blob has more
+/// than 1,048,576, and `BadBlob` where it has less than 4 (`BadLength` at 8), or the flag or
+/// another id than 0 (`BadType` at 8).
 pub fn frame_size(bytes: &[u8]) -> Result<Option<usize>, FrameError>
     ensures size { IfOk result (λ size. MatchOption size (IsUnfinished bytes.now) (λ n.
         HasHead bytes.now × (n ≡ 8 + blob_length_in bytes.now) × (n ≤ length bytes.now))) }

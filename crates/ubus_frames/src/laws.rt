@@ -3,7 +3,8 @@ ghost use Rattle.ubus_frames.specs.declared.frame.Frame.{Frame};
 ghost use Rattle.ubus_frames.specs.declared.frame_error.FrameError.{FrameError};
 ghost use Rattle.ubus_frames.specs.Fault.{IsFrameFault};
 ghost use Rattle.ubus_frames.specs.Layout.{BeginsWithFrame, IsUnfinished, SpellsFrame};
-ghost use Rattle.ubus_frames.specs.Stream.{Appends, Divides, Holds, IsRest, Reaches, Stream, Takes, behind_frame};
+ghost use Rattle.ubus_frames.specs.Stream.{Appends, Divides, Holds, IsRest, Reaches, Stream, Takes};
+ghost use Rattle.ubus_frames.specs.Stream.{behind_frame};
 ghost use Rattle.ubus_frames.specs.Written.{FitsFrame, IsTyped, written_frame};
 
 /// Bytes divide into frames and a rest in one way, and no other.
@@ -32,8 +33,8 @@ pub fn fed_bytes()
         Holds before bytes → Holds after (bytes ++ piece) }
 {}
 
-/// What is taken is the frame in front of whatever bytes the feeder holds, and its bytes go; none is taken where no whole
-/// frame is in front.
+/// What is taken is the frame in front of whatever bytes the feeder holds, and its bytes go; none
+/// is taken where no whole frame is in front.
 pub fn taken_bytes()
     ensures first { (bytes : List ℕ) (frame : Frame) (before after : Stream) →
         Takes frame before after → Holds before bytes →
@@ -42,8 +43,8 @@ pub fn taken_bytes()
         IsRest bytes }
 {}
 
-/// However the bytes were cut into pieces and whenever frames were taken: the frames taken, those that wait, and the rest
-/// are the division of all bytes. So they depend on the bytes alone.
+/// However the bytes were cut into pieces and whenever frames were taken: the frames taken, those
+/// that wait, and the rest are the division of all bytes. So they depend on the bytes alone.
 pub fn divided_however_cut()
     ensures divided { (bytes : List ℕ) (taken : List Frame) (now : Stream) →
         Reaches bytes taken now → Divides bytes (taken ++ now.frames) now.rest }

@@ -1,5 +1,5 @@
-//! Frames of OpenWrt's message bus (ubus): one message with its head and its attributes, read and written, however the
-//! bytes are cut.
+//! Frames of OpenWrt's message bus (ubus): one message with its head and its attributes, read and
+//! written, however the bytes are cut.
 #![tactic(auto)]
 
 mod feeder;

@@ -9,7 +9,8 @@ use blob_codec::BlobError;
 use sqlite_items::Items;
 use std::alloc::Global;
 
-/// Reads numbers, attributes with the id 0 and four bytes each. `place` is that of the first byte in the frame.
+/// Reads numbers, attributes with the id 0 and four bytes each. `place` is that of the first byte
+/// in the frame.
 pub(crate) fn read_numbers(
     alloc: Global,
     bytes: &[u8],
@@ -41,7 +42,8 @@ pub(crate) struct Front<'a> {
 
 fn read_number(bytes: &[u8], place: usize) -> Result<Front<'_>, BlobError>
     ensures found { IfOk result (λ front. HasNumber bytes.now front) }
-    ensures refused { (error : BlobError) → result ≡ Err error → IsNumberFault place bytes.now error }
+    ensures refused { (error : BlobError) → result ≡ Err error
+        → IsNumberFault place bytes.now error }
 {
     let parts = split_field(bytes, place)?;
     if parts.flag != 0 {

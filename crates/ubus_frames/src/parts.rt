@@ -1,4 +1,5 @@
-ghost use Rattle.std.specs.Prelude.{ℕ, ◌≡◌, ◌≢◌, ◌<◌, ◌+◌, ◌^◌, IfOk, IfErr, Err, length, true, false};
+ghost use Rattle.std.specs.Prelude.{ℕ, ◌≡◌, ◌≢◌, ◌<◌, ◌+◌, ◌^◌, IfOk, IfErr, Err, length, true};
+ghost use Rattle.std.specs.Prelude.{false};
 ghost use Rattle.std.specs.Int.{w8, from_be_bytes};
 ghost use Rattle.blob_codec.specs.declared.blob_error.BlobError.{BlobError};
 ghost use Rattle.blob_codec.specs.Attribute.{is_terminated, without_last};

@@ -2,7 +2,9 @@ ghost use Rattle.std.specs.Prelude.{◌≡◌, ◌∷◌, [], ◌++◌, ◌+◌,
 ghost use Rattle.std.specs.Int.{w32, to_be_bytes};
 ghost use Rattle.blob_codec.specs.Limits.{FitsBlob};
 ghost use Rattle.blob_codec.specs.Written.{padding, written as blob_bytes};
-ghost use Rattle.ubus_frames.specs.Written.{FitsFrame, IfThere, number_bytes, numbers_bytes, text_bytes, truth_bytes, where_some, written_field, written_fields, written_frame};
+ghost use Rattle.ubus_frames.specs.Written.{FitsFrame, IfThere, number_bytes, numbers_bytes};
+ghost use Rattle.ubus_frames.specs.Written.{text_bytes, truth_bytes, where_some, written_field};
+ghost use Rattle.ubus_frames.specs.Written.{written_fields, written_frame};
 
 use crate::Frame;
 use crate::field::padded_size;

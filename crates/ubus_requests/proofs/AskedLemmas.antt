@@ -39,7 +39,8 @@ told_at Greater request object first others later put h = ap (λ (z : List Frame
 
 pub told_in_order : (request : Frame) (object : Object) (objects : List Object) → put_in by_path (description request object) (map (description request) objects) ≡ map (description request) (put_in by_object_path object objects)
 told_in_order request object [] = refl
-told_in_order request object (first ∷ others) = told_at (by_object_path object first) request object first others (put_in by_object_path object others) (put_in by_path (description request object) (map (description request) others)) (told_in_order request object others)
+told_in_order request object (first ∷ others) = told_at (by_object_path object first) request object first others (put_in by_object_path object others) (put_in by_path (description request object) (map (description request) others))
+    (told_in_order request object others)
 
 -- a list of no length
 pub empty_of : {X : Type 0} (items : List X) → length items ≡ 0 → items ≡ []
@@ -105,3 +106,5 @@ asked_alone pattern path objects found same is =
     ∙ filter_alike (is_asked pattern) (has_path path) same (filter (has_path path) objects)
     ∙ filter_twice (has_path path) (has_path path) (has_path path) (λ object. both_same (has_path path object)) objects
     ∙ sym (filter_alike (is_asked pattern) (has_path path) same objects)
+
+pub ruleset asked_or_not = (told_nothing, told_some)

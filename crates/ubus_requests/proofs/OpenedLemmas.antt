@@ -6,6 +6,7 @@ use Rattle.ubus_table.specs.Table.{Table, Call}
 use Rattle.ubus_table.specs.declared.rows.Client.{Client}
 use Rattle.ubus_table.specs.Frames.{is_set}
 use Rattle.ubus_table.specs.Calls.{passed_on, call_on, reached, opened}
+use Rattle.ubus_send.proofs.OutLemmas.{out_more}
 
 -- the calls that a NOTIFY opens on one object more
 opened_at : (b : Bool) (call : Call) (calls : List Call) → (if b then call ∷ calls else calls) ≡ (if b then call ∷ [] else []) ++ calls
@@ -50,3 +51,5 @@ opened_one fits table client request object h =
 pub opened_none : (fits : Frame → Bool) (table : Table) (client : Client) (request : Frame) (object : ℕ) → (not (is_set request.no_reply) && fits (passed_on client request object)) ≡ false
     → opened fits table client request (object ∷ []) ≡ []
 opened_none fits table client request object h = none_at (is_set request.no_reply) (fits (passed_on client request object)) object (map (call_on table client request)) refl h
+
+pub ruleset more_opened = (out_more, opened_more)

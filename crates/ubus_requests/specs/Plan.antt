@@ -23,4 +23,5 @@ abbrev pub notified_to : (Frame → Bool) → Table → Client → Frame → ℕ
 notified_to fits table client request object subscribers =
     says (record table { calls = table.calls ++ opened fits table client request subscribers })
     (told_subscribers fits client request object subscribers
-    ++ flat_map (λ subscriber. to_owner fits (owner_of table subscriber) (passed_on client request subscriber)) subscribers)
+    ++ flat_map (λ subscriber. to_owner fits (owner_of table subscriber) (passed_on client request subscriber))
+    subscribers)

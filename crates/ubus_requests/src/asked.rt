@@ -1,4 +1,5 @@
-ghost use Rattle.std.specs.Prelude.{◌≡◌, ◌++◌, ◌∷◌, [], List, ℕ, IfOk, IfSome, OnOk, false, map, filter};
+ghost use Rattle.std.specs.Prelude.{◌≡◌, ◌++◌, ◌∷◌, [], List, ℕ, IfOk, IfSome, OnOk, false, map};
+ghost use Rattle.std.specs.Prelude.{filter};
 ghost use Rattle.std.specs.Option.{option_copied, option_to_list};
 ghost use Rattle.plane_words.specs.InOrder.{ordered};
 ghost use Rattle.plane_words.specs.Pattern.{fits_front};
@@ -30,7 +31,7 @@ pub fn ping(bus: &Bus, client: u32, request: &Frame) -> Result<Items<Outgoing>, 
 }
 
 /// What a LOOKUP comes to.
-#[tactic(auto, using(crate::proofs::AskedLemmas::told_nothing, crate::proofs::AskedLemmas::told_some))]
+#[tactic(auto, using(crate::proofs::AskedLemmas::asked_or_not))]
 pub fn look_up(bus: &Bus, client: u32, request: &Frame) -> Result<Items<Outgoing>, Memory>
     ensures { IfOk result (λ out.
         out ≡ out_of (spec.looked_up fits (table_of bus.now) client request.now).sent) }
@@ -55,7 +56,8 @@ fn descriptions(bus: &Bus, request: &Frame) -> Result<Vec<Frame>, Memory>
     Ok(told)
 }
 
-/// Adds what is told of clients' objects, where nothing was told. Of a single path no other object is looked at.
+/// Adds what is told of clients' objects, where nothing was told. Of a single path no other object
+/// is looked at.
 fn describe_clients(bus: &Bus, told: &mut Vec<Frame>, request: &Frame) -> Result<(), Memory>
     ensures { told.old.items ≡ [] → OnOk result (told.new.items ≡ map (spec.description request.now)
         (ordered spec.by_path

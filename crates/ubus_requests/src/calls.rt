@@ -1,4 +1,5 @@
-ghost use Rattle.std.specs.Prelude.{◌≡◌, ◌++◌, ◌∷◌, ◌<◌, ◌==◌, [], not, false, Some, OnOk, IfOk, IfSome, length, remove};
+ghost use Rattle.std.specs.Prelude.{◌≡◌, ◌++◌, ◌∷◌, ◌<◌, ◌==◌, [], not, false, Some, OnOk, IfOk};
+ghost use Rattle.std.specs.Prelude.{IfSome, length, remove};
 ghost use Rattle.std.specs.Option.{option_copied};
 ghost use Rattle.std.specs.List.{find, flat_map, position};
 ghost use Rattle.ubus_table.specs.Frames as frames;
@@ -120,8 +121,9 @@ fn notify_all(
     })
 }
 
-/// Passes a message on to the owners of objects, where it fits, and opens a call for each where a reply is asked for.
-#[tactic(auto, using(ubus_send::proofs::OutLemmas::out_more, crate::proofs::OpenedLemmas::opened_more))]
+/// Passes a message on to the owners of objects, where it fits, and opens a call for each where a
+/// reply is asked for.
+#[tactic(auto, using(crate::proofs::OpenedLemmas::more_opened))]
 fn pass_on_all(
     bus: &Bus,
     out: &mut Items<Outgoing>,
@@ -188,7 +190,8 @@ fn answered_call(bus: &Bus, client: u32, frame: &Frame) -> Option<OpenCall>
     None
 }
 
-/// Whether the call is on an object of the client, and the peer, the sequence and OBJID, where there is one, name it.
+/// Whether the call is on an object of the client, and the peer, the sequence and OBJID, where
+/// there is one, name it.
 fn is_answered(bus: &Bus, client: u32, frame: &Frame, call: &OpenCall) -> bool
     ensures { result ≡ spec.is_answered (table_of bus.now) client frame.now (call_of call.now) }
 {

@@ -1,4 +1,5 @@
-ghost use Rattle.std.specs.Prelude.{◌≡◌, ◌++◌, ◌==◌, [], IfOk, OnOk, Some, true, false, not, unwrap_or, map, filter, codes};
+ghost use Rattle.std.specs.Prelude.{◌≡◌, ◌++◌, ◌==◌, [], IfOk, OnOk, Some, true, false, not};
+ghost use Rattle.std.specs.Prelude.{unwrap_or, map, filter, codes};
 ghost use Rattle.std.specs.Option.{option_copied};
 ghost use Rattle.std.specs.List.{list_any, flat_map};
 ghost use Rattle.ubus_acl.specs.Acl.{may_listen, may_send};
@@ -134,7 +135,8 @@ fn register_found(
 ) -> Result<Plan, Memory>
     ensures { IfOk result (λ plan. Plans
         (goes fits (table_of bus.now) client.now request.now (event_way
-        (spec.registers_found (table_of bus.now) client.now pattern.now (option_copied object.entry))))
+        (spec.registers_found (table_of bus.now) client.now pattern.now
+        (option_copied object.entry))))
         (table_of bus.now) plan) }
 {
     match object {

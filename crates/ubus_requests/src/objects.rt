@@ -200,7 +200,8 @@ fn remove_found(
     object: Option<&Object>,
 ) -> Result<Plan, Memory>
     ensures { IfOk result (λ plan. Plans
-        (spec.removes_found fits (table_of bus.now) client.now request.now (option_copied object.entry))
+        (spec.removes_found fits (table_of bus.now) client.now request.now
+        (option_copied object.entry))
         (table_of bus.now) plan) }
 {
     match object {

@@ -58,7 +58,8 @@ pub fn deny_if_asked(
     object: &[u8],
 ) -> Result<Plan, Memory>
     ensures { (table : Table) (place : Option ℕ) → IfOk result (λ plan. Plans
-        (says table (refused_if_asked fits place client request.now (denial function.now object.now)))
+        (says table
+        (refused_if_asked fits place client request.now (denial function.now object.now)))
         table plan) }
 {
     let out = denied_if_asked(alloc, client, request, function, object)?;

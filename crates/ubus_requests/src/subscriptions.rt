@@ -1,4 +1,5 @@
-ghost use Rattle.std.specs.Prelude.{◌≡◌, ◌++◌, ◌&&◌, ◌==◌, ◌∷◌, [], not, Some, true, false, OnOk, IfOk, if◌then◌else◌};
+ghost use Rattle.std.specs.Prelude.{◌≡◌, ◌++◌, ◌&&◌, ◌==◌, ◌∷◌, [], not, Some, true, false, OnOk};
+ghost use Rattle.std.specs.Prelude.{IfOk, if◌then◌else◌};
 ghost use Rattle.ubus_acl.specs.Acl.{may_subscribe};
 ghost use Rattle.std.specs.Option.{option_copied};
 ghost use Rattle.ubus_table.specs.Table.{Table as TableRow, path_of, is_owned, no_client};
@@ -76,7 +77,8 @@ fn subscribe_own_found(
     other: Option<&Object>,
 ) -> Result<Plan, Memory>
     ensures { IfOk result (λ plan. Plans (spec.subscribes_found fits (table_of bus.now)
-        client.now request.now (Some own.now) (option_copied other.entry)) (table_of bus.now) plan) }
+        client.now request.now (Some own.now) (option_copied other.entry))
+        (table_of bus.now) plan) }
 {
     match other {
         None => refuse(bus.alloc, client.number, request, 4),

@@ -1,5 +1,6 @@
 -- Which frames fit, as a test.
-use Rattle.std.specs.Prelude.{ℕ, zero, suc, ◌≡◌, ◌+◌, ◌^◌, ℤ, pos, negsuc, List, length, Bool, true, false, ◌&&◌, Option, Some, None, is_none, nat_lt, nat_le, position}
+use Rattle.std.specs.Prelude.{ℕ, zero, suc, ◌≡◌, ◌+◌, ◌^◌, ℤ, pos, negsuc, List, length, Bool, true, false, ◌&&◌}
+use Rattle.std.specs.Prelude.{Option, Some, None, is_none, nat_lt, nat_le, position}
 use Rattle.std.specs.List.{list_all}
 use Rattle.lanes_scan.specs.ByteTest.{is_nul}
 use Rattle.blob_codec.specs.declared.blob.TheConstants.{MOST_LEVELS}

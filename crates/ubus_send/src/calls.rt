@@ -30,7 +30,8 @@ pub fn call_data(seq: u16, object: u32, payload: Option<Items<Attr>>) -> Frame
     frame
 }
 
-/// An INVOKE or a NOTIFY as it is passed on to the owner of an object, with the user and the group of its caller.
+/// An INVOKE or a NOTIFY as it is passed on to the owner of an object, with the user and the group
+/// of its caller.
 pub fn passed_on(
     alloc: Global,
     caller: &Client,

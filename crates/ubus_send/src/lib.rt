@@ -1,4 +1,5 @@
-//! The frames that the message bus sends, in order, each where it fits; refusals; the arguments of its event object.
+//! The frames that the message bus sends, in order, each where it fits; refusals; the arguments of
+//! its event object.
 #![tactic(auto)]
 
 mod arguments;

@@ -16,7 +16,8 @@ rest_from p [] i k h = absurd (no h)
     no e = grind (arith, e)
 rest_from p (call ∷ calls) i k h = by_test (p call) refl h (rest_from p calls (i + 1) k)
   where
-    by_test : (b : Bool) → p call ≡ b → (if b then Some i else position_from p (i + 1) calls) ≡ Some k → (position_from p (i + 1) calls ≡ Some k → (j : ℕ) × (k ≡ i + 1 + j) × (without_first p calls ≡ remove calls j)) → (j : ℕ) × (k ≡ i + j) × (without_first p (call ∷ calls) ≡ remove (call ∷ calls) j)
+    by_test : (b : Bool) → p call ≡ b → (if b then Some i else position_from p (i + 1) calls) ≡ Some k → (position_from p (i + 1) calls ≡ Some k → (j : ℕ) × (k ≡ i + 1 + j) × (without_first p calls ≡ remove calls j)) → (j : ℕ) × (k ≡ i + j)
+        × (without_first p (call ∷ calls) ≡ remove (call ∷ calls) j)
     by_test true e here more = (0, grind (arith, here), rw e refl)
     by_test false e here more = let m = more here in (suc m.0, (let at = m.1 in omega (arith, at)), rw e (ap (λ cs. call ∷ cs) m.2))
 

@@ -51,7 +51,8 @@ one_more_left table gone subscriptions calls number =
       subscriptions = untouched number subscriptions;
       registrations = registrations;
       calls = filter (λ call. not (is_on number call)) calls;
-    }) (filter_twice (λ (r : Registration). not (is_among gone r.object)) (λ (r : Registration). not (r.object == number)) (λ (r : Registration). not (is_among (gone ++ number ∷ []) r.object)) (registration_more gone number) table.registrations)
+    }) (filter_twice (λ (r : Registration). not (is_among gone r.object)) (λ (r : Registration). not (r.object == number)) (λ (r : Registration). not (is_among (gone ++ number ∷ []) r.object)) (registration_more gone number)
+    table.registrations)
 
 -- none has left
 pub none_left : (table : Table) → partly table [] table.subscriptions table.calls ≡ table
@@ -85,3 +86,5 @@ none_found_left gone number (object ∷ objects) there =
     by_number : (b : Bool) → (object.number == number) ≡ b → (if not (is_among gone object.number) && b then Some object else None) ≡ None
     by_number true e = let same : object.number ≡ number = grind (arith, nat_tests) in ap (λ z. if not z && true then Some object else None) (ap (is_among gone) same ∙ there)
     by_number false e = ap (λ z. if z then Some object else None) (and_false (not (is_among gone object.number)))
+
+pub ruleset left_in = (found_left, none_found_left)

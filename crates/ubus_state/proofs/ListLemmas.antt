@@ -132,3 +132,7 @@ any_later p xs ys h = any_of_both p xs ys ∙ ap (λ b. b || list_any p ys) h
 -- there is nothing at the end to be removed
 pub remove_over : {X : Type 0} (xs : List X) (i : ℕ) → length xs ≤ i → remove xs i ≡ xs
 remove_over xs i over = ap (λ z. z ++ drop (suc i) xs) (take_all i xs over) ∙ ap (λ z. xs ++ z) (drop_all (suc i) xs (omega arith)) ∙ append-nil xs
+
+pub ruleset found_in = (found_first, found_later)
+
+pub ruleset any_in = (any_first, any_later)

@@ -92,7 +92,8 @@ none_named caller seq row (key ∷ keys) own above lower = by_name (has_name cal
     by_name : (b : Bool) → has_name caller seq key ≡ b → (All (λ (other : OpenCall). other.number < row.number) (filter (has_name caller seq) keys) → filter (has_name caller seq) keys ≡ [])
         → All (λ other. other.number < row.number) (if b then key ∷ filter (has_name caller seq) keys else filter (has_name caller seq) keys)
         → (if b then key ∷ filter (has_name caller seq) keys else filter (has_name caller seq) keys) ≡ []
-    by_name true e rest below = absurd (let less : Less ≡ Greater = sym above.0 ∙ later_is_greater caller seq row key own e (All-head (λ (other : OpenCall). other.number < row.number) key (filter (has_name caller seq) keys) below) in cc less)
+    by_name true e rest below = absurd (let less : Less ≡ Greater = sym above.0 ∙ later_is_greater caller seq row key own e (All-head (λ (other : OpenCall). other.number < row.number) key (filter (has_name caller seq) keys) below) in
+        cc less)
     by_name false e rest below = rest below
 
 -- among the keys of its name a call of the highest number comes last
@@ -168,7 +169,8 @@ tied_pushed rows others keys still next row tied is made put sorted = tied_as ot
 })
   where
     lower : (caller seq : ℕ) → All (λ key. key.number < row.number) (filter (has_name caller seq) keys)
-    lower caller seq = subst (All (λ key. key.number < row.number)) (sym (tied.named caller seq)) (All-filter (has_name caller seq) (λ key. key.number < row.number) rows (subst (λ (n : ℕ). All (λ key. call_number key < n) rows) (sym is) tied.rising.1))
+    lower caller seq = subst (All (λ key. key.number < row.number)) (sym (tied.named caller seq))
+        (All-filter (has_name caller seq) (λ key. key.number < row.number) rows (subst (λ (n : ℕ). All (λ key. call_number key < n) rows) (sym is) tied.rising.1))
 
     by_name : (caller seq : ℕ) (b : Bool) → has_name caller seq row ≡ b → filter (has_name caller seq) (insert_key call_cmp keys row) ≡ filter (has_name caller seq) rows ++ (if has_name caller seq row then row ∷ [] else [])
     by_name caller seq true e =

@@ -82,7 +82,8 @@ module _ {X : Type 0} (number : X → ℕ) where
   all_left : (target : ℕ) (rows : List X) → All (λ row. target < number row) rows → filter (λ row. not (number row == target)) rows ≡ rows
   all_left target [] above = refl
   all_left target (row ∷ rows) above =
-      ap (λ (b : Bool). if not b then row ∷ filter (λ other. not (number other == target)) rows else filter (λ other. not (number other == target)) rows) (above_differs (number row) target (All-head (λ other. target < number other) row rows above))
+      ap (λ (b : Bool). if not b then row ∷ filter (λ other. not (number other == target)) rows else filter (λ other. not (number other == target)) rows)
+      (above_differs (number row) target (All-head (λ other. target < number other) row rows above))
       ∙ ap (λ (z : List X). row ∷ z) (all_left target rows (All-tail (λ other. target < number other) row rows above))
 
   -- without the row at a place there is none of its number
@@ -160,7 +161,8 @@ module _ {X : Type 0} (number : X → ℕ) where
         ∙ pairs_stay row rows (subst (λ (x : X). All (λ other. number x < number other) rows) (sym is) climb.0)
     pairs_without (first ∷ rows) (suc place) row climb within is =
         ap (λ (b : Bool). if not b then f first ∷ filter (Left row) (map f rows) else filter (Left row) (map f rows))
-        (apart row first (λ same. let above : number first < number (get_or rows place row) = climb.0 place row (omega (arith, within)) in let here : number row ≡ number (get_or rows place row) = ap number is in omega (arith, same, above, here)))
+        (apart row first (λ same. let above : number first < number (get_or rows place row) = climb.0 place row (omega (arith, within)) in let here : number row ≡ number (get_or rows place row) = ap number is in
+        omega (arith, same, above, here)))
         ∙ ap (λ (z : List (ℕ × ℕ)). f first ∷ z) (pairs_without rows place row climb.1 (omega (arith, within)) is)
 
     pub row_taken : (old new : BTreeSet (ℕ × ℕ)) (rows later : List X) (place : ℕ) (row : X) → HasPairs old (map f rows) → Climbs number rows → place < length rows → row ≡ get_or rows place row
@@ -181,7 +183,8 @@ module _ {X : Type 0} (number : X → ℕ) where
     beside first (row ∷ rows) = by_test ((f row).0 == first) (beside first rows)
       where
         by_test : (b : Bool) → seconds_in first (map f rows) ≡ map number (filter (λ other. (f other).0 == first) rows)
-            → map (λ (pair : ℕ × ℕ). pair.1) (if b then f row ∷ filter (has_first first) (map f rows) else filter (has_first first) (map f rows)) ≡ map number (if b then row ∷ filter (λ other. (f other).0 == first) rows else filter (λ other. (f other).0 == first) rows)
+            → map (λ (pair : ℕ × ℕ). pair.1) (if b then f row ∷ filter (has_first first) (map f rows) else filter (has_first first) (map f rows))
+            ≡ map number (if b then row ∷ filter (λ other. (f other).0 == first) rows else filter (λ other. (f other).0 == first) rows)
         by_test true rest = ap₂ (λ (n : ℕ) (ns : List ℕ). n ∷ ns) (numbered row) rest
         by_test false rest = rest
 

@@ -22,6 +22,7 @@ drop_before xs p x some bound e =
     let next : suc (p - 1) ≡ p = omega arith in
     drop-cons xs (p - 1) x (omega arith) ∙ (ap (λ z. z ∷ drop (suc (p - 1)) xs) (sym e) ∙ ap (λ (n : ℕ). x ∷ drop n xs) next)
 
-pub number_more : (numbers : List ℕ) (p number : ℕ) (old new : List ℕ) → drop (p - 1) numbers ≡ number ∷ drop p numbers → old ≡ ordered nat_cmp (drop p numbers) → new ≡ insert_key nat_cmp old number → new ≡ ordered nat_cmp (drop (p - 1) numbers)
+pub number_more : (numbers : List ℕ) (p number : ℕ) (old new : List ℕ) → drop (p - 1) numbers ≡ number ∷ drop p numbers → old ≡ ordered nat_cmp (drop p numbers) → new ≡ insert_key nat_cmp old number → new
+    ≡ ordered nat_cmp (drop (p - 1) numbers)
 number_more numbers p number old new more sofar made =
     made ∙ inserted_is_put number old ∙ ap (put_in nat_cmp number) sofar ∙ sym (ap (ordered nat_cmp) more)

@@ -96,7 +96,8 @@ second_there first second [] = refl
 second_there first second (pair ∷ pairs) = by_first (has_first first pair) refl (second_there first second pairs)
   where
     by_first : (b : Bool) → has_first first pair ≡ b → list_any (nat_eq second) (seconds_in first pairs) ≡ list_any (is_at (pair_cmp (first, second))) pairs
-        → list_any (nat_eq second) (map (λ (p : ℕ × ℕ). p.1) (if b then pair ∷ filter (has_first first) pairs else filter (has_first first) pairs)) ≡ (is_at (pair_cmp (first, second)) pair || list_any (is_at (pair_cmp (first, second))) pairs)
+        → list_any (nat_eq second) (map (λ (p : ℕ × ℕ). p.1) (if b then pair ∷ filter (has_first first) pairs else filter (has_first first) pairs))
+        ≡ (is_at (pair_cmp (first, second)) pair || list_any (is_at (pair_cmp (first, second))) pairs)
     by_first true e rest =
         ap (λ (z : Bool). (second == pair.1) || z) rest
         ∙ sym (ap (λ (z : Bool). (z && second == pair.1) || list_any (is_at (pair_cmp (first, second))) pairs) (same_either first pair.0 ∙ e))
@@ -197,7 +198,8 @@ pairs_removed old new pairs pair has taken q =
     taken q
     ∙ gone_and (is_at (pair_cmp pair) q) (contains pair_cmp old q)
     ∙ ap (λ (z : Bool). not (is_at (pair_cmp pair) q) && z) (has q)
-    ∙ sym (any-filter_same (is_at (pair_cmp q)) (λ other. not (is_at (pair_cmp pair) other)) (not (is_at (pair_cmp pair) q)) (λ other same. ap (λ (p : ℕ × ℕ). not (is_at (pair_cmp pair) p)) (sym (tells_apart pairs_apart q other same))) pairs)
+    ∙ sym (any-filter_same (is_at (pair_cmp q)) (λ other. not (is_at (pair_cmp pair) other)) (not (is_at (pair_cmp pair) q)) (λ other same. ap (λ (p : ℕ × ℕ). not (is_at (pair_cmp pair) p)) (sym (tells_apart pairs_apart q other same)))
+    pairs)
 
 pub pairs_filtered : (p : ℕ × ℕ → Bool) (old new : BTreeSet (ℕ × ℕ)) (pairs : List (ℕ × ℕ)) → HasPairs old pairs → new.keys ≡ filter p old.keys → HasPairs new (filter p pairs)
 pairs_filtered p old new pairs has kept q =

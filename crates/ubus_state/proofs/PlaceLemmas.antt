@@ -62,7 +62,8 @@ place_at {X} number target rows place row rise parts read = position_from-zero (
         by_side false high = by_place (k == place) refl high
 
     by_test : (b : Bool) → (number row.now == target) ≡ b → position_from (λ other. number other == target) 0 rows ≡ (if number row.now == target then Some place else None)
-    by_test true e = at_place_from number target rows place 0 row.now (λ k d lower. parts.0 k d (omega arith) lower) (ap (λ (x : X). number x == target) (sym is) ∙ e) within ∙ ap Some whole ∙ sym (ap (λ (b : Bool). if b then Some place else None) e)
+    by_test true e = at_place_from number target rows place 0 row.now (λ k d lower. parts.0 k d (omega arith) lower) (ap (λ (x : X). number x == target) (sym is) ∙ e) within ∙ ap Some whole
+        ∙ sym (ap (λ (b : Bool). if b then Some place else None) e)
     by_test false e = none_at_all (λ other. number other == target) rows 0 (differs e) ∙ sym (ap (λ (b : Bool). if b then Some place else None) e)
 
 pub place_over : {X : Type 0} (number : X → ℕ) (target : ℕ) (rows : List X) (place : ℕ) → Parts number target rows place

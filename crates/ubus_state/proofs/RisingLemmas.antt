@@ -16,7 +16,10 @@ Climbs number (row ∷ rows) = All (λ other. number row < number other) rows ×
 
 pub climbs : {X : Type 0} (number : X → ℕ) (rows : List X) → Rise number rows → Climbs number rows
 climbs number [] rise = tt
-climbs number (row ∷ rows) rise = (All-from_get_or (λ other. number row < number other) rows row (λ i within. rise 0 (suc i) row (omega arith) (omega arith)), climbs number rows (λ i j d lower within. rise (suc i) (suc j) d (omega arith) (omega arith)))
+climbs number (row ∷ rows) rise = (
+  All-from_get_or (λ other. number row < number other) rows row (λ i within. rise 0 (suc i) row (omega arith) (omega arith)),
+  climbs number rows (λ i j d lower within. rise (suc i) (suc j) d (omega arith) (omega arith)),
+)
 
 rises : {X : Type 0} (number : X → ℕ) (rows : List X) → Climbs number rows → Rise number rows
 rises number [] climb i j d lower within = absurd (omega arith)

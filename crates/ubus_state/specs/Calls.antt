@@ -6,7 +6,14 @@ use Rattle.ubus_state.specs.Rising.{IsRising}
 
 -- an open call; the code keeps no places
 abbrev pub call_of : OpenCall → Call
-call_of call = record { place = 0; caller = call.caller; seq = call.seq; object = call.object; no_reply = call.no_reply }
+call_of call = record {
+  place = 0;
+  caller = call.caller;
+  seq = call.seq;
+  object = call.object;
+  no_reply =
+      call.no_reply;
+}
 
 -- open calls
 abbrev pub calls_of : List OpenCall → List Call
@@ -23,7 +30,8 @@ has_name caller seq call = call.caller == caller && call.seq == seq
 abbrev pub is_before : ℕ → OpenCall → Bool
 is_before number call = nat_lt call.number number
 
--- the calls rise below the next number, and those of each caller and sequence stand among the keys too, in the same order
+-- the calls rise below the next number, and those of each caller and sequence stand among the keys too, in the same
+-- order
 pub record IsTied (rows keys : List OpenCall) (next : ℕ) : Type 0 where
   pub rising : IsRising call_number rows next
   pub named : (caller seq : ℕ) → filter (has_name caller seq) keys ≡ filter (has_name caller seq) rows

@@ -6,7 +6,8 @@ use Rattle.ubus_table.specs.Objects.{without_object}
 use Rattle.ubus_state.specs.Calls.{call_of, calls_of}
 use Rattle.ubus_state.specs.Paths.{IsFree}
 use Rattle.ubus_state.specs.declared.change.Change.{Change}
-use Rattle.ubus_state.specs.declared.change.Change.TheVariants.{Nothing, Adds, Removes, Subscribes, Unsubscribes, Registers, Opens, OpensAll, Closes}
+use Rattle.ubus_state.specs.declared.change.Change.TheVariants.{Nothing, Adds, Removes, Subscribes, Unsubscribes}
+use Rattle.ubus_state.specs.declared.change.Change.TheVariants.{Registers, Opens, OpensAll, Closes}
 
 -- the table with more open calls
 abbrev pub with_calls : Table → List Call → Table

@@ -24,5 +24,6 @@ all_left table client = objects_left fits (without_client table client) (numbers
 
 -- the leaving of a client comes to this
 pub record Leaves (before : Table) (client : ℕ) (leaving : Leaving) : Type 0 where
-  pub table : partly (without_client before client) leaving.numbers.items leaving.subscriptions (calls_but leaving.numbers.items (without_client before client).calls) ≡ (all_left before client).table
+  pub table : partly (without_client before client) leaving.numbers.items leaving.subscriptions
+      (calls_but leaving.numbers.items (without_client before client).calls) ≡ (all_left before client).table
   pub sent : leaving.out ≡ out_of (all_left before client).sent

@@ -24,8 +24,10 @@ number_at paths path = get (slice_cmp nat_cmp) paths path
 
 -- each path has no object or one, whose number the map has
 abbrev pub HasPaths : BTreeMap (List ℕ) ℕ → List Object → Type 0
-HasPaths paths objects = (path : List ℕ) → map object_number (filter (has_path path) objects) ≡ option_to_list (number_at paths path)
+HasPaths paths objects = (path : List ℕ) → map object_number (filter (has_path path) objects)
+    ≡ option_to_list (number_at paths path)
 
 -- the second map is the first one with this value at a path, where there is a path
 abbrev pub IsNoted : BTreeMap (List ℕ) ℕ → BTreeMap (List ℕ) ℕ → Option (List ℕ) → Option ℕ → Type 0
-IsNoted old new path value = (other : List ℕ) → number_at new other ≡ (if is_path_of other path then value else number_at old other)
+IsNoted old new path value = (other : List ℕ) → number_at new other
+    ≡ (if is_path_of other path then value else number_at old other)

@@ -6,7 +6,8 @@ use Rattle.ubus_table.specs.declared.rows.Object.{Object}
 
 -- each row has a lower number than those after it
 abbrev pub Rise : {X : Type 0} → (X → ℕ) → List X → Type 0
-Rise {X} number rows = (i j : ℕ) (d : X) → i < j → j < length rows → number (slice_index_or rows i d) < number (slice_index_or rows j d)
+Rise {X} number rows = (i j : ℕ) (d : X) → i < j → j < length rows
+    → number (slice_index_or rows i d) < number (slice_index_or rows j d)
 
 -- the rows rise, and the next number is above them all
 abbrev pub IsRising : {X : Type 0} → (X → ℕ) → List X → ℕ → Type 0

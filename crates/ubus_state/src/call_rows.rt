@@ -1,5 +1,6 @@
 //! Open calls, found by caller and sequence.
-ghost use Rattle.std.specs.Prelude.{◌≡◌, ◌==◌, ◌<◌, ◌≤◌, ◌+◌, ◌++◌, ◌∷◌, [], OnOk, OnErr, IfSome, Some, None, false, if◌then◌else◌, filter, length, not, remove};
+ghost use Rattle.std.specs.Prelude.{◌≡◌, ◌==◌, ◌<◌, ◌≤◌, ◌+◌, ◌++◌, ◌∷◌, [], OnOk, OnErr, IfSome};
+ghost use Rattle.std.specs.Prelude.{Some, None, false, if◌then◌else◌, filter, length, not, remove};
 ghost use Rattle.std.specs.List.{find, list_any, position};
 ghost use Rattle.std.specs.List.Sorted.{IsPartitionPoint};
 ghost use Rattle.ubus_table.specs.Calls as spec;
@@ -8,7 +9,8 @@ ghost use Rattle.ubus_table.specs.Clients.{is_forgotten};
 ghost use Rattle.ubus_table.specs.Objects.{is_on};
 ghost use Rattle.ubus_state.specs.declared.calls.OpenCall.{OpenCall as CallRow};
 ghost use Rattle.ubus_state.specs.Among.{calls_but};
-ghost use Rattle.ubus_state.specs.Calls.{IsTied, call_number, call_of, calls_of, has_name, is_before};
+ghost use Rattle.ubus_state.specs.Calls.{IsTied, call_number, call_of, calls_of, has_name};
+ghost use Rattle.ubus_state.specs.Calls.{is_before};
 ghost use Rattle.ubus_state.specs.Rising.{Rise};
 
 use crate::calls::{OpenCall, drop_calls_among, drop_calls_from, drop_calls_on, forget_calls};
@@ -198,7 +200,8 @@ impl CallRows {
 
 /// What stands before, or after, the calls of a caller with a sequence.
 fn bound(caller: u32, seq: u16, number: u64) -> OpenCall
-    ensures { result ≡ record { caller = caller; seq = seq; number = number; object = 0; no_reply = false } }
+    ensures { result ≡ record
+        { caller = caller; seq = seq; number = number; object = 0; no_reply = false } }
 {
     OpenCall {
         caller,

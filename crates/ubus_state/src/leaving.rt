@@ -1,4 +1,5 @@
-ghost use Rattle.std.specs.Prelude.{◌≡◌, ◌++◌, ◌==◌, ◌&&◌, [], false, Some, OnOk, IfOk, if◌then◌else◌, not, map, filter};
+ghost use Rattle.std.specs.Prelude.{◌≡◌, ◌++◌, ◌==◌, ◌&&◌, [], false, Some, OnOk, IfOk};
+ghost use Rattle.std.specs.Prelude.{if◌then◌else◌, not, map, filter};
 ghost use Rattle.std.specs.List.{flat_map};
 ghost use Rattle.ubus_table.specs.Table.{owner_of};
 ghost use Rattle.ubus_table.specs.Frames as frames;

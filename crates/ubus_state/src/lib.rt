@@ -1,5 +1,5 @@
-//! What the message bus knows, as one struct over lists with their indexes, what a message changes of it, and what comes of objects that
-//! leave.
+//! What the message bus knows, as one struct over lists with their indexes, what a message changes
+//! of it, and what comes of objects that leave.
 #![tactic(auto)]
 
 mod bus;

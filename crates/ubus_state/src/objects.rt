@@ -15,7 +15,7 @@ use ubus_table::Object;
 
 impl Bus {
     /// The object of a number.
-    #[tactic(auto, using(crate::proofs::ListLemmas::found_first, crate::proofs::ListLemmas::found_later))]
+    #[tactic(auto, using(crate::proofs::ListLemmas::found_in))]
     pub fn object_of(&self, number: u64) -> Option<&Object>
         ensures { option_copied result ≡ table.object_of (table_of self.now) number }
     {
@@ -60,7 +60,7 @@ impl Bus {
     }
 
     /// An object of this type.
-    #[tactic(auto, using(crate::proofs::ListLemmas::found_first, crate::proofs::ListLemmas::found_later))]
+    #[tactic(auto, using(crate::proofs::ListLemmas::found_in))]
     pub fn of_type(&self, objtype: u32) -> Option<&Object>
         ensures { option_copied result ≡ table.of_type (table_of self.now) objtype }
     {
@@ -71,7 +71,7 @@ impl Bus {
     }
 
     /// Whether an object has the path.
-    #[tactic(auto, using(crate::proofs::ListLemmas::any_first, crate::proofs::ListLemmas::any_later))]
+    #[tactic(auto, using(crate::proofs::ListLemmas::any_in))]
     pub fn is_taken(&self, path: &Text) -> bool
         ensures { result ≡ table.is_taken (table_of self.now) path.now }
     {
@@ -79,7 +79,7 @@ impl Bus {
     }
 
     /// Whether an object but this one has the type.
-    #[tactic(auto, using(crate::proofs::ListLemmas::any_first, crate::proofs::ListLemmas::any_later))]
+    #[tactic(auto, using(crate::proofs::ListLemmas::any_in))]
     pub fn is_type_kept(&self, number: u32, objtype: u32) -> bool
         ensures { result ≡ list_any (λ (object : ObjectRow). object.objtype == objtype)
             (table.typed (without_object (table_of self.now) number)) }
@@ -97,7 +97,7 @@ impl Bus {
         }
     }
 
-    #[tactic(auto, using(crate::proofs::ListLemmas::found_first, crate::proofs::ListLemmas::found_later))]
+    #[tactic(auto, using(crate::proofs::ListLemmas::found_in))]
     fn object_left(&self, gone: &[u32], number: u32) -> Option<&Object>
         ensures { option_copied result
             ≡ table.object_of (partly (table_of self.now) gone.now [] []) number }
@@ -110,7 +110,7 @@ impl Bus {
 }
 
 /// The object of a number that is none of these.
-#[tactic(auto, using(crate::proofs::LeaveLemmas::found_left, crate::proofs::LeaveLemmas::none_found_left))]
+#[tactic(auto, using(crate::proofs::LeaveLemmas::left_in))]
 fn object_but<'a>(objects: &'a ObjectRows, gone: &[u32], number: u32) -> Option<&'a Object>
     ensures { option_copied result
         ≡ find (table.has_number number) (objects_but gone.now objects.now.rows.items) }

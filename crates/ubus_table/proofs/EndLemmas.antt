@@ -69,7 +69,8 @@ named_of : (id : Option ℕ) (object : ℕ) → (id ≡ None) ⊎ (id ≡ Some o
 named_of id object (inl none) call same = subst (λ i. is_of i call ≡ true) (sym none) refl
 named_of id object (inr some) call same = subst (λ i. is_of i call ≡ true) (sym some) same
 
-tells_answered : (table : Table) (place client seq object sender : ℕ) (message : Frame) → message.peer ≡ client → message.seq ≡ seq → (message.id ≡ None) ⊎ (message.id ≡ Some object) → is_owned table object sender ≡ true → Tells place client seq object (is_answered table sender message)
+tells_answered : (table : Table) (place client seq object sender : ℕ) (message : Frame) → message.peer ≡ client → message.seq ≡ seq → (message.id ≡ None) ⊎ (message.id ≡ Some object) → is_owned table object sender ≡ true
+    → Tells place client seq object (is_answered table sender message)
 tells_answered table place client seq object sender message peer number id owned = record {
   each = λ call. by_object call (call.object == object) refl;
 }
@@ -96,7 +97,8 @@ none_or_some n = by_zero (n == 0) refl
     by_zero false e = inr (grind (arith, e))
 
 -- the first that passes is the call, since no other has its name
-first_over : (place client seq object : ℕ) (p : Call → Bool) → ((call : Call) → p call ≡ true → is_named client seq call ≡ true) → (calls : List Call) (call : Call) → find p calls ≡ Some call → count_of (is_other place client seq object) calls ≡ 0 → (1 ≤ open_count place calls → count_of (is_named client seq) calls ≤ 1) → open_count place (without_first p calls) ≡ 0
+first_over : (place client seq object : ℕ) (p : Call → Bool) → ((call : Call) → p call ≡ true → is_named client seq call ≡ true) → (calls : List Call) (call : Call) → find p calls ≡ Some call
+    → count_of (is_other place client seq object) calls ≡ 0 → (1 ≤ open_count place calls → count_of (is_named client seq) calls ≤ 1) → open_count place (without_first p calls) ≡ 0
 first_over place client seq object p names calls call h none alone = by_open (none_or_some (open_count place calls))
   where
     by_open : (open_count place calls ≡ 0) ⊎ (1 ≤ open_count place calls) → open_count place (without_first p calls) ≡ 0
@@ -113,12 +115,14 @@ pub record Single (place client seq object : ℕ) (table : Table) : Type 0 where
   pub others : count_of (is_other place client seq object) table.calls ≡ 0
   pub alone : 1 ≤ open_count place table.calls → count_of (is_named client seq) table.calls ≤ 1
 
-passed_over : (place client seq object sender : ℕ) (table : Table) (message : Frame) (p : Call → Bool) → Tells place client seq object p → ((call : Call) → p call ≡ true → is_named client seq call ≡ true) → p ≡ is_answered table sender message → (found : Option Call) → find p table.calls ≡ found → Single place client seq object table → open_count place (status_passed table sender message found).table.calls ≡ 0
+passed_over : (place client seq object sender : ℕ) (table : Table) (message : Frame) (p : Call → Bool) → Tells place client seq object p → ((call : Call) → p call ≡ true → is_named client seq call ≡ true) → p
+    ≡ is_answered table sender message → (found : Option Call) → find p table.calls ≡ found → Single place client seq object table → open_count place (status_passed table sender message found).table.calls ≡ 0
 passed_over place client seq object sender table message p tells names is None h single = told_none place client seq object p tells table.calls single.others (none_passes p table.calls h)
 passed_over place client seq object sender table message p tells names is (Some call) h single =
     subst (λ q. open_count place (without_first q table.calls) ≡ 0) is (first_over place client seq object p names table.calls call h single.others single.alone)
 
-replied_over : (fits : Frame → Bool) (place client seq object code : ℕ) (payload : Option (List Attr)) (table : Table) (p : Call → Bool) → Tells place client seq object p → ((call : Call) → p call ≡ true → is_named client seq call ≡ true) → (found : Option Call) → find p table.calls ≡ found → Single place client seq object table → open_count place (replied_to fits table p code payload found).table.calls ≡ 0
+replied_over : (fits : Frame → Bool) (place client seq object code : ℕ) (payload : Option (List Attr)) (table : Table) (p : Call → Bool) → Tells place client seq object p → ((call : Call) → p call ≡ true → is_named client seq call ≡ true)
+    → (found : Option Call) → find p table.calls ≡ found → Single place client seq object table → open_count place (replied_to fits table p code payload found).table.calls ≡ 0
 replied_over fits place client seq object code payload table p tells names None h single = told_none place client seq object p tells table.calls single.others (none_passes p table.calls h)
 replied_over fits place client seq object code payload table p tells names (Some call) h single = first_over place client seq object p names table.calls call h single.others single.alone
 
@@ -127,19 +131,22 @@ object_over fits place client seq object table none =
     let split = count_split (is_on object) (is_other place client seq object) table.calls in
     told_none place client seq object (is_on object) (tells_on place client seq object) (filter (λ call. not (is_on object call)) table.calls) (omega (arith, split, none)) (none_left (is_on object) table.calls)
 
-removed_over : (fits : Frame → Bool) (place caller seq object : ℕ) (table : Table) (client : Client) (message : Frame) (found : Option Object) → ((o : Object) → found ≡ Some o → o.number ≡ object) → is_owner client.number (owner_in found) ≡ true → count_of (is_other place caller seq object) table.calls ≡ 0 → open_count place (removes_found fits table client message found).table.calls ≡ 0
+removed_over : (fits : Frame → Bool) (place caller seq object : ℕ) (table : Table) (client : Client) (message : Frame) (found : Option Object) → ((o : Object) → found ≡ Some o → o.number ≡ object) → is_owner client.number (owner_in found)
+    ≡ true → count_of (is_other place caller seq object) table.calls ≡ 0 → open_count place (removes_found fits table client message found).table.calls ≡ 0
 removed_over fits place caller seq object table client message None is own none = absurd (cc own)
 removed_over fits place caller seq object table client message (Some found) is own none =
     rw own (subst (λ n. open_count place (object_left fits table n).table.calls ≡ 0) (sym (is found refl)) (object_over fits place caller seq object table none))
 
-objects_over : (fits : Frame → Bool) (place client seq object : ℕ) (table : Table) (numbers : List ℕ) → list_any (λ n. n == object) numbers ≡ true → count_of (is_other place client seq object) table.calls ≡ 0 → open_count place (objects_left fits table numbers).table.calls ≡ 0
+objects_over : (fits : Frame → Bool) (place client seq object : ℕ) (table : Table) (numbers : List ℕ) → list_any (λ n. n == object) numbers ≡ true → count_of (is_other place client seq object) table.calls ≡ 0
+    → open_count place (objects_left fits table numbers).table.calls ≡ 0
 objects_over fits place client seq object table [] among none = absurd (cc among)
 objects_over fits place client seq object table (number ∷ numbers) among none = by_number (number == object) refl (objects_over fits place client seq object (object_left fits table number).table numbers)
   where
     fewer : count_of (is_other place client seq object) (object_left fits table number).table.calls ≡ 0
     fewer = let e = even_object_left fits table number in let h = e.fewer (is_other place client seq object) in omega (arith, h, none)
 
-    by_number : (b : Bool) → number == object ≡ b → (list_any (λ n. n == object) numbers ≡ true → count_of (is_other place client seq object) (object_left fits table number).table.calls ≡ 0 → open_count place (objects_left fits (object_left fits table number).table numbers).table.calls ≡ 0) → open_count place (objects_left fits (object_left fits table number).table numbers).table.calls ≡ 0
+    by_number : (b : Bool) → number == object ≡ b → (list_any (λ n. n == object) numbers ≡ true → count_of (is_other place client seq object) (object_left fits table number).table.calls ≡ 0
+        → open_count place (objects_left fits (object_left fits table number).table numbers).table.calls ≡ 0) → open_count place (objects_left fits (object_left fits table number).table numbers).table.calls ≡ 0
     by_number true e more =
         let same = eqb-true number object e in
         let over : open_count place (object_left fits table number).table.calls ≡ 0 = subst (λ n. open_count place (object_left fits table n).table.calls ≡ 0) (sym same) (object_over fits place client seq object table none) in
@@ -150,7 +157,8 @@ objects_over fits place client seq object table (number ∷ numbers) among none 
         let later : list_any (λ n. n == object) numbers ≡ true = grind (arith, among, e) in
         more later fewer
 
-left_over : (fits : Frame → Bool) (place client seq object leaver : ℕ) (table : Table) → is_connected table leaver ≡ true → list_any (λ n. n == object) (numbers_of table leaver) ≡ true → count_of (is_other place client seq object) table.calls ≡ 0 → open_count place (left fits table leaver).table.calls ≡ 0
+left_over : (fits : Frame → Bool) (place client seq object leaver : ℕ) (table : Table) → is_connected table leaver ≡ true → list_any (λ n. n == object) (numbers_of table leaver) ≡ true
+    → count_of (is_other place client seq object) table.calls ≡ 0 → open_count place (left fits table leaver).table.calls ≡ 0
 left_over fits place client seq object leaver table here owned none =
     let split = count_split (is_forgotten leaver) (is_other place client seq object) table.calls in
     let fewer : count_of (is_other place client seq object) (without_client table leaver).calls ≡ 0 = omega (arith, split, none) in
@@ -168,14 +176,17 @@ handed_named client seq object call h = by_name (is_named client seq call) (call
     by_name true b h = refl
     by_name false b h = absurd (cc h)
 
-status_over : (fits : Frame → Bool) (place caller seq object sender : ℕ) (table : Table) (client : Client) (message : Frame) → client.number ≡ sender → is_owned table object sender ≡ true → message.kind ≡ STATUS → message.peer ≡ caller → message.seq ≡ seq → (message.id ≡ None) ⊎ (message.id ≡ Some object) → Single place caller seq object table → open_count place (said fits table client message).table.calls ≡ 0
+status_over : (fits : Frame → Bool) (place caller seq object sender : ℕ) (table : Table) (client : Client) (message : Frame) → client.number ≡ sender → is_owned table object sender ≡ true → message.kind ≡ STATUS → message.peer ≡ caller
+    → message.seq ≡ seq → (message.id ≡ None) ⊎ (message.id ≡ Some object) → Single place caller seq object table → open_count place (said fits table client message).table.calls ≡ 0
 status_over fits place caller seq object sender table client message mine owned kind peer number id single =
     let p = is_answered table client.number message in
     let own : is_owned table object client.number ≡ true = subst (λ n. is_owned table object n ≡ true) (sym mine) owned in
     subst (λ s. open_count place s.table.calls ≡ 0) (sym (said_status fits table client message kind))
-    (passed_over place caller seq object client.number table message p (tells_answered table place caller seq object client.number message peer number id own) (answered_named table client.number caller seq message peer number) refl (find p table.calls) refl single)
+    (passed_over place caller seq object client.number table message p (tells_answered table place caller seq object client.number message peer number id own) (answered_named table client.number caller seq message peer number) refl
+    (find p table.calls) refl single)
 
-remove_over : (fits : Frame → Bool) (place caller seq object sender : ℕ) (table : Table) (client : Client) (message : Frame) → client.number ≡ sender → is_owned table object sender ≡ true → message.kind ≡ REMOVE_OBJECT → message.id ≡ Some object → Single place caller seq object table → open_count place (said fits table client message).table.calls ≡ 0
+remove_over : (fits : Frame → Bool) (place caller seq object sender : ℕ) (table : Table) (client : Client) (message : Frame) → client.number ≡ sender → is_owned table object sender ≡ true → message.kind ≡ REMOVE_OBJECT → message.id
+    ≡ Some object → Single place caller seq object table → open_count place (said fits table client message).table.calls ≡ 0
 remove_over fits place caller seq object sender table client message mine owned kind id single =
     let own : is_owned table object client.number ≡ true = subst (λ n. is_owned table object n ≡ true) (sym mine) owned in
     subst (λ s. open_count place s.table.calls ≡ 0) (sym (said_remove fits table client message kind ∙ ap (removes_named fits table client message) id))
@@ -186,11 +197,13 @@ found_client : (clients : List Client) (number : ℕ) → list_any (λ (c : Clie
 found_client [] number h = absurd (cc h)
 found_client (c ∷ cs) number h = by_number (c.number == number) refl (found_client cs number)
   where
-    by_number : (b : Bool) → c.number == number ≡ b → (list_any (λ (c : Client). c.number == number) cs ≡ true → (client : Client) × (find (λ (c : Client). c.number == number) cs ≡ Some client)) → (client : Client) × (find (λ (c : Client). c.number == number) (c ∷ cs) ≡ Some client)
+    by_number : (b : Bool) → c.number == number ≡ b → (list_any (λ (c : Client). c.number == number) cs ≡ true → (client : Client) × (find (λ (c : Client). c.number == number) cs ≡ Some client)) → (client : Client)
+        × (find (λ (c : Client). c.number == number) (c ∷ cs) ≡ Some client)
     by_number true e more = (c, rw e refl)
     by_number false e more = let later : list_any (λ (c : Client). c.number == number) cs ≡ true = grind (arith, h, e) in let f = more later in (f.0, rw e f.1)
 
-message_over : (fits : Frame → Bool) (place caller seq object sender : ℕ) (table : Table) (message : Frame) → MessageEnds table caller seq object sender message → Single place caller seq object table → open_count place (happened fits table (frame sender message)).table.calls ≡ 0
+message_over : (fits : Frame → Bool) (place caller seq object sender : ℕ) (table : Table) (message : Frame) → MessageEnds table caller seq object sender message → Single place caller seq object table
+    → open_count place (happened fits table (frame sender message)).table.calls ≡ 0
 message_over fits place caller seq object sender table message ends single = by_client (found_client table.clients sender ends.0)
   where
     by_client : (client : Client) × (client_of table sender ≡ Some client) → open_count place (said_by fits table (client_of table sender) message).table.calls ≡ 0

@@ -16,7 +16,8 @@ use Rattle.ubus_table.specs.Run.{count_of, is_status_for, statuses, open_count, 
 use Rattle.ubus_table.proofs.CountLemmas.{bit, bit_zero, count_append, count_split, count_first, count_both, count_none, count_under, first_passes}
 use Rattle.ubus_table.proofs.PlainLemmas.{tagged, tagged_where, none_for}
 use Rattle.ubus_table.proofs.StepLemmas.{is_other, others, is_astray, astray, told_astray, none_astray_for, statuses_append, Even, Orderly, even_apart, even_quiet, even_objects_left, even_step, step_if}
-use Rattle.ubus_table.proofs.MessageLemmas.{Grows, Opens, counted, orderly_grows, notifies_is, apart_refuses, apart_pinged, apart_looked_up, apart_subscribes, apart_unsubscribes, apart_adds, even_removes, apart_passes_data, even_passes_status}
+use Rattle.ubus_table.proofs.MessageLemmas.{Grows, Opens, counted, orderly_grows, notifies_is, apart_refuses, apart_pinged, apart_looked_up, apart_subscribes, apart_unsubscribes, apart_adds, even_removes, apart_passes_data}
+use Rattle.ubus_table.proofs.MessageLemmas.{even_passes_status}
 use Rattle.ubus_table.proofs.InvokeLemmas.{Opened, call_of, opened_invokes, opened_step}
 
 -- what is known of a message: it is an INVOKE, a NOTIFY, or another one
@@ -176,7 +177,8 @@ others_stay (c ∷ cs) client leaver other h = let more = others_stay cs client 
 not_forgotten : (place client seq object leaver : ℕ) → leaver ≢ client → (call : Call) → bit (call.place == place && is_forgotten leaver call) ≤ bit (is_other place client seq object call) + 0
 not_forgotten place client seq object leaver other call = grind (arith, other, eqb-true)
 
-forgets_others : (place client seq object leaver : ℕ) → leaver ≢ client → (calls : List Call) → count_of (is_other place client seq object) calls ≡ 0 → open_count place calls ≤ open_count place (filter (λ call. not (is_forgotten leaver call)) calls)
+forgets_others : (place client seq object leaver : ℕ) → leaver ≢ client → (calls : List Call) → count_of (is_other place client seq object) calls ≡ 0
+    → open_count place calls ≤ open_count place (filter (λ call. not (is_forgotten leaver call)) calls)
 forgets_others place client seq object leaver other calls none =
     let split = count_split (is_forgotten leaver) (λ (c : Call). c.place == place) calls in
     let both = count_both (λ (c : Call). c.place == place) (is_forgotten leaver) calls in
@@ -200,7 +202,8 @@ all_to_caller one leaver other sent none =
     let both = count_both (is_status_for one.place) (λ (s : Sent). not (s.to == leaver)) sent in
     omega (arith, under, both, none)
 
-left_keeps : (fits : Frame → Bool) (place client seq object leaver : ℕ) (table : Table) → leaver ≢ client → count_of (is_other place client seq object) table.calls ≡ 0 → is_connected table client ≡ true → Keeps place table client (left fits table leaver)
+left_keeps : (fits : Frame → Bool) (place client seq object leaver : ℕ) (table : Table) → leaver ≢ client → count_of (is_other place client seq object) table.calls ≡ 0 → is_connected table client ≡ true
+    → Keeps place table client (left fits table leaver)
 left_keeps fits place client seq object leaver table other none here = keeps_if (is_connected table leaver) place table client _ _
     (let one : Call = record { place = place; caller = client; seq = seq; object = object; no_reply = false } in
     let gone = without_client table leaver in
@@ -226,7 +229,8 @@ is_told place client seq object table call here alike = by_caller (call.caller =
     by_caller true e = let same = eqb-true call.caller client e in let found : is_connected table call.caller ≡ true = subst (λ c. is_connected table c ≡ true) (sym same) here in grind (arith, e, found, alike)
     by_caller false e = grind (arith, e, alike)
 
-replied_keeps : (fits : Frame → Bool) (place client seq object : ℕ) (table : Table) (p : Call → Bool) (code : ℕ) (payload : Option (List Attr)) (found : Option Call) → find p table.calls ≡ found → count_of (is_other place client seq object) table.calls ≡ 0 → is_connected table client ≡ true → Keeps place table client (replied_to fits table p code payload found)
+replied_keeps : (fits : Frame → Bool) (place client seq object : ℕ) (table : Table) (p : Call → Bool) (code : ℕ) (payload : Option (List Attr)) (found : Option Call) → find p table.calls ≡ found
+    → count_of (is_other place client seq object) table.calls ≡ 0 → is_connected table client ≡ true → Keeps place table client (replied_to fits table p code payload found)
 replied_keeps fits place client seq object table p code payload None h none here = even_keeps place table client _ here (even_quiet table)
 replied_keeps fits place client seq object table p code payload (Some call) h none here =
     let first = count_first p (is_other place client seq object) table.calls call h in
@@ -247,7 +251,8 @@ said_keeps : (fits : Frame → Bool) (place client : ℕ) (table : Table) (found
 said_keeps fits place client table None message here = even_keeps place table client _ here (even_quiet table)
 said_keeps fits place client table (Some sender) message here = kind_keeps fits place table client sender message _ here (kind_of fits table sender message)
 
-pub keeps : (fits : Frame → Bool) (place client seq object : ℕ) (table : Table) (event : BusEvent) → count_of (is_other place client seq object) table.calls ≡ 0 → is_connected table client ≡ true → Remains client event → Keeps place table client (happened fits table event)
+pub keeps : (fits : Frame → Bool) (place client seq object : ℕ) (table : Table) (event : BusEvent) → count_of (is_other place client seq object) table.calls ≡ 0 → is_connected table client ≡ true → Remains client event
+    → Keeps place table client (happened fits table event)
 keeps fits place client seq object table (connect user group) none here remains = keeps_if (is_full table) place table client _ _
     (even_keeps place table client _ here (even_quiet table))
     (record { kept = omega arith; stays = still_connected table.clients client _ here })

@@ -26,7 +26,8 @@ Fine table client request number (sends id values) = Unit {0}
 Fine table client request number (forwards object) = (is_open table.calls client.number request.seq ≡ false) × (object.number ≡ number)
 Fine table client request number (hands_out object) = (is_open table.calls client.number request.seq ≡ false) × (object.number ≡ number)
 
-fine_if : (b : Bool) (table : Table) (client : Client) (request : Frame) (number : ℕ) (x y : Way) → Fine table client request number x → (b ≡ false → Fine table client request number y) → Fine table client request number (if b then x else y)
+fine_if : (b : Bool) (table : Table) (client : Client) (request : Frame) (number : ℕ) (x y : Way) → Fine table client request number x → (b ≡ false → Fine table client request number y)
+    → Fine table client request number (if b then x else y)
 fine_if true table client request number x y e f = e
 fine_if false table client request number x y e f = f refl
 
@@ -35,7 +36,8 @@ fine_event table client request number (bad reason) = tt
 fine_event table client request number (registered new) = tt
 fine_event table client request number (event id values) = tt
 
-fine_object : (fits : Frame → Bool) (table : Table) (client : Client) (request : Frame) (number : ℕ) (method : List ℕ) (found : Option Object) → ((object : Object) → found ≡ Some object → object.number ≡ number) → Fine table client request number (object_way fits table client request method found)
+fine_object : (fits : Frame → Bool) (table : Table) (client : Client) (request : Frame) (number : ℕ) (method : List ℕ) (found : Option Object) → ((object : Object) → found ≡ Some object → object.number ≡ number)
+    → Fine table client request number (object_way fits table client request method found)
 fine_object fits table client request number method None is = tt
 fine_object fits table client request number method (Some object) is = fine_if (object.number == event_object.number) table client request number _ _
     (fine_event table client request number (event_of table client method (unwrap_or request.payload [])))
@@ -127,7 +129,8 @@ opened_answered table now call client request code before false asking caller se
 }
 
 -- the call is open
-opened_call : (table now : Table) (call : Call) (sent : List Sent) → is_open table.calls call.caller call.seq ≡ false → call.place ≡ table.place → now.calls ≡ table.calls ++ call ∷ [] → now.place ≡ table.place → now.clients ≡ table.clients → tagged sent ≡ 0
+opened_call : (table now : Table) (call : Call) (sent : List Sent) → is_open table.calls call.caller call.seq ≡ false → call.place ≡ table.place → now.calls ≡ table.calls ++ call ∷ [] → now.place ≡ table.place → now.clients ≡ table.clients
+    → tagged sent ≡ 0
     → (local : _) → Opened table call (record { table = now; sent = sent; local = local })
 opened_call table now call sent free here calls same clients none local =
     let opens = opens_one table call [] here free (opens_none table) in
@@ -163,11 +166,13 @@ opened_nothing table call sent silent none = record {
   clients = refl;
 }
 
-opened_forwarded : (table : Table) (call : Call) (sent : List Sent) (b : Bool) → call.no_reply ≡ b → is_open table.calls call.caller call.seq ≡ false → call.place ≡ table.place → tagged sent ≡ 0 → Opened table call (says (if b then table else with_call table call) sent)
+opened_forwarded : (table : Table) (call : Call) (sent : List Sent) (b : Bool) → call.no_reply ≡ b → is_open table.calls call.caller call.seq ≡ false → call.place ≡ table.place → tagged sent ≡ 0
+    → Opened table call (says (if b then table else with_call table call) sent)
 opened_forwarded table call sent true silent free here none = opened_nothing table call sent silent none
 opened_forwarded table call sent false asking free here none = opened_call table (with_call table call) call sent free here refl refl refl none None
 
-done_is : (table : Table) (client : Client) (request : Frame) (before : List Sent) (b : Bool) → is_set request.no_reply ≡ b → before ++ done table client request ≡ (if b then before else one_status before table.place client.number request 0)
+done_is : (table : Table) (client : Client) (request : Frame) (before : List Sent) (b : Bool) → is_set request.no_reply ≡ b → before ++ done table client request
+    ≡ (if b then before else one_status before table.place client.number request 0)
 done_is table client request before true e = rw e (nothing before)
   where
     nothing : (sent : List Sent) → sent ++ [] ≡ sent
@@ -179,12 +184,14 @@ events_plain : (fits : Frame → Bool) (table : Table) (sender : ℕ) (id : List
 events_plain fits table sender id values =
     tagged_each (λ object. to_owner fits (owner_of table object) (event_frame id values object)) (λ object. tagged_owner fits (owner_of table object) (event_frame id values object)) (listeners table sender id)
 
-pub opened_goes : (fits : Frame → Bool) (table : Table) (client : Client) (request : Frame) (number : ℕ) (way : Way) → Fine table client request number way → Opened table (call_on table client request number) (goes fits table client request way)
+pub opened_goes : (fits : Frame → Bool) (table : Table) (client : Client) (request : Frame) (number : ℕ) (way : Way) → Fine table client request number way
+    → Opened table (call_on table client request number) (goes fits table client request way)
 opened_goes fits table client request number (refusal reason) f = refused_by (is_set request.no_reply) refl
   where
     refused_by : (b : Bool) → is_set request.no_reply ≡ b → Opened table (call_on table client request number) (says table (if b then [] else refused fits (Some table.place) client.number request reason))
     refused_by true e = opened_nothing table (call_on table client request number) [] e refl
-    refused_by false e = opened_answered table table (call_on table client request number) client.number request (status_of reason) (data_of fits client.number request reason) false e refl refl refl refl refl (tagged_denial fits client.number request reason) _ refl
+    refused_by false e = opened_answered table table (call_on table client request number) client.number request (status_of reason) (data_of fits client.number request reason) false e refl refl refl refl refl
+        (tagged_denial fits client.number request reason) _ refl
 opened_goes fits table client request number (registration new) f =
     opened_answered table _ (call_on table client request number) client.number request 0 [] (is_set request.no_reply) refl refl refl refl refl refl refl _ (done_is table client request [] (is_set request.no_reply) refl)
 opened_goes fits table client request number (sends id values) f =

@@ -10,7 +10,8 @@ use Rattle.ubus_table.specs.Refusal.{Refusal, numbered, denial, Step, says, refu
 use Rattle.ubus_table.specs.Asked.{pinged, looked_up, told_of, asked_for, description}
 use Rattle.ubus_table.specs.Subscriptions.{has_subscription, is_alone, without, activity, subscribed, subscribes_both, subscribes_found, subscribes_named, subscribes, unsubscribed, unsubscribes_named, unsubscribes, subscribers_of}
 use Rattle.ubus_table.specs.Objects.{is_refused_path, is_unknown_type, may_add, is_full, new_object, object_data, added, adds, object_left, lost_type, removed, removes_found, removes_named, removes, told}
-use Rattle.ubus_table.specs.Calls.{is_named, is_open, without_first, passed_on, call_on, reached, opened, told_subscribers, notified, refuses_notify, notifies_found, notifies_named, notifies, is_answered, answered, data_passed, passes_data, status_passed, passes_status}
+use Rattle.ubus_table.specs.Calls.{is_named, is_open, without_first, passed_on, call_on, reached, opened, told_subscribers, notified, refuses_notify, notifies_found, notifies_named, notifies, is_answered, answered, data_passed, passes_data}
+use Rattle.ubus_table.specs.Calls.{status_passed, passes_status}
 use Rattle.ubus_table.specs.Run.{count_of, statuses, open_count}
 use Rattle.ubus_table.proofs.CountLemmas.{bit, count_append, count_first, some_any, not_any, count_same}
 use Rattle.ubus_table.proofs.PlainLemmas.{tagged, tagged_append, tagged_if, tagged_where, tagged_owner, tagged_each, tagged_answered, tagged_refused, tagged_if_asked, none_for}
@@ -77,7 +78,8 @@ apart_subscribes fits table client request = apart_subscribes_named fits table c
 apart_unsubscribed : (fits : Frame → Bool) (table : Table) (client : Client) (request : Frame) (subscription : Subscription) → Apart table (unsubscribed fits table client request subscription)
 apart_unsubscribed fits table client request subscription = apart_if (has_subscription table.subscriptions subscription && is_owned table subscription.subscriber client.number) table _ _
     (record {
-      none = tagged_after client.number request 0 _ (tagged_if (is_alone (without table.subscriptions subscription) subscription.target) (activity fits table subscription.target false) [] (activity_plain fits table subscription.target false) refl);
+      none = tagged_after client.number request 0 _ (tagged_if (is_alone (without table.subscriptions subscription) subscription.target) (activity fits table subscription.target false) []
+          (activity_plain fits table subscription.target false) refl);
       calls = refl;
       same = refl;
       clients = refl;
@@ -105,7 +107,8 @@ apart_adds fits table client request = apart_if (is_refused_path table request.p
 even_removes_found : (fits : Frame → Bool) (table : Table) (client : Client) (request : Frame) (found : Option Object) → Even table (removes_found fits table client request found)
 even_removes_found fits table client request None = even_apart table _ (apart_refuses fits table client.number request (numbered 4))
 even_removes_found fits table client request (Some object) = even_if (object.owner == client.number) table _ _
-    (even_more table (object_left fits table object.number) _ (even_object_left fits table object.number) (tagged_answered fits client.number request (object_data request object.number (lost_type (object_left fits table object.number).table object.objtype) ∷ [])))
+    (even_more table (object_left fits table object.number) _ (even_object_left fits table object.number)
+    (tagged_answered fits client.number request (object_data request object.number (lost_type (object_left fits table object.number).table object.objtype) ∷ [])))
     (even_apart table _ (apart_refuses fits table client.number request (denial (codes "remove") (path_of object))))
 
 even_removes_named : (fits : Frame → Bool) (table : Table) (client : Client) (request : Frame) (id : Option ℕ) → Even table (removes_named fits table client request id)
@@ -221,7 +224,8 @@ only_if_asked : (b open_is : Bool) → (not b && open_is) ≡ false → b ≡ fa
 only_if_asked true open_is free asks = absurd (cc asks)
 only_if_asked false open_is free asks = free
 
-opens_notified : (fits : Frame → Bool) (table : Table) (client : Client) (request : Frame) (objects : List ℕ) → (not (is_set request.no_reply) && is_open table.calls client.number request.seq) ≡ false → Opens table (opened fits table client request objects)
+opens_notified : (fits : Frame → Bool) (table : Table) (client : Client) (request : Frame) (objects : List ℕ) → (not (is_set request.no_reply) && is_open table.calls client.number request.seq) ≡ false
+    → Opens table (opened fits table client request objects)
 opens_notified fits table client request objects free =
     opens_if (is_set request.no_reply) table _ (λ asks. opens_all table client request (only_if_asked (is_set request.no_reply) (is_open table.calls client.number request.seq) free asks) (reached fits client request objects))
 

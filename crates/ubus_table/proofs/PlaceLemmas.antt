@@ -14,8 +14,10 @@ use Rattle.ubus_table.specs.Frames.{Sent, STATUS, DATA, PING, LOOKUP, INVOKE, AD
 use Rattle.ubus_table.specs.Refusal.{Refusal, numbered, denial, data_of, status_of, refused, refused_if_asked, Step, says, refuses}
 use Rattle.ubus_table.specs.Asked.{pinged, looked_up, told_of, asked_for}
 use Rattle.ubus_table.specs.Subscriptions.{has_subscription, is_alone, without, activity, subscribed, subscribes_both, subscribes_found, subscribes_named, subscribes, unsubscribed, unsubscribes_named, unsubscribes, subscribers_of}
-use Rattle.ubus_table.specs.Objects.{is_refused_path, is_unknown_type, may_add, is_full as is_full_of_objects, new_object, added, adds, is_on, told, farewells, endings, without_object, object_left, lost_type, object_data, removed, removes_found, removes_named, removes}
-use Rattle.ubus_table.specs.Calls.{is_named, is_open, without_first, passed_on, call_on, reached, opened, told_subscribers, notified, refuses_notify, notifies_found, notifies_named, notifies, is_of, is_answered, answered, data_passed, passes_data, status_passed, passes_status}
+use Rattle.ubus_table.specs.Objects.{is_refused_path, is_unknown_type, may_add, is_full as is_full_of_objects, new_object, added, adds, is_on, told, farewells, endings, without_object, object_left, lost_type, object_data, removed}
+use Rattle.ubus_table.specs.Objects.{removes_found, removes_named, removes}
+use Rattle.ubus_table.specs.Calls.{is_named, is_open, without_first, passed_on, call_on, reached, opened, told_subscribers, notified, refuses_notify, notifies_found, notifies_named, notifies, is_of, is_answered, answered, data_passed}
+use Rattle.ubus_table.specs.Calls.{passes_data, status_passed, passes_status}
 use Rattle.ubus_table.specs.Events.{Event, events_sent, event_of, with_registration}
 use Rattle.ubus_table.specs.Invoked.{Way, refusal, registration, sends, forwards, hands_out, event_way, open_way, object_way, named_way, way_of, done, local_call, with_call, goes, invokes}
 use Rattle.ubus_table.specs.Clients.{is_full, connected, is_forgotten, without_client, followed, objects_left, numbers_of, to_others, left, is_handed_out, reply_data, reply_status, data_sent, reply_sent, replied_to, replied}
@@ -46,7 +48,8 @@ module _ (p : Call → Bool) (looks : Looks p) where
   filter_map [] = refl
   filter_map (call ∷ calls) = rw (looks call) (by_test (p call) (filter_map calls))
     where
-      by_test : (b : Bool) → map without_place (filter p calls) ≡ filter p (map without_place calls) → map without_place (if b then call ∷ filter p calls else filter p calls) ≡ (if b then without_place call ∷ filter p (map without_place calls) else filter p (map without_place calls))
+      by_test : (b : Bool) → map without_place (filter p calls) ≡ filter p (map without_place calls) → map without_place (if b then call ∷ filter p calls else filter p calls)
+          ≡ (if b then without_place call ∷ filter p (map without_place calls) else filter p (map without_place calls))
       by_test true h = ap (λ cs. without_place call ∷ cs) h
       by_test false h = h
 
@@ -57,7 +60,8 @@ module _ (p : Call → Bool) (looks : Looks p) where
   rest_map [] = refl
   rest_map (call ∷ calls) = rw (looks call) (by_test (p call) (rest_map calls))
     where
-      by_test : (b : Bool) → map without_place (without_first p calls) ≡ without_first p (map without_place calls) → map without_place (if b then calls else call ∷ without_first p calls) ≡ (if b then map without_place calls else without_place call ∷ without_first p (map without_place calls))
+      by_test : (b : Bool) → map without_place (without_first p calls) ≡ without_first p (map without_place calls) → map without_place (if b then calls else call ∷ without_first p calls)
+          ≡ (if b then map without_place calls else without_place call ∷ without_first p (map without_place calls))
       by_test true h = refl
       by_test false h = ap (λ cs. without_place call ∷ cs) h
 
@@ -68,7 +72,8 @@ module _ (p : Call → Bool) (looks : Looks p) where
   find_map [] = refl
   find_map (call ∷ calls) = rw (looks call) (by_test (p call) (find_map calls))
     where
-      by_test : (b : Bool) → option_map without_place (find p calls) ≡ find p (map without_place calls) → option_map without_place (if b then Some call else find p calls) ≡ (if b then Some (without_place call) else find p (map without_place calls))
+      by_test : (b : Bool) → option_map without_place (find p calls) ≡ find p (map without_place calls) → option_map without_place (if b then Some call else find p calls)
+          ≡ (if b then Some (without_place call) else find p (map without_place calls))
       by_test true h = refl
       by_test false h = h
 
@@ -120,7 +125,9 @@ others_out : (client : ℕ) (sent : List Sent) → frames_of (filter (λ (s : Se
 others_out client [] = refl
 others_out client (s ∷ sent) = by_client (s.to == client) (others_out client sent)
   where
-    by_client : (b : Bool) → frames_of (filter (λ (x : Sent). not (x.to == client)) sent) ≡ filter (λ (o : Outgoing). not (o.0 == client)) (frames_of sent) → frames_of (if not b then s ∷ filter (λ (x : Sent). not (x.to == client)) sent else filter (λ (x : Sent). not (x.to == client)) sent) ≡ (if not b then outgoing s ∷ filter (λ (o : Outgoing). not (o.0 == client)) (frames_of sent) else filter (λ (o : Outgoing). not (o.0 == client)) (frames_of sent))
+    by_client : (b : Bool) → frames_of (filter (λ (x : Sent). not (x.to == client)) sent) ≡ filter (λ (o : Outgoing). not (o.0 == client)) (frames_of sent)
+        → frames_of (if not b then s ∷ filter (λ (x : Sent). not (x.to == client)) sent else filter (λ (x : Sent). not (x.to == client)) sent)
+        ≡ (if not b then outgoing s ∷ filter (λ (o : Outgoing). not (o.0 == client)) (frames_of sent) else filter (λ (o : Outgoing). not (o.0 == client)) (frames_of sent))
     by_client true h = h
     by_client false h = ap (λ ss. outgoing s ∷ ss) h
 
@@ -148,7 +155,8 @@ module _ (fits : Frame → Bool) (table : Table) (place : ℕ) (calls : List Cal
       (same_says table place calls _ alike)
       (same_says (record table { subscriptions = table.subscriptions ++ subscription ∷ [] }) place calls _ alike)
 
-  same_subscribes_both : (client : Client) (request : Frame) (subscriber target : Object) → IsSameButPlaces (subscribes_both fits table client request subscriber target) (subscribes_both fits (with table place calls) client request subscriber target)
+  same_subscribes_both : (client : Client) (request : Frame) (subscriber target : Object)
+      → IsSameButPlaces (subscribes_both fits table client request subscriber target) (subscribes_both fits (with table place calls) client request subscriber target)
   same_subscribes_both client request subscriber target = same_if (target.owner == no_client) _ _ _ _
       (same_refuses client.number request (numbered 4))
       (same_if (not (subscriber.owner == client.number)) _ _ _ _
@@ -157,12 +165,14 @@ module _ (fits : Frame → Bool) (table : Table) (place : ℕ) (calls : List Cal
       (same_refuses client.number request (denial (codes "subscribe") (path_of target)))
       (same_subscribed client request (record { subscriber = subscriber.number; target = target.number }))))
 
-  same_subscribes_found : (client : Client) (request : Frame) (subscriber target : Option Object) → IsSameButPlaces (subscribes_found fits table client request subscriber target) (subscribes_found fits (with table place calls) client request subscriber target)
+  same_subscribes_found : (client : Client) (request : Frame) (subscriber target : Option Object)
+      → IsSameButPlaces (subscribes_found fits table client request subscriber target) (subscribes_found fits (with table place calls) client request subscriber target)
   same_subscribes_found client request None target = same_refuses client.number request (numbered 4)
   same_subscribes_found client request (Some subscriber) None = same_refuses client.number request (numbered 4)
   same_subscribes_found client request (Some subscriber) (Some target) = same_subscribes_both client request subscriber target
 
-  same_subscribes_named : (client : Client) (request : Frame) (subscriber target : Option ℕ) → IsSameButPlaces (subscribes_named fits table client request subscriber target) (subscribes_named fits (with table place calls) client request subscriber target)
+  same_subscribes_named : (client : Client) (request : Frame) (subscriber target : Option ℕ)
+      → IsSameButPlaces (subscribes_named fits table client request subscriber target) (subscribes_named fits (with table place calls) client request subscriber target)
   same_subscribes_named client request None target = same_refuses client.number request (numbered 2)
   same_subscribes_named client request (Some subscriber) None = same_refuses client.number request (numbered 2)
   same_subscribes_named client request (Some subscriber) (Some target) = same_subscribes_found client request (object_of table subscriber) (object_of table target)
@@ -172,7 +182,8 @@ module _ (fits : Frame → Bool) (table : Table) (place : ℕ) (calls : List Cal
       (same_says (record table { subscriptions = without table.subscriptions subscription }) place calls _ alike)
       (same_refuses client.number request (numbered 4))
 
-  same_unsubscribes_named : (client : Client) (request : Frame) (subscriber target : Option ℕ) → IsSameButPlaces (unsubscribes_named fits table client request subscriber target) (unsubscribes_named fits (with table place calls) client request subscriber target)
+  same_unsubscribes_named : (client : Client) (request : Frame) (subscriber target : Option ℕ)
+      → IsSameButPlaces (unsubscribes_named fits table client request subscriber target) (unsubscribes_named fits (with table place calls) client request subscriber target)
   same_unsubscribes_named client request None target = same_refuses client.number request (numbered 2)
   same_unsubscribes_named client request (Some subscriber) None = same_refuses client.number request (numbered 2)
   same_unsubscribes_named client request (Some subscriber) (Some target) = same_unsubscribed client request (record { subscriber = subscriber; target = target })
@@ -206,7 +217,8 @@ module _ (fits : Frame → Bool) (table : Table) (place : ℕ) (calls : List Cal
   same_removes_named client request (Some number) = same_removes_found client request (object_of table number)
 
   -- calls that are found by a test that does not look at the place
-  same_data_passed : (message : Frame) (found other : Option Call) → option_map without_place found ≡ option_map without_place other → IsSameButPlaces (data_passed fits table message found) (data_passed fits (with table place calls) message other)
+  same_data_passed : (message : Frame) (found other : Option Call) → option_map without_place found ≡ option_map without_place other
+      → IsSameButPlaces (data_passed fits table message found) (data_passed fits (with table place calls) message other)
   same_data_passed message None None h = same_says table place calls [] alike
   same_data_passed message None (Some call) h = absurd (cc h)
   same_data_passed message (Some call) None h = absurd (cc h)
@@ -214,7 +226,8 @@ module _ (fits : Frame → Bool) (table : Table) (place : ℕ) (calls : List Cal
       same_steps table (with table place calls) _ _ (ap (λ cs. with table 0 cs) alike)
       (ap (λ (found : Option Call). frames_of (data_passed fits table message found).sent) h)
 
-  same_status_passed : (client : ℕ) (message : Frame) (found other : Option Call) → option_map without_place found ≡ option_map without_place other → IsSameButPlaces (status_passed table client message found) (status_passed (with table place calls) client message other)
+  same_status_passed : (client : ℕ) (message : Frame) (found other : Option Call) → option_map without_place found ≡ option_map without_place other
+      → IsSameButPlaces (status_passed table client message found) (status_passed (with table place calls) client message other)
   same_status_passed client message None None h = same_says table place calls [] alike
   same_status_passed client message None (Some call) h = absurd (cc h)
   same_status_passed client message (Some call) None h = absurd (cc h)
@@ -256,7 +269,8 @@ module _ (fits : Frame → Bool) (table : Table) (place : ℕ) (calls : List Cal
       (same_refuses_notify client request (numbered 2))
       (same_notified client request object.number))
 
-  same_notifies_named : (client : Client) (request : Frame) (id : Option ℕ) (method : Option (List ℕ)) → IsSameButPlaces (notifies_named fits table client request id method) (notifies_named fits (with table place calls) client request id method)
+  same_notifies_named : (client : Client) (request : Frame) (id : Option ℕ) (method : Option (List ℕ))
+      → IsSameButPlaces (notifies_named fits table client request id method) (notifies_named fits (with table place calls) client request id method)
   same_notifies_named client request None method = same_refuses_notify client request (numbered 2)
   same_notifies_named client request (Some object) None = same_refuses_notify client request (numbered 2)
   same_notifies_named client request (Some object) (Some method) = same_notifies_found client request (object_of table object)
@@ -284,7 +298,8 @@ module _ (fits : Frame → Bool) (table : Table) (place : ℕ) (calls : List Cal
   same_with : (client : Client) (request : Frame) (object : ℕ) → placeless (with_call table (call_on table client request object)) ≡ placeless (with_call (with table place calls) (call_on (with table place calls) client request object))
   same_with client request object = ap (λ cs. with table 0 cs) (alike_append table.calls calls (call_on table client request object ∷ []) (call_on (with table place calls) client request object ∷ []) alike refl)
 
-  same_forwarded : (b : Bool) (client : Client) (request : Frame) (object : ℕ) → placeless (if b then table else with_call table (call_on table client request object)) ≡ placeless (if b then with table place calls else with_call (with table place calls) (call_on (with table place calls) client request object))
+  same_forwarded : (b : Bool) (client : Client) (request : Frame) (object : ℕ) → placeless (if b then table else with_call table (call_on table client request object))
+      ≡ placeless (if b then with table place calls else with_call (with table place calls) (call_on (with table place calls) client request object))
   same_forwarded true client request object = ap (λ cs. with table 0 cs) alike
   same_forwarded false client request object = same_with client request object
 
@@ -321,7 +336,8 @@ module _ (fits : Frame → Bool) (table : Table) (place : ℕ) (calls : List Cal
   same_said_by None message = same_says table place calls [] alike
   same_said_by (Some client) message = same_said client message
 
-  same_replied : (p : Call → Bool) → Looks p → (code : ℕ) (payload : Option (List Attr)) (found other : Option Call) → option_map without_place found ≡ option_map without_place other → IsSameButPlaces (replied_to fits table p code payload found) (replied_to fits (with table place calls) p code payload other)
+  same_replied : (p : Call → Bool) → Looks p → (code : ℕ) (payload : Option (List Attr)) (found other : Option Call) → option_map without_place found ≡ option_map without_place other
+      → IsSameButPlaces (replied_to fits table p code payload found) (replied_to fits (with table place calls) p code payload other)
   same_replied p looks code payload None None h = same_says table place calls [] alike
   same_replied p looks code payload None (Some call) h = absurd (cc h)
   same_replied p looks code payload (Some call) None h = absurd (cc h)
@@ -341,7 +357,8 @@ module _ (fits : Frame → Bool) (table : Table) (place : ℕ) (calls : List Cal
           by_data None = refl
           by_data (Some attrs) = refl
 
-          by_last : (payload : Option (List Attr)) → frames_of (told (Some (reply_status fits code (reply_data call payload))) call ∷ []) ≡ frames_of (told (Some (reply_status fits code (reply_data (without_place call) payload))) (without_place call) ∷ [])
+          by_last : (payload : Option (List Attr)) → frames_of (told (Some (reply_status fits code (reply_data call payload))) call ∷ [])
+              ≡ frames_of (told (Some (reply_status fits code (reply_data (without_place call) payload))) (without_place call) ∷ [])
           by_last None = refl
           by_last (Some attrs) = refl
       by_reply false call = refl

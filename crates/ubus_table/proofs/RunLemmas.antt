@@ -61,7 +61,8 @@ sent_append fits table (event ∷ events) more =
     ap (λ sent. (served fits table event).sent ++ sent) (sent_append fits (served fits table event).table events more)
     ∙ sym (append_assoc (served fits table event).sent (sent_by fits (served fits table event).table events) (sent_by fits (after fits (served fits table event).table events) more))
 
-pub statuses_joined : (fits : Frame → Bool) (i : ℕ) (table : Table) (events more : List BusEvent) → statuses i (sent_by fits table (events ++ more)) ≡ statuses i (sent_by fits table events) + statuses i (sent_by fits (after fits table events) more)
+pub statuses_joined : (fits : Frame → Bool) (i : ℕ) (table : Table) (events more : List BusEvent) → statuses i (sent_by fits table (events ++ more)) ≡ statuses i (sent_by fits table events)
+    + statuses i (sent_by fits (after fits table events) more)
 statuses_joined fits i table events more = ap (statuses i) (sent_append fits table events more) ∙ statuses_append i (sent_by fits table events) (sent_by fits (after fits table events) more)
 
 -- a message that was served has no more STATUS to come than open calls
@@ -95,11 +96,13 @@ itself n = grind arith
 invoked_is : (fits : Frame → Bool) (table : Table) (number : ℕ) (client : Client) (message : Frame) → IsInvoke message → client_of table number ≡ Some client → happened fits table (frame number message) ≡ invokes fits table client message
 invoked_is fits table number client message is here = ap (λ found. said_by fits table found message) here ∙ said_invoke fits table client message is
 
-opened_of : (fits : Frame → Bool) (table : Table) (number : ℕ) (client : Client) (message : Frame) → IsInvoke message → client_of table number ≡ Some client → Opened table (call_of table client message) (happened fits table (frame number message))
+opened_of : (fits : Frame → Bool) (table : Table) (number : ℕ) (client : Client) (message : Frame) → IsInvoke message → client_of table number ≡ Some client
+    → Opened table (call_of table client message) (happened fits table (frame number message))
 opened_of fits table number client message is here = subst (Opened table (call_of table client message)) (sym (invoked_is fits table number client message is here)) (opened_invokes fits table client message)
 
 -- at its own step an INVOKE has at most one STATUS, or is open
-one_step : (fits : Frame → Bool) (table : Table) (number : ℕ) (message : Frame) (found : Option Client) → IsInvoke message → Fresh table → statuses table.place (said_by fits table found message).sent + open_count table.place (said_by fits table found message).table.calls ≤ 1
+one_step : (fits : Frame → Bool) (table : Table) (number : ℕ) (message : Frame) (found : Option Client) → IsInvoke message → Fresh table → statuses table.place (said_by fits table found message).sent
+    + open_count table.place (said_by fits table found message).table.calls ≤ 1
 one_step fits table number message None is fresh = let nothing = fresh table.place (omega arith) in omega (arith, nothing)
 one_step fits table number message (Some client) is fresh =
     let opened = opened_invokes fits table client message in
@@ -144,7 +147,8 @@ pub record Kept (fits : Frame → Bool) (place client seq object : ℕ) (table :
 other_elsewhere : (place client seq object now : ℕ) → place < now → (call : Call) → call.place ≡ now → is_other place client seq object call ≡ false
 other_elsewhere place client seq object now past call here = grind (arith, past, here, eqb-true)
 
-others_served : (fits : Frame → Bool) (place client seq object : ℕ) (table : Table) (event : BusEvent) → place < table.place → count_of (is_other place client seq object) table.calls ≡ 0 → count_of (is_other place client seq object) (served fits table event).table.calls ≡ 0
+others_served : (fits : Frame → Bool) (place client seq object : ℕ) (table : Table) (event : BusEvent) → place < table.place → count_of (is_other place client seq object) table.calls ≡ 0
+    → count_of (is_other place client seq object) (served fits table event).table.calls ≡ 0
 others_served fits place client seq object table event past none =
     let s = step fits table event in
     let fewer = s.fewer (is_other place client seq object) (other_elsewhere place client seq object table.place past) in
@@ -168,7 +172,8 @@ single_served fits place client seq object table event past single = record {
       omega (arith, few, stays);
 }
 
-pub kept : (fits : Frame → Bool) (place client seq object : ℕ) (table : Table) (events : List BusEvent) → place < table.place → Single place client seq object table → is_connected table client ≡ true → Stays client events → Kept fits place client seq object table events
+pub kept : (fits : Frame → Bool) (place client seq object : ℕ) (table : Table) (events : List BusEvent) → place < table.place → Single place client seq object table → is_connected table client ≡ true → Stays client events
+    → Kept fits place client seq object table events
 kept fits place client seq object table [] past single here stays = record { least = omega arith; single = single; here = here }
 kept fits place client seq object table (event ∷ events) past single here stays =
     let s = step fits table event in
@@ -237,7 +242,8 @@ pub record AskedIn (fits : Frame → Bool) (acl : Acl) (place number : ℕ) (mes
   pub single : Single place number message.seq (object_in message) (after fits (nobody acl) (earlier ++ frame number message ∷ later))
   pub here : is_connected (after fits (nobody acl) (earlier ++ frame number message ∷ later)) number ≡ true
 
-pub asked_in : (fits : Frame → Bool) (acl : Acl) (earlier later : List BusEvent) (number : ℕ) (client : Client) (message : Frame) → Asks message → client_of (after fits (nobody acl) earlier) number ≡ Some client → Stays number later → AskedIn fits acl (length earlier) number message earlier later
+pub asked_in : (fits : Frame → Bool) (acl : Acl) (earlier later : List BusEvent) (number : ℕ) (client : Client) (message : Frame) → Asks message → client_of (after fits (nobody acl) earlier) number ≡ Some client → Stays number later
+    → AskedIn fits acl (length earlier) number message earlier later
 asked_in fits acl earlier later number client message asks found stays =
     let table = after fits (nobody acl) earlier in
     let event = frame number message in
@@ -263,7 +269,8 @@ asked_in fits acl earlier later number client message asks found stays =
       here = subst (λ t. is_connected t number ≡ true) (sym run) k.here;
     })
 
-pub one_or_open : (fits : Frame → Bool) (acl : Acl) (earlier later : List BusEvent) (number : ℕ) (client : Client) (message : Frame) → Asks message → client_of (after fits (nobody acl) earlier) number ≡ Some client → Stays number later → statuses (length earlier) (sent_by fits (nobody acl) (earlier ++ frame number message ∷ later)) + open_count (length earlier) (after fits (nobody acl) (earlier ++ frame number message ∷ later)).calls ≡ 1
+pub one_or_open : (fits : Frame → Bool) (acl : Acl) (earlier later : List BusEvent) (number : ℕ) (client : Client) (message : Frame) → Asks message → client_of (after fits (nobody acl) earlier) number ≡ Some client → Stays number later
+    → statuses (length earlier) (sent_by fits (nobody acl) (earlier ++ frame number message ∷ later)) + open_count (length earlier) (after fits (nobody acl) (earlier ++ frame number message ∷ later)).calls ≡ 1
 one_or_open fits acl earlier later number client message asks found stays = let a = asked_in fits acl earlier later number client message asks found stays in a.one
 
 ends_remain : (table : Table) (client seq object : ℕ) (event : BusEvent) → Ends table client seq object event → Remains client event
@@ -280,7 +287,8 @@ opens_nothing fits table client message (sends id values) h = refl
 opens_nothing fits table client message (forwards object) h = absurd (cc h)
 opens_nothing fits table client message (hands_out object) h = absurd (cc h)
 
-pub one_at_once : (fits : Frame → Bool) (acl : Acl) (earlier later : List BusEvent) (number : ℕ) (client : Client) (message : Frame) → Asks message → client_of (after fits (nobody acl) earlier) number ≡ Some client → is_over (way_of fits (after fits (nobody acl) earlier) client message) ≡ true → statuses (length earlier) (sent_by fits (nobody acl) (earlier ++ frame number message ∷ later)) ≡ 1
+pub one_at_once : (fits : Frame → Bool) (acl : Acl) (earlier later : List BusEvent) (number : ℕ) (client : Client) (message : Frame) → Asks message → client_of (after fits (nobody acl) earlier) number ≡ Some client
+    → is_over (way_of fits (after fits (nobody acl) earlier) client message) ≡ true → statuses (length earlier) (sent_by fits (nobody acl) (earlier ++ frame number message ∷ later)) ≡ 1
 one_at_once fits acl earlier later number client message asks found is =
     let table = after fits (nobody acl) earlier in
     let event = frame number message in
@@ -299,7 +307,9 @@ one_at_once fits acl earlier later number client message asks found is =
     let same_place = ap (λ n. statuses n all) place in
     omega (arith, one, stay, nothing, joined, both, most, same_place)
 
-pub one_at_end : (fits : Frame → Bool) (acl : Acl) (earlier between later : List BusEvent) (event : BusEvent) (number object : ℕ) (client : Client) (message : Frame) → Asks message → message.id ≡ Some object → client_of (after fits (nobody acl) earlier) number ≡ Some client → Stays number between → Ends (after fits (nobody acl) (earlier ++ frame number message ∷ between)) number message.seq object event → statuses (length earlier) (sent_by fits (nobody acl) (earlier ++ frame number message ∷ between ++ event ∷ later)) ≡ 1
+pub one_at_end : (fits : Frame → Bool) (acl : Acl) (earlier between later : List BusEvent) (event : BusEvent) (number object : ℕ) (client : Client) (message : Frame) → Asks message → message.id ≡ Some object
+    → client_of (after fits (nobody acl) earlier) number ≡ Some client → Stays number between → Ends (after fits (nobody acl) (earlier ++ frame number message ∷ between)) number message.seq object event
+    → statuses (length earlier) (sent_by fits (nobody acl) (earlier ++ frame number message ∷ between ++ event ∷ later)) ≡ 1
 one_at_end fits acl earlier between later event number object client message asks id found stays ends =
     let asking = earlier ++ frame number message ∷ between in
     let place = length earlier in
@@ -334,7 +344,8 @@ all_addressed : (one : Call) (sent : List Sent) → astray one sent ≡ 0 → st
 all_addressed one [] none = refl
 all_addressed one (s ∷ sent) none = let h = all_addressed one sent in grind (arith, none, h)
 
-pub addressed_all : (fits : Frame → Bool) (acl : Acl) (earlier later : List BusEvent) (number : ℕ) (client : Client) (message : Frame) → Asks message → client_of (after fits (nobody acl) earlier) number ≡ Some client → statuses_to (length earlier) number message.seq (sent_by fits (nobody acl) (earlier ++ frame number message ∷ later)) ≡ statuses (length earlier) (sent_by fits (nobody acl) (earlier ++ frame number message ∷ later))
+pub addressed_all : (fits : Frame → Bool) (acl : Acl) (earlier later : List BusEvent) (number : ℕ) (client : Client) (message : Frame) → Asks message → client_of (after fits (nobody acl) earlier) number ≡ Some client
+    → statuses_to (length earlier) number message.seq (sent_by fits (nobody acl) (earlier ++ frame number message ∷ later)) ≡ statuses (length earlier) (sent_by fits (nobody acl) (earlier ++ frame number message ∷ later))
 addressed_all fits acl earlier later number client message asks found =
     let table = after fits (nobody acl) earlier in
     let event = frame number message in

@@ -1,9 +1,11 @@
 -- NOTIFY, forwarded calls, and their answers.
-use Rattle.std.specs.Prelude.{ℕ, ◌==◌, ◌&&◌, not, List, [], ◌∷◌, ◌++◌, Bool, true, Option, Some, None, filter, map, codes, if◌then◌else◌}
+use Rattle.std.specs.Prelude.{ℕ, ◌==◌, ◌&&◌, not, List, [], ◌∷◌, ◌++◌, Bool, true, Option, Some, None, filter, map}
+use Rattle.std.specs.Prelude.{codes, if◌then◌else◌}
 use Rattle.std.specs.List.{find, flat_map, list_any}
 use Rattle.ubus_frames.specs.declared.frame.Frame.{Frame}
 use Rattle.ubus_table.specs.Table.{Table, Client, Object, Call, object_of, owner_of, is_owned, path_of}
-use Rattle.ubus_table.specs.Frames.{Sent, INVOKE, plain, where_fits, to_owner, is_set, where_set, status_reply, call_status, call_data}
+use Rattle.ubus_table.specs.Frames.{Sent, INVOKE, plain, where_fits, to_owner, is_set, where_set, status_reply}
+use Rattle.ubus_table.specs.Frames.{call_status, call_data}
 use Rattle.ubus_table.specs.Refusal.{Refusal, numbered, denial, Step, says, refused_if_asked}
 use Rattle.ubus_table.specs.Subscriptions.{subscribers_of}
 use Rattle.ubus_table.specs.Objects.{told}
@@ -36,7 +38,14 @@ passed_on client request object = record (bare INVOKE request.seq client.number)
 -- the call that a message opens on an object
 abbrev pub call_on : Table → Client → Frame → ℕ → Call
 call_on table client request object =
-    record { place = table.place; caller = client.number; seq = request.seq; object = object; no_reply = is_set request.no_reply }
+    record {
+      place = table.place;
+      caller = client.number;
+      seq = request.seq;
+      object = object;
+      no_reply =
+          is_set request.no_reply;
+    }
 
 -- the objects to which a message can be passed on
 abbrev pub reached : (Frame → Bool) → Client → Frame → List ℕ → List ℕ
@@ -64,7 +73,8 @@ notified fits table client request object =
     let subscribers = subscribers_of table.subscriptions object in
     says (record table { calls = table.calls ++ opened fits table client request subscribers })
     (told_subscribers fits client request object subscribers
-    ++ flat_map (λ subscriber. to_owner fits (owner_of table subscriber) (passed_on client request subscriber)) subscribers)
+    ++ flat_map (λ subscriber. to_owner fits (owner_of table subscriber) (passed_on client request subscriber))
+    subscribers)
 
 -- a NOTIFY is refused, in silence where it wants no reply
 abbrev pub refuses_notify : (Frame → Bool) → Table → Client → Frame → Refusal → Step
@@ -73,7 +83,8 @@ refuses_notify fits table client request refusal = says table (refused_if_asked 
 abbrev pub notifies_found : (Frame → Bool) → Table → Client → Frame → Option Object → Step
 notifies_found fits table client request None = refuses_notify fits table client request (numbered 4)
 notifies_found fits table client request (Some object) =
-    if not (object.owner == client.number) then refuses_notify fits table client request (denial (codes "notify") (path_of object))
+    if not (object.owner == client.number)
+    then refuses_notify fits table client request (denial (codes "notify") (path_of object))
     else (if not (is_set request.no_reply) && is_open table.calls client.number request.seq
     then refuses_notify fits table client request (numbered 2)
     else notified fits table client request object.number)
@@ -81,10 +92,11 @@ notifies_found fits table client request (Some object) =
 abbrev pub notifies_named : (Frame → Bool) → Table → Client → Frame → Option ℕ → Option (List ℕ) → Step
 notifies_named fits table client request None method = refuses_notify fits table client request (numbered 2)
 notifies_named fits table client request (Some object) None = refuses_notify fits table client request (numbered 2)
-notifies_named fits table client request (Some object) (Some method) = notifies_found fits table client request (object_of table object)
+notifies_named fits table client request (Some object) (Some method) =
+    notifies_found fits table client request (object_of table object)
 
--- NOTIFY: 2 without OBJID or METHOD; 4 where the object is not there; 6 where it is another's; 2 where a reply is asked for and the
--- caller has an open call with the sequence
+-- NOTIFY: 2 without OBJID or METHOD; 4 where the object is not there; 6 where it is another's; 2 where a reply is asked
+-- for and the caller has an open call with the sequence
 abbrev pub notifies : (Frame → Bool) → Table → Client → Frame → Step
 notifies fits table client request = notifies_named fits table client request request.id request.method
 
@@ -104,7 +116,8 @@ answered table client frame = find (is_answered table client frame) table.calls
 
 abbrev pub data_passed : (Frame → Bool) → Table → Frame → Option Call → Step
 data_passed fits table frame None = says table []
-data_passed fits table frame (Some call) = says table (where_fits fits call.caller (call_data call.seq call.object frame.payload))
+data_passed fits table frame (Some call) =
+    says table (where_fits fits call.caller (call_data call.seq call.object frame.payload))
 
 -- DATA: it goes to the caller of the call that it answers
 abbrev pub passes_data : (Frame → Bool) → Table → ℕ → Frame → Step

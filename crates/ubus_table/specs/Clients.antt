@@ -1,5 +1,6 @@
 -- Clients that come and go, and calls that local objects answer.
-use Rattle.std.specs.Prelude.{ℕ, ◌+◌, ◌==◌, ◌&&◌, ◌||◌, not, nat_lt, length, List, [], ◌∷◌, ◌++◌, Bool, true, false, Option, Some, None, map, filter, if◌then◌else◌}
+use Rattle.std.specs.Prelude.{ℕ, ◌+◌, ◌==◌, ◌&&◌, ◌||◌, not, nat_lt, length, List, [], ◌∷◌, ◌++◌, Bool, true, false}
+use Rattle.std.specs.Prelude.{Option, Some, None, map, filter, if◌then◌else◌}
 use Rattle.std.specs.List.{find}
 use Rattle.blob_codec.specs.declared.blob.Attr.{Attr}
 use Rattle.ubus_frames.specs.declared.frame.Frame.{Frame}
@@ -18,7 +19,10 @@ abbrev pub connected : Table → List ℕ → List ℕ → Step
 connected table user group =
     if is_full table then says table []
     else says
-    (record table { clients = table.clients ++ record { number = table.next_client; user = user; group = group } ∷ []; next_client = table.next_client + 1 })
+    (record table {
+      clients = table.clients ++ record { number = table.next_client; user = user; group = group } ∷ [];
+      next_client = table.next_client + 1;
+    })
     (plain table.next_client (hello table.next_client) ∷ [])
 
 -- the client's own call, but for one that was handed out
@@ -90,4 +94,5 @@ replied_to fits table p status payload (Some call) = says
 
 abbrev pub replied : (Frame → Bool) → Table → ℕ → ℕ → ℕ → ℕ → Option (List Attr) → Step
 replied fits table caller seq object status payload =
-    replied_to fits table (is_handed_out caller seq object) status payload (find (is_handed_out caller seq object) table.calls)
+    replied_to fits table (is_handed_out caller seq object) status payload
+    (find (is_handed_out caller seq object) table.calls)

@@ -1,5 +1,6 @@
 -- The event object: objects register for events, and clients send them.
-use Rattle.std.specs.Prelude.{ℕ, ℤ, pos, negsuc, ◌==◌, ◌&&◌, not, List, [], ◌∷◌, ◌++◌, Bool, true, false, Option, Some, None, map, filter, codes, if◌then◌else◌}
+use Rattle.std.specs.Prelude.{ℕ, ℤ, pos, negsuc, ◌==◌, ◌&&◌, not, List, [], ◌∷◌, ◌++◌, Bool, true, false, Option, Some}
+use Rattle.std.specs.Prelude.{None, map, filter, codes, if◌then◌else◌}
 use Rattle.std.specs.List.{list_any, flat_map}
 use Rattle.std.specs.Ordering.{nat_cmp}
 use Rattle.plane_words.specs.InOrder.{ordered}
@@ -7,7 +8,8 @@ use Rattle.plane_words.specs.Pattern.{fits_front}
 use Rattle.blob_codec.specs.declared.blob.Attr.{Attr}
 use Rattle.ubus_frames.specs.declared.frame.Frame.{Frame}
 use Rattle.ubus_acl.specs.Acl.{may_listen, may_send}
-use Rattle.ubus_table.specs.Table.{Table, Client, Object, Registration, same_text, object_of, owner_of, is_owner, path_of}
+use Rattle.ubus_table.specs.Table.{Table, Client, Object, Registration, same_text, object_of, owner_of, is_owner}
+use Rattle.ubus_table.specs.Table.{path_of}
 use Rattle.ubus_table.specs.Frames.{Sent, INVOKE, notice, to_owner}
 use Rattle.ubus_table.specs.Refusal.{Refusal, numbered, denial}
 use Rattle.ubus_table.specs.Arguments.{number_argument, text_argument, table_argument}
@@ -42,8 +44,9 @@ sends_with table client (Some id) None = bad (numbered 2)
 sends_with table client (Some id) (Some values) =
     if may_send client.user client.group id table.acl then event id values else bad (denial (codes "send") id)
 
--- `register` takes `object`, a number, and `pattern`, a text; `send` takes `id`, a text, and `data`, a table. 1 for another
--- method; 2 for wrong arguments; 4 where the object is not there; 6 where it is not the caller's, or the access list says so
+-- `register` takes `object`, a number, and `pattern`, a text; `send` takes `id`, a text, and `data`, a table. 1 for
+-- another method; 2 for wrong arguments; 4 where the object is not there; 6 where it is not the caller's, or the access
+-- list says so
 abbrev pub event_of : Table → Client → List ℕ → List Attr → Event
 event_of table client method args =
     if same_text method (codes "register")
@@ -58,7 +61,8 @@ same_registration one other = one.object == other.object && same_text one.patter
 -- a registration is kept once
 abbrev pub with_registration : List Registration → Registration → List Registration
 with_registration registrations registration =
-    if list_any (same_registration registration) registrations then registrations else registrations ++ registration ∷ []
+    if list_any (same_registration registration) registrations then registrations else registrations ++ registration
+    ∷ []
 
 -- the event goes to the object: its pattern fits, and its owner is another client than the sender
 abbrev pub is_sent : Table → ℕ → List ℕ → Registration → Bool
@@ -77,4 +81,5 @@ event_frame id values object =
 
 abbrev pub events_sent : (Frame → Bool) → Table → ℕ → List ℕ → List Attr → List Sent
 events_sent fits table sender id values =
-    flat_map (λ object. to_owner fits (owner_of table object) (event_frame id values object)) (listeners table sender id)
+    flat_map (λ object. to_owner fits (owner_of table object) (event_frame id values object))
+    (listeners table sender id)

@@ -1,9 +1,11 @@
 -- INVOKE, and which way it goes.
-use Rattle.std.specs.Prelude.{ℕ, ◌==◌, ◌&&◌, not, List, [], ◌∷◌, ◌++◌, Bool, true, false, Option, Some, None, unwrap_or, if◌then◌else◌}
+use Rattle.std.specs.Prelude.{ℕ, ◌==◌, ◌&&◌, not, List, [], ◌∷◌, ◌++◌, Bool, true, false, Option, Some, None, unwrap_or}
+use Rattle.std.specs.Prelude.{if◌then◌else◌}
 use Rattle.blob_codec.specs.declared.blob.Attr.{Attr}
 use Rattle.ubus_frames.specs.declared.frame.Frame.{Frame}
 use Rattle.ubus_acl.specs.Acl.{may_call}
-use Rattle.ubus_table.specs.Table.{Table, Client, Object, Registration, Call, no_client, event_object, object_of, path_of}
+use Rattle.ubus_table.specs.Table.{Table, Client, Object, Registration, Call, no_client, event_object, object_of}
+use Rattle.ubus_table.specs.Table.{path_of}
 use Rattle.ubus_table.specs.Frames.{Sent, where_fits, is_set, status_reply}
 use Rattle.ubus_table.specs.Refusal.{Refusal, numbered, denial, LocalCall, Step, says, refused_if_asked}
 use Rattle.ubus_table.specs.Calls.{is_open, passed_on, call_on}
@@ -26,25 +28,28 @@ event_way (event id values) = sends id values
 abbrev pub open_way : (Frame → Bool) → Client → Frame → Object → Way
 open_way fits client request object =
     if object.owner == no_client then hands_out object
-    else (if not (is_set request.no_reply) && not (fits (passed_on client request object.number)) then refusal (numbered 9)
+    else (if not (is_set request.no_reply) && not (fits (passed_on client request object.number))
+    then refusal (numbered 9)
     else forwards object)
 
 abbrev pub object_way : (Frame → Bool) → Table → Client → Frame → List ℕ → Option Object → Way
 object_way fits table client request method None = refusal (numbered 4)
 object_way fits table client request method (Some object) =
     if object.number == event_object.number then event_way (event_of table client method (unwrap_or request.payload []))
-    else (if not (may_call client.user client.group (path_of object) method table.acl) then refusal (denial method (path_of object))
+    else (if not (may_call client.user client.group (path_of object) method table.acl)
+    then refusal (denial method (path_of object))
     else (if is_open table.calls client.number request.seq then refusal (numbered 2)
     else open_way fits client request object))
 
 abbrev pub named_way : (Frame → Bool) → Table → Client → Frame → Option ℕ → Option (List ℕ) → Way
 named_way fits table client request None method = refusal (numbered 2)
 named_way fits table client request (Some object) None = refusal (numbered 2)
-named_way fits table client request (Some object) (Some method) = object_way fits table client request method (object_of table object)
+named_way fits table client request (Some object) (Some method) =
+    object_way fits table client request method (object_of table object)
 
--- INVOKE: 2 without OBJID or METHOD; 4 where the object is not there; 6 where the access list says so; 2 where the caller has an
--- open call with the sequence; 9 where a reply is asked for and the forwarded frame does not fit. The event object has refusals
--- of its own.
+-- INVOKE: 2 without OBJID or METHOD; 4 where the object is not there; 6 where the access list says so; 2 where the
+-- caller has an open call with the sequence; 9 where a reply is asked for and the forwarded frame does not fit. The
+-- event object has refusals of its own.
 abbrev pub way_of : (Frame → Bool) → Table → Client → Frame → Way
 way_of fits table client request = named_way fits table client request request.id request.method
 

@@ -1,11 +1,13 @@
 -- ADD_OBJECT and REMOVE_OBJECT, and what comes of an object that leaves.
-use Rattle.std.specs.Prelude.{ℕ, ◌+◌, ◌==◌, ◌&&◌, ◌||◌, not, nat_lt, nat_le, length, List, [], ◌∷◌, ◌++◌, Bool, true, false, Option, Some, None, map, filter, is_none, unwrap_or, codes, if◌then◌else◌}
+use Rattle.std.specs.Prelude.{ℕ, ◌+◌, ◌==◌, ◌&&◌, ◌||◌, not, nat_lt, nat_le, length, List, [], ◌∷◌, ◌++◌, Bool, true}
+use Rattle.std.specs.Prelude.{false, Option, Some, None, map, filter, is_none, unwrap_or, codes, if◌then◌else◌}
 use Rattle.std.specs.List.{flat_map}
 use Rattle.blob_codec.specs.declared.blob.Attr.{Attr}
 use Rattle.ubus_frames.specs.declared.frame.Frame.{Frame}
 use Rattle.ubus_acl.specs.Acl.{may_publish}
 use Rattle.plane_words.specs.Pattern.{is_nothing}
-use Rattle.ubus_table.specs.Table.{Table, Client, Object, Subscription, Registration, Call, has_number, object_of, owner_of, of_type, is_taken, path_of, last_number, most_objects}
+use Rattle.ubus_table.specs.Table.{Table, Client, Object, Subscription, Registration, Call, has_number, object_of}
+use Rattle.ubus_table.specs.Table.{owner_of, of_type, is_taken, path_of, last_number, most_objects}
 use Rattle.ubus_table.specs.Frames.{Sent, DATA, reply, to_owner, with_data, gone, call_status}
 use Rattle.ubus_table.specs.Refusal.{Refusal, numbered, denial, Step, says, refuses}
 use Rattle.ubus_table.specs.Subscriptions.{subscribers_of, targets_of, is_alone, activity}
@@ -57,8 +59,8 @@ added fits table client request object = says
     (record table { objects = table.objects ++ object ∷ []; next_object = table.next_object + 1 })
     (with_data fits client.number request (object_data request object.number (Some object.objtype) ∷ []))
 
--- ADD_OBJECT: 2 for a path that is empty or taken, or a type that no object has; 6 where the access list says so; 9 where there
--- are 4,096 objects, or the numbers are used up
+-- ADD_OBJECT: 2 for a path that is empty or taken, or a type that no object has; 6 where the access list says so; 9
+-- where there are 4,096 objects, or the numbers are used up
 abbrev pub adds : (Frame → Bool) → Table → Client → Frame → Step
 adds fits table client request =
     if is_refused_path table request.path || is_unknown_type table request.objtype
@@ -78,7 +80,8 @@ told status call = record { to = call.caller; frame = call_status call.seq call.
 -- the subscribers of an object that leaves are told
 abbrev pub farewells : (Frame → Bool) → Table → ℕ → List Sent
 farewells fits table number =
-    flat_map (λ subscriber. to_owner fits (owner_of table subscriber) (gone subscriber number)) (subscribers_of table.subscriptions number)
+    flat_map (λ subscriber. to_owner fits (owner_of table subscriber) (gone subscriber number))
+    (subscribers_of table.subscriptions number)
 
 abbrev pub touches : ℕ → Subscription → Bool
 touches number subscription = subscription.subscriber == number || subscription.target == number
@@ -87,10 +90,12 @@ touches number subscription = subscription.subscriber == number || subscription.
 abbrev pub untouched : ℕ → List Subscription → List Subscription
 untouched number subscriptions = filter (λ subscription. not (touches number subscription)) subscriptions
 
--- The subscriptions of an object that leaves end. Who has no subscriber any more is told; of the object itself nothing is left.
+-- The subscriptions of an object that leaves end. Who has no subscriber any more is told; of the object itself nothing
+-- is left.
 abbrev pub endings : (Frame → Bool) → Table → ℕ → List Sent
 endings fits table number =
-    flat_map (λ target. if not (target == number) && is_alone (untouched number table.subscriptions) target then activity fits table target false else [])
+    flat_map (λ target. if not (target == number) && is_alone (untouched number table.subscriptions) target
+    then activity fits table target false else [])
     (targets_of table.subscriptions number)
 
 -- the table without an object
@@ -102,11 +107,12 @@ without_object table number = record table {
   calls = filter (λ call. not (is_on number call)) table.calls;
 }
 
--- An object leaves. Its open calls get STATUS 10 as they were opened, then its subscribers are told, then its own subscriptions
--- end, then its registrations go.
+-- An object leaves. Its open calls get STATUS 10 as they were opened, then its subscribers are told, then its own
+-- subscriptions end, then its registrations go.
 abbrev pub object_left : (Frame → Bool) → Table → ℕ → Step
 object_left fits table number = says (without_object table number)
-    (map (told (Some 10)) (filter (is_on number) table.calls) ++ (farewells fits table number ++ endings fits table number))
+    (map (told (Some 10)) (filter (is_on number) table.calls)
+    ++ (farewells fits table number ++ endings fits table number))
 
 -- the type of an object that left, where no object has it any more
 abbrev pub lost_type : Table → ℕ → Option ℕ
@@ -116,7 +122,8 @@ abbrev pub removed : (Frame → Bool) → Table → Client → Frame → Object 
 removed fits table client request object =
     let left = object_left fits table object.number in
     says left.table
-    (left.sent ++ with_data fits client.number request (object_data request object.number (lost_type left.table object.objtype) ∷ []))
+    (left.sent ++ with_data fits client.number request
+    (object_data request object.number (lost_type left.table object.objtype) ∷ []))
 
 abbrev pub removes_found : (Frame → Bool) → Table → Client → Frame → Option Object → Step
 removes_found fits table client request None = refuses fits table client.number request (numbered 4)

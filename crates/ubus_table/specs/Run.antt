@@ -1,5 +1,6 @@
 -- Whole runs, and which STATUS is sent for which INVOKE.
-use Rattle.std.specs.Prelude.{ℕ, ◌+◌, ◌≡◌, ◌≢◌, ◌⊎◌, List, [], ◌∷◌, ◌++◌, Bool, true, false, ◌&&◌, ◌==◌, not, ⊤, Option, Some, None, is_some, is_none, if◌then◌else◌}
+use Rattle.std.specs.Prelude.{ℕ, ◌+◌, ◌≡◌, ◌≢◌, ◌⊎◌, List, [], ◌∷◌, ◌++◌, Bool, true, false, ◌&&◌, ◌==◌, not, ⊤, Option}
+use Rattle.std.specs.Prelude.{Some, None, is_some, is_none, if◌then◌else◌}
 use Rattle.std.specs.List.{list_any}
 use Rattle.ubus_frames.specs.declared.frame.Frame.{Frame}
 use Rattle.ubus_table.specs.Table.{Table, Client, Call, client_of, is_connected, is_local, is_owned}
@@ -17,7 +18,8 @@ after fits table (event ∷ events) = after fits (served fits table event).table
 -- all that they send
 abbrev pub sent_by : (Frame → Bool) → Table → List BusEvent → List Sent
 sent_by fits table [] = []
-sent_by fits table (event ∷ events) = (served fits table event).sent ++ sent_by fits (served fits table event).table events
+sent_by fits table (event ∷ events) = (served fits table event).sent
+    ++ sent_by fits (served fits table event).table events
 
 -- how many pass
 abbrev pub count_of : {X : Type 0} → (X → Bool) → List X → ℕ
@@ -70,18 +72,22 @@ is_over (sends id values) = true
 is_over (forwards object) = false
 is_over (hands_out object) = false
 
--- The message is one with which a call of the caller is over: the object's owner sends its STATUS, or removes the object.
+-- The message is one with which a call of the caller is over: the object's owner sends its STATUS, or removes the
+-- object.
 abbrev pub MessageEnds : Table → ℕ → ℕ → ℕ → ℕ → Frame → Type 0
 MessageEnds table caller seq object sender message =
     (is_connected table sender ≡ true) × (is_owned table object sender ≡ true)
-    × ((message.kind ≡ STATUS) × (message.peer ≡ caller) × (message.seq ≡ seq) × ((message.id ≡ None) ⊎ (message.id ≡ Some object))
+    × ((message.kind ≡ STATUS) × (message.peer ≡ caller) × (message.seq ≡ seq)
+    × ((message.id ≡ None) ⊎ (message.id ≡ Some object))
     ⊎ (message.kind ≡ REMOVE_OBJECT) × (message.id ≡ Some object))
 
--- The event is one with which a call of the caller is over: such a message, the owner leaves, or the local object answers.
+-- The event is one with which a call of the caller is over: such a message, the owner leaves, or the local object
+-- answers.
 abbrev pub Ends : Table → ℕ → ℕ → ℕ → BusEvent → Type 0
 Ends table caller seq object (connect user group) = ⊥
 Ends table caller seq object (frame sender message) = MessageEnds table caller seq object sender message
 Ends table caller seq object (leave leaver) =
-    (is_connected table leaver ≡ true) × (list_any (λ number. number == object) (numbers_of table leaver) ≡ true) × (leaver ≢ caller)
+    (is_connected table leaver ≡ true) × (list_any (λ number. number == object) (numbers_of table leaver) ≡ true)
+    × (leaver ≢ caller)
 Ends table caller seq object (local_reply client number other status payload) =
     (client ≡ caller) × (number ≡ seq) × (other ≡ object) × (is_local object ≡ true)

@@ -3,7 +3,8 @@ use Rattle.std.specs.Prelude.{ℕ, ◌+◌, ◌==◌, List, [], Bool, Option, So
 use Rattle.blob_codec.specs.declared.blob.Attr.{Attr}
 use Rattle.ubus_frames.specs.declared.frame.Frame.{Frame}
 use Rattle.ubus_table.specs.Table.{Table, Client, client_of}
-use Rattle.ubus_table.specs.Frames.{STATUS, DATA, PING, LOOKUP, INVOKE, ADD_OBJECT, REMOVE_OBJECT, SUBSCRIBE, UNSUBSCRIBE, NOTIFY}
+use Rattle.ubus_table.specs.Frames.{STATUS, DATA, PING, LOOKUP, INVOKE, ADD_OBJECT, REMOVE_OBJECT, SUBSCRIBE}
+use Rattle.ubus_table.specs.Frames.{UNSUBSCRIBE, NOTIFY}
 use Rattle.ubus_table.specs.Refusal.{numbered, Step, says, refuses}
 use Rattle.ubus_table.specs.Asked.{pinged, looked_up}
 use Rattle.ubus_table.specs.Objects.{adds, removes}

@@ -1,11 +1,13 @@
 -- SUBSCRIBE and UNSUBSCRIBE: an object is told of another one.
-use Rattle.std.specs.Prelude.{ℕ, ◌==◌, ◌&&◌, not, List, [], ◌∷◌, ◌++◌, Bool, true, false, Option, Some, None, map, filter, is_some, is_none, codes, if◌then◌else◌}
+use Rattle.std.specs.Prelude.{ℕ, ◌==◌, ◌&&◌, not, List, [], ◌∷◌, ◌++◌, Bool, true, false, Option, Some, None, map}
+use Rattle.std.specs.Prelude.{filter, is_some, is_none, codes, if◌then◌else◌}
 use Rattle.std.specs.List.{list_any}
 use Rattle.std.specs.Ordering.{nat_cmp}
 use Rattle.plane_words.specs.InOrder.{ordered}
 use Rattle.ubus_frames.specs.declared.frame.Frame.{Frame}
 use Rattle.ubus_acl.specs.Acl.{may_subscribe}
-use Rattle.ubus_table.specs.Table.{Table, Client, Object, Subscription, no_client, object_of, owner_of, is_owned, path_of}
+use Rattle.ubus_table.specs.Table.{Table, Client, Object, Subscription, no_client, object_of, owner_of, is_owned}
+use Rattle.ubus_table.specs.Table.{path_of}
 use Rattle.ubus_table.specs.Frames.{Sent, answer, to_owner, active}
 use Rattle.ubus_table.specs.Refusal.{Refusal, numbered, denial, Step, says, refuses}
 
@@ -18,12 +20,14 @@ has_subscription subscriptions subscription = list_any (same_subscription subscr
 -- the subscribers of an object, by rising number
 abbrev pub subscribers_of : List Subscription → ℕ → List ℕ
 subscribers_of subscriptions target =
-    ordered nat_cmp (map (λ (s : Subscription). s.subscriber) (filter (λ (s : Subscription). s.target == target) subscriptions))
+    ordered nat_cmp (map (λ (s : Subscription). s.subscriber)
+    (filter (λ (s : Subscription). s.target == target) subscriptions))
 
 -- what an object is subscribed to, by rising number
 abbrev pub targets_of : List Subscription → ℕ → List ℕ
 targets_of subscriptions subscriber =
-    ordered nat_cmp (map (λ (s : Subscription). s.target) (filter (λ (s : Subscription). s.subscriber == subscriber) subscriptions))
+    ordered nat_cmp (map (λ (s : Subscription). s.target)
+    (filter (λ (s : Subscription). s.subscriber == subscriber) subscriptions))
 
 -- nobody is subscribed to the object
 abbrev pub is_alone : List Subscription → ℕ → Bool
@@ -42,7 +46,9 @@ subscribed fits table client request subscription =
     if has_subscription table.subscriptions subscription
     then says table (answer client.number request 0 ∷ [])
     else says (record table { subscriptions = table.subscriptions ++ subscription ∷ [] })
-    (answer client.number request 0 ∷ (if is_alone table.subscriptions subscription.target then activity fits table subscription.target true else []))
+    (answer client.number request 0
+    ∷ (if is_alone table.subscriptions subscription.target then activity fits table subscription.target true
+    else []))
 
 -- both objects are there
 abbrev pub subscribes_both : (Frame → Bool) → Table → Client → Frame → Object → Object → Step
@@ -56,17 +62,20 @@ subscribes_both fits table client request subscriber target =
 
 abbrev pub subscribes_found : (Frame → Bool) → Table → Client → Frame → Option Object → Option Object → Step
 subscribes_found fits table client request None target = refuses fits table client.number request (numbered 4)
-subscribes_found fits table client request (Some subscriber) None = refuses fits table client.number request (numbered 4)
-subscribes_found fits table client request (Some subscriber) (Some target) = subscribes_both fits table client request subscriber target
+subscribes_found fits table client request (Some subscriber) None =
+    refuses fits table client.number request (numbered 4)
+subscribes_found fits table client request (Some subscriber) (Some target) =
+    subscribes_both fits table client request subscriber target
 
 abbrev pub subscribes_named : (Frame → Bool) → Table → Client → Frame → Option ℕ → Option ℕ → Step
 subscribes_named fits table client request None target = refuses fits table client.number request (numbered 2)
-subscribes_named fits table client request (Some subscriber) None = refuses fits table client.number request (numbered 2)
+subscribes_named fits table client request (Some subscriber) None =
+    refuses fits table client.number request (numbered 2)
 subscribes_named fits table client request (Some subscriber) (Some target) =
     subscribes_found fits table client request (object_of table subscriber) (object_of table target)
 
--- SUBSCRIBE: 2 without OBJID or TARGET; 4 where one is not there, or the target is no client's; 6 where OBJID is another's,
--- or the access list says so
+-- SUBSCRIBE: 2 without OBJID or TARGET; 4 where one is not there, or the target is no client's; 6 where OBJID is
+-- another's, or the access list says so
 abbrev pub subscribes : (Frame → Bool) → Table → Client → Frame → Step
 subscribes fits table client request = subscribes_named fits table client request request.id request.target
 
@@ -76,12 +85,14 @@ unsubscribed fits table client request subscription =
     if has_subscription table.subscriptions subscription && is_owned table subscription.subscriber client.number
     then (let left = without table.subscriptions subscription in
     says (record table { subscriptions = left })
-    (answer client.number request 0 ∷ (if is_alone left subscription.target then activity fits table subscription.target false else [])))
+    (answer client.number request 0
+    ∷ (if is_alone left subscription.target then activity fits table subscription.target false else [])))
     else refuses fits table client.number request (numbered 4)
 
 abbrev pub unsubscribes_named : (Frame → Bool) → Table → Client → Frame → Option ℕ → Option ℕ → Step
 unsubscribes_named fits table client request None target = refuses fits table client.number request (numbered 2)
-unsubscribes_named fits table client request (Some subscriber) None = refuses fits table client.number request (numbered 2)
+unsubscribes_named fits table client request (Some subscriber) None =
+    refuses fits table client.number request (numbered 2)
 unsubscribes_named fits table client request (Some subscriber) (Some target) =
     unsubscribed fits table client request (record { subscriber = subscriber; target = target })
 

@@ -1,5 +1,6 @@
 -- What the bus knows.
-use Rattle.std.specs.Prelude.{ℕ, ◌≡◌, List, [], ◌∷◌, ◌++◌, Bool, false, Option, Some, None, ◌==◌, ◌&&◌, is_some, codes, nat_eq, unwrap_or}
+use Rattle.std.specs.Prelude.{ℕ, ◌≡◌, List, [], ◌∷◌, ◌++◌, Bool, false, Option, Some, None, ◌==◌, ◌&&◌, is_some, codes}
+use Rattle.std.specs.Prelude.{nat_eq, unwrap_or}
 use Rattle.std.specs.List.{find, list_any}
 use Rattle.std.specs.Cmp.Lexicographic.{pointwise}
 use Rattle.blob_codec.specs.declared.blob.Attr.{Attr}
@@ -69,7 +70,8 @@ event_object = record { number = 1; owner = no_client; path = None; objtype = 0;
 
 -- a local object has its number as type, and an empty signature
 abbrev pub local_object : ℕ → List ℕ → Object
-local_object number path = record { number = number; owner = no_client; path = Some path; objtype = number; signature = [] }
+local_object number path = record
+    { number = number; owner = no_client; path = Some path; objtype = number; signature = [] }
 
 abbrev pub local_objects : List Object
 local_objects =

@@ -5,7 +5,8 @@ ghost use Rattle.ubus_acl.specs.declared.acl.Acl.{Acl};
 ghost use Rattle.ubus_table.specs.Table.{Client, nobody, client_of};
 ghost use Rattle.ubus_table.specs.Invoked.{way_of};
 ghost use Rattle.ubus_table.specs.Served.{BusEvent, frame};
-ghost use Rattle.ubus_table.specs.Run.{Asks, Ends, IsInvoke, Stays, after, is_over, open_count, sent_by, statuses, statuses_to};
+ghost use Rattle.ubus_table.specs.Run.{Asks, Ends, IsInvoke, Stays, after, is_over, open_count};
+ghost use Rattle.ubus_table.specs.Run.{sent_by, statuses, statuses_to};
 
 /// No INVOKE has two STATUS sent for it.
 pub fn at_most_one_status()
@@ -15,7 +16,8 @@ pub fn at_most_one_status()
         (sent_by fits (nobody acl) (earlier ++ frame client message ∷ later)) ≤ 1 }
 {}
 
-/// While its caller stays, an INVOKE that asks for a reply is open, or has one STATUS sent for it, and not both.
+/// While its caller stays, an INVOKE that asks for a reply is open, or has one STATUS sent for it,
+/// and not both.
 pub fn answered_or_open()
     ensures { (fits : Frame → Bool) (acl : Acl) (earlier later : List BusEvent)
         (number : ℕ) (client : Client) (message : Frame) → Asks message →
@@ -26,8 +28,8 @@ pub fn answered_or_open()
         (after fits (nobody acl) (earlier ++ frame number message ∷ later)).calls ≡ 1 }
 {}
 
-/// An INVOKE that asks for a reply and is refused, or answered by the event object, has one STATUS sent for it, whatever
-/// comes later.
+/// An INVOKE that asks for a reply and is refused, or answered by the event object, has one STATUS
+/// sent for it, whatever comes later.
 pub fn over_at_once()
     ensures { (fits : Frame → Bool) (acl : Acl) (earlier later : List BusEvent)
         (number : ℕ) (client : Client) (message : Frame) → Asks message →
@@ -37,8 +39,9 @@ pub fn over_at_once()
         (sent_by fits (nobody acl) (earlier ++ frame number message ∷ later)) ≡ 1 }
 {}
 
-/// An INVOKE that asks for a reply has one STATUS sent for it once its object's owner has sent its STATUS, removed the object
-/// or left, or the local object has answered, whatever comes later, unless its caller left first.
+/// An INVOKE that asks for a reply has one STATUS sent for it once its object's owner has sent its
+/// STATUS, removed the object or left, or the local object has answered, whatever comes later,
+/// unless its caller left first.
 pub fn answered_once()
     ensures { (fits : Frame → Bool) (acl : Acl) (earlier between later : List BusEvent)
         (event : BusEvent) (number object : ℕ) (client : Client) (message : Frame) →
@@ -50,7 +53,8 @@ pub fn answered_once()
         (earlier ++ frame number message ∷ between ++ event ∷ later)) ≡ 1 }
 {}
 
-/// Each STATUS that is sent for an INVOKE that asks for a reply goes to its caller, with its sequence.
+/// Each STATUS that is sent for an INVOKE that asks for a reply goes to its caller, with its
+/// sequence.
 pub fn sent_to_its_caller()
     ensures { (fits : Frame → Bool) (acl : Acl) (earlier later : List BusEvent)
         (number : ℕ) (client : Client) (message : Frame) → Asks message →

@@ -1,5 +1,5 @@
-//! The message bus as definitions: what it knows, what each event makes of that and sends, with its rows, and the laws on statuses and
-//! places.
+//! The message bus as definitions: what it knows, what each event makes of that and sends, with its
+//! rows, and the laws on statuses and places.
 #![tactic(auto)]
 
 mod laws;

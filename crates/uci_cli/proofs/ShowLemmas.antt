@@ -12,7 +12,8 @@ from_here sections place section inside is = rw add-one (drop-cons sections plac
 pub up_to_here : (sections : List Section) (place : ℕ) (section : Section) → place < length sections → section ≡ get_or sections place section → take (place + 1) sections ≡ take place sections ++ section ∷ []
 up_to_here sections place section inside is = rw add-one (take-suc sections place section inside ∙ ap (λ y. take place sections ++ y ∷ []) (sym is))
 
-pub section_step : (options : Options) (name out more : List ℕ) (sections : List Section) (place : ℕ) (section : Section) → place < length sections → section ≡ get_or sections place section → more ≡ out ++ shown_section options name (take place sections) section
+pub section_step : (options : Options) (name out more : List ℕ) (sections : List Section) (place : ℕ) (section : Section) → place < length sections → section ≡ get_or sections place section → more ≡ out
+    ++ shown_section options name (take place sections) section
     → more ++ shown_behind options name (take (place + 1) sections) (drop (place + 1) sections) ≡ out ++ shown_behind options name (take place sections) (drop place sections)
 section_step options name out more sections place section inside is grown =
     let lines : List ℕ = shown_section options name (take place sections) section in

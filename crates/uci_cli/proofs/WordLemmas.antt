@@ -27,7 +27,8 @@ flag_step options word words flag e = ap (by_flag options word words) e
 no_flag : (options : Options) (word : List ℕ) (words : List (List ℕ)) → flag_of word ≡ None → asked_from options None (word ∷ words) ≡ by_field options word words (field_of word)
 no_flag options word words e = ap (by_flag options word words) e
 
-pub field_step : (options : Options) (word value : List ℕ) (words : List (List ℕ)) (field : Field) → flag_of word ≡ None → field_of word ≡ Some field → asked_from options None (word ∷ value ∷ words) ≡ asked_from (with_field field value options) None words
+pub field_step : (options : Options) (word value : List ℕ) (words : List (List ℕ)) (field : Field) → flag_of word ≡ None → field_of word ≡ Some field → asked_from options None (word ∷ value ∷ words)
+    ≡ asked_from (with_field field value options) None words
 field_step options word value words field e f = no_flag options word (value ∷ words) e ∙ ap (by_field options word (value ∷ words)) f
 
 pub lack_step : (options : Options) (word : List ℕ) (field : Field) → flag_of word ≡ None → field_of word ≡ Some field → asked_from options None (word ∷ []) ≡ record { options = options; command = None }
@@ -35,3 +36,5 @@ lack_step options word field e f = no_flag options word [] e ∙ ap (by_field op
 
 pub command_step : (options : Options) (word : List ℕ) (words : List (List ℕ)) → flag_of word ≡ None → field_of word ≡ None → asked_from options None (word ∷ words) ≡ record { options = options; command = command_of (word ∷ words) }
 command_step options word words e f = no_flag options word words e ∙ ap (by_field options word words) f
+
+pub ruleset word_steps = (flag_step, field_step, lack_step, command_step)

@@ -12,10 +12,12 @@ use Rattle.uci_cli.specs.Values.{given_value}
 -- the type of a section, or the value of an option of it
 abbrev pub given_in : List ℕ → Section → Option ℕ → Option (List ℕ)
 given_in between section None = Some section.kind
-given_in between section (Some option) = option_map (λ found. given_value between found.value) (slice_get section.options option)
+given_in between section (Some option) =
+    option_map (λ found. given_value between found.value) (slice_get section.options option)
 
 abbrev pub given_at : List ℕ → Package → Place → Option (List ℕ)
-given_at between tree place = option_and_then (λ section. given_in between section place.option) (slice_get tree.sections place.section)
+given_at between tree place = option_and_then (λ section. given_in between section place.option)
+    (slice_get tree.sections place.section)
 
 -- a line of it
 abbrev pub line_of : List ℕ → List ℕ

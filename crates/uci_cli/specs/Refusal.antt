@@ -3,7 +3,8 @@ use Rattle.std.specs.Prelude.{ℕ, List, ◌++◌, decimal}
 use Rattle.uci_tree.specs.declared.fault.Fault.{Fault}
 use Rattle.uci_tree.specs.Fault.{reason_text}
 use Rattle.uci_cli.specs.declared.refusal.Refusal.{Refusal}
-use Rattle.uci_cli.specs.declared.refusal.Refusal.TheVariants.{NotFound, Invalid, Duplicate, Waiting, NoPackage, Parse, TooLarge}
+use Rattle.uci_cli.specs.declared.refusal.Refusal.TheVariants.{NotFound, Invalid, Duplicate, Waiting, NoPackage, Parse}
+use Rattle.uci_cli.specs.declared.refusal.Refusal.TheVariants.{TooLarge}
 use Rattle.uci_cli.specs.declared.refusal.TheConstants as texts
 
 -- 20 to 22 for what a change meets, 31 where an apply waits, 35 to 37 for packages
@@ -18,7 +19,8 @@ number_of TooLarge = 37
 
 -- where a text is no package, and why
 abbrev pub fault_text : Fault → List ℕ
-fault_text fault = texts.PARSE_ERROR.now ++ reason_text fault.reason ++ texts.AT_LINE.now ++ decimal fault.line ++ texts.NEWLINE.now
+fault_text fault = texts.PARSE_ERROR.now ++ reason_text fault.reason ++ texts.AT_LINE.now ++ decimal fault.line
+    ++ texts.NEWLINE.now
 
 -- the line on the error output
 abbrev pub text_of : Refusal → List ℕ

@@ -1,5 +1,6 @@
 -- What `uci show` prints.
-use Rattle.std.specs.Prelude.{ℕ, List, [], ◌∷◌, ◌++◌, Bool, not, ◌&&◌, Option, Some, None, bytes_eq, count_by, decimal, take, slice_get, if◌then◌else◌}
+use Rattle.std.specs.Prelude.{ℕ, List, [], ◌∷◌, ◌++◌, Bool, not, ◌&&◌, Option, Some, None, bytes_eq, count_by, decimal}
+use Rattle.std.specs.Prelude.{take, slice_get, if◌then◌else◌}
 use Rattle.std.specs.List.{flat_map}
 use Rattle.std.specs.Option.{option_map, option_and_then}
 use Rattle.uci_text.specs.Byte.{dot, newline, at_sign, opening_bracket, closing_bracket}
@@ -16,11 +17,13 @@ use Rattle.uci_cli.specs.Values.{shown_value}
 
 -- `@TYPE[N]`, where N is the number of sections of its type before it
 abbrev pub place_name : List Section → List ℕ → List ℕ
-place_name before kind = at_sign ∷ kind ++ opening_bracket ∷ decimal (count_by (λ other. bytes_eq other.kind kind) before) ++ closing_bracket ∷ []
+place_name before kind = at_sign ∷ kind ++ opening_bracket
+    ∷ decimal (count_by (λ other. bytes_eq other.kind kind) before) ++ closing_bracket ∷ []
 
 -- what a section is called behind these sections: an anonymous one by its place, unless its name is asked for
 abbrev pub called : Bool → List Section → Section → List ℕ
-called by_name before section = if section.anonymous && not by_name then place_name before section.kind else section.name
+called by_name before section = if section.anonymous && not by_name then place_name before section.kind
+    else section.name
 
 -- the package and the section
 abbrev pub section_path : Options → List ℕ → List Section → Section → List ℕ
@@ -28,19 +31,23 @@ section_path options name before section = name ++ dot ∷ called options.by_nam
 
 -- a line of an option in a section of this path
 abbrev pub option_line : List ℕ → List ℕ → Opt → List ℕ
-option_line between path option = path ++ dot ∷ option.name ++ equals_sign ∷ shown_value between option.value ++ newline ∷ []
+option_line between path option = path ++ dot ∷ option.name ++ equals_sign ∷ shown_value between option.value ++ newline
+    ∷ []
 
 -- the line of a section of this path, and those of its options
 abbrev pub section_lines : List ℕ → List ℕ → Section → List ℕ
-section_lines between path section = path ++ equals_sign ∷ section.kind ++ newline ∷ flat_map (option_line between path) section.options
+section_lines between path section = path ++ equals_sign ∷ section.kind ++ newline
+    ∷ flat_map (option_line between path) section.options
 
 abbrev pub shown_section : Options → List ℕ → List Section → Section → List ℕ
-shown_section options name before section = section_lines options.between (section_path options name before section) section
+shown_section options name before section =
+    section_lines options.between (section_path options name before section) section
 
 -- the lines of sections that stand behind others
 abbrev pub shown_behind : Options → List ℕ → List Section → List Section → List ℕ
 shown_behind options name before [] = []
-shown_behind options name before (section ∷ sections) = shown_section options name before section ++ shown_behind options name (before ++ section ∷ []) sections
+shown_behind options name before (section ∷ sections) = shown_section options name before section
+    ++ shown_behind options name (before ++ section ∷ []) sections
 
 -- the lines of a package
 abbrev pub shown : Options → Package → List ℕ
@@ -53,7 +60,9 @@ shown_by between path section (Some option) = option_map (option_line between pa
 
 -- the lines of what stands at a place
 abbrev pub shown_at : Options → Package → Place → Option (List ℕ)
-shown_at options tree place = option_and_then (λ section. shown_by options.between (section_path options tree.name (take place.section tree.sections) section) section place.option) (slice_get tree.sections place.section)
+shown_at options tree place = option_and_then
+    (λ section. shown_by options.between (section_path options tree.name (take place.section tree.sections) section)
+    section place.option) (slice_get tree.sections place.section)
 
 abbrev pub shown_found : Options → Package → Option SectionRef → Option Place → Option (List ℕ)
 shown_found options tree None place = Some (shown options tree)

@@ -6,8 +6,8 @@ use plane_io::{Memory, Text};
 use std::alloc::Global;
 use uci_tree::{Package, Path, Place, Section, find};
 
-/// What `get` prints of what the path leads to: the value of an option, or the type of a section. `None` where it leads to
-/// nothing. The path's package is not looked at.
+/// What `get` prints of what the path leads to: the value of an option, or the type of a section.
+/// `None` where it leads to nothing. The path's package is not looked at.
 ///
 /// # Errors
 ///

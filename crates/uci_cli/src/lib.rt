@@ -1,5 +1,5 @@
-//! The command line of `uci`: its options and commands as words, what it prints of packages, values and staged changes, and why a command
-//! is refused.
+//! The command line of `uci`: its options and commands as words, what it prints of packages, values
+//! and staged changes, and why a command is refused.
 #![tactic(auto)]
 
 mod changes;

@@ -54,8 +54,8 @@ pub enum Refusal {
 }
 
 impl Refusal {
-    /// The number of the refusal: 20 for `NotFound`, 21 for `Invalid`, 22 for `Duplicate`, 31 for `Waiting`, 35 for
-    /// `NoPackage`, 36 for `Parse`, 37 for `TooLarge`.
+    /// The number of the refusal: 20 for `NotFound`, 21 for `Invalid`, 22 for `Duplicate`, 31 for
+    /// `Waiting`, 35 for `NoPackage`, 36 for `Parse`, 37 for `TooLarge`.
     pub fn number(&self) -> u8
         ensures { result ≡ spec.number_of self.now }
     {

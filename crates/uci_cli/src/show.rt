@@ -1,4 +1,5 @@
-ghost use Rattle.std.specs.Prelude.{◌≡◌, ◌++◌, ◌<◌, [], count_by, bytes_eq, take, length, IfOk, OnOk};
+ghost use Rattle.std.specs.Prelude.{◌≡◌, ◌++◌, ◌<◌, [], count_by, bytes_eq, take, length, IfOk};
+ghost use Rattle.std.specs.Prelude.{OnOk};
 ghost use Rattle.std.specs.List.{flat_map};
 ghost use Rattle.uci_cli.specs.Show as spec;
 
@@ -8,8 +9,8 @@ use plane_io::{Memory, Text};
 use std::alloc::Global;
 use uci_tree::{Opt, Package, Path, Place, Section, find};
 
-/// What `show` prints of what the path leads to: of the whole package where it names no section. `None` where it leads to
-/// nothing. The path's package is not looked at.
+/// What `show` prints of what the path leads to: of the whole package where it names no section.
+/// `None` where it leads to nothing. The path's package is not looked at.
 ///
 /// # Errors
 ///

@@ -19,7 +19,8 @@ pub fn append_number(out: &mut Vec<u8>, number: u64) -> Result<(), Memory>
 
 /// Appends a value as `show` writes it: quoted, and the items of a list with a text between them.
 pub fn show_value(out: &mut Vec<u8>, between: &[u8], value: &Value) -> Result<(), Memory>
-    ensures { OnOk result (out.new.items ≡ out.old.items ++ spec.shown_value between.now value.now) }
+    ensures { OnOk result (out.new.items ≡ out.old.items
+        ++ spec.shown_value between.now value.now) }
 {
     match value {
         Value::One(text) => quote_into(out, text.as_bytes()),
@@ -42,10 +43,11 @@ fn show_items(out: &mut Vec<u8>, between: &[u8], items: &[Text]) -> Result<(), M
     Ok(())
 }
 
-/// Appends a value as `get` writes it: as it is, and the items of a list with a text between them, where those that hold a
-/// gap are quoted.
+/// Appends a value as `get` writes it: as it is, and the items of a list with a text between them,
+/// where those that hold a gap are quoted.
 pub fn give_value(out: &mut Vec<u8>, between: &[u8], value: &Value) -> Result<(), Memory>
-    ensures { OnOk result (out.new.items ≡ out.old.items ++ spec.given_value between.now value.now) }
+    ensures { OnOk result (out.new.items ≡ out.old.items
+        ++ spec.given_value between.now value.now) }
 {
     match value {
         Value::One(text) => {

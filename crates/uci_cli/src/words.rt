@@ -20,7 +20,7 @@ pub struct Asked {
 /// # Errors
 ///
 /// Want of memory.
-#[tactic(auto, using(crate::proofs::WordLemmas::flag_step, crate::proofs::WordLemmas::field_step, crate::proofs::WordLemmas::lack_step, crate::proofs::WordLemmas::command_step))]
+#[tactic(auto, using(crate::proofs::WordLemmas::word_steps))]
 pub fn read_words(alloc: Global, words: &[Text]) -> Result<Asked, Memory>
     ensures { IfOk result (λ asked. asked ≡ asked_of words.now) }
 {

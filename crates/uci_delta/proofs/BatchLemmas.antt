@@ -27,7 +27,8 @@ use Rattle.uci_delta.specs.Placed.{ArePlaced, IsNotedIn}
 use Rattle.uci_delta.proofs.ValidLemmas.{made_of, applied_valid}
 
 -- the places of one section more
-pub places_grow : (old new : BTreeMap (List ℕ) ℕ) (all : List Section) (section d : Section) (place : ℕ) → HasPlaces old (take place all) → HasNoted old new section.name place → place < length all → section ≡ get_or all place d → HasPlaces new (take (place + 1) all)
+pub places_grow : (old new : BTreeMap (List ℕ) ℕ) (all : List Section) (section d : Section) (place : ℕ) → HasPlaces old (take place all) → HasNoted old new section.name place → place < length all → section ≡ get_or all place d
+    → HasPlaces new (take (place + 1) all)
 places_grow old new all section d place h n inside e =
     places_push old new (take place all) (take (place + 1) all) section place h n (sym (length-take-le place all (omega (arith, inside)))) (take_more all place d inside ∙ ap (λ (z : Section). take place all ++ z ∷ []) (sym e))
 
@@ -44,11 +45,13 @@ first_named name x y xs ys e h =
     ∙ ap (λ (z : Option ℕ). cond {A = Option ℕ} (bytes_eq x.name name) (Some 0) (option_map (λ k. suc k) z)) h
     ∙ sym (position-cons (λ (section : Section). bytes_eq section.name name) x xs)
 
-names_stay : (name : List ℕ) (test : Section → Bool) (lack : DeltaError) (becomes : Section → Result (List Section) DeltaError) (old new : List Section) → ((x : Section) (ys : List Section) → becomes x ≡ Ok ys → SameName x ys) → first_becomes test lack becomes old ≡ Ok new → named_place new name ≡ named_place old name
+names_stay : (name : List ℕ) (test : Section → Bool) (lack : DeltaError) (becomes : Section → Result (List Section) DeltaError) (old new : List Section) → ((x : Section) (ys : List Section) → becomes x ≡ Ok ys → SameName x ys)
+    → first_becomes test lack becomes old ≡ Ok new → named_place new name ≡ named_place old name
 names_stay name test lack becomes [] new k e = absurd (let f : ◌≡◌ {A = Result (List Section) DeltaError} (Err lack) (Ok new) = e in cc)
 names_stay name test lack becomes (x ∷ xs) new k e = go (λ rest f. names_stay name test lack becomes xs rest k f) (test x) e
   where
-    go : ((rest : List Section) → first_becomes test lack becomes xs ≡ Ok rest → named_place rest name ≡ named_place xs name) → (b : Bool) → cond {A = Result (List Section) DeltaError} b (made (λ new. new ++ xs) (becomes x)) (made (λ rest. x ∷ rest) (first_becomes test lack becomes xs)) ≡ Ok new → named_place new name ≡ named_place (x ∷ xs) name
+    go : ((rest : List Section) → first_becomes test lack becomes xs ≡ Ok rest → named_place rest name ≡ named_place xs name) → (b : Bool)
+        → cond {A = Result (List Section) DeltaError} b (made (λ new. new ++ xs) (becomes x)) (made (λ rest. x ∷ rest) (first_becomes test lack becomes xs)) ≡ Ok new → named_place new name ≡ named_place (x ∷ xs) name
     go later true f =
         let m = made_of (λ new. new ++ xs) (becomes x) new f in
         let s = k x m.x m.found in
@@ -110,8 +113,10 @@ data Comes (name : List ℕ) (old new : List Section) : Type 0 where
 kind_comes : (name kind : List ℕ) (old new : List Section) → where_named name kind (with_kind name kind old) ≡ Ok new → Comes name old new
 kind_comes name kind old new e = go (has_section name old) refl (taken (are_named name kind) (with_kind name kind old) Invalid new e)
   where
-    go : (b : Bool) → has_section name old ≡ b → cond {A = Result (List Section) DeltaError} b (first_becomes (is_section name) Invalid (λ section. Ok (record section { kind = kind } ∷ [])) old) (Ok (with_new name false kind old)) ≡ Ok new → Comes name old new
-    go true t f = was_there t (λ other. names_stay other (is_section name) Invalid (λ section. Ok (record section { kind = kind } ∷ [])) old new (λ x ys g. record { y = record x { kind = kind }; one = same_list (record x { kind = kind } ∷ []) ys g; name = refl }) f)
+    go : (b : Bool) → has_section name old ≡ b → cond {A = Result (List Section) DeltaError} b (first_becomes (is_section name) Invalid (λ section. Ok (record section { kind = kind } ∷ [])) old) (Ok (with_new name false kind old)) ≡ Ok new
+        → Comes name old new
+    go true t f = was_there t (λ other. names_stay other (is_section name) Invalid (λ section. Ok (record section { kind = kind } ∷ [])) old new
+        (λ x ys g. record { y = record x { kind = kind }; one = same_list (record x { kind = kind } ∷ []) ys g; name = refl }) f)
     go false t f = comes_last (record { name = name; anonymous = false; kind = kind; options = [] }) refl (same_list (with_new name false kind old) new f)
 
 anonymous_comes : (name kind : List ℕ) (old new : List Section) → where_named name kind (with_anonymous name kind old) ≡ Ok new → Comes name old new
@@ -132,14 +137,17 @@ known_placed places (Some q) name old new before h n b c =
     noted_comes n.0 q name old new before (subst (λ (z : Option (BTreeMap (List ℕ) ℕ)). ArePlaced z old) n.1 h) n.2 b c
 
 -- the places that are kept
-pub follow_option : (places : Option (BTreeMap (List ℕ) ℕ)) (name option : List ℕ) (given : Option (List ℕ)) (change : Change) (old new : List Section) → given ≡ Some option → ArePlaced places old → changed name given change old ≡ Ok new → ArePlaced places new
+pub follow_option : (places : Option (BTreeMap (List ℕ) ℕ)) (name option : List ℕ) (given : Option (List ℕ)) (change : Change) (old new : List Section) → given ≡ Some option → ArePlaced places old → changed name given change old ≡ Ok new
+    → ArePlaced places new
 follow_option places name option given change old new g h e = option_placed places name option change old new h (ap (λ (z : Option (List ℕ)). changed name z change old) (sym g) ∙ e)
 
-pub follow_kind : (places result : Option (BTreeMap (List ℕ) ℕ)) (name kind : List ℕ) (given : Option (List ℕ)) (change : Change) (old new : List Section) (before : ℕ) → given ≡ None → change ≡ Set kind → IfNoted places result name before → ArePlaced places old → changed name given change old ≡ Ok new → before ≡ length old → ArePlaced result new
+pub follow_kind : (places result : Option (BTreeMap (List ℕ) ℕ)) (name kind : List ℕ) (given : Option (List ℕ)) (change : Change) (old new : List Section) (before : ℕ) → given ≡ None → change ≡ Set kind → IfNoted places result name before
+    → ArePlaced places old → changed name given change old ≡ Ok new → before ≡ length old → ArePlaced result new
 follow_kind places result name kind given change old new before g s n h e b =
     known_placed places result name old new before h n b (kind_comes name kind old new (ap (λ (z : Change). changed name None z old) (sym s) ∙ ap (λ (z : Option (List ℕ)). changed name z change old) (sym g) ∙ e))
 
-pub follow_added : (places result : Option (BTreeMap (List ℕ) ℕ)) (name kind : List ℕ) (given : Option (List ℕ)) (change : Change) (old new : List Section) (before : ℕ) → given ≡ None → change ≡ Add kind → IfNoted places result name before → ArePlaced places old → changed name given change old ≡ Ok new → before ≡ length old → ArePlaced result new
+pub follow_added : (places result : Option (BTreeMap (List ℕ) ℕ)) (name kind : List ℕ) (given : Option (List ℕ)) (change : Change) (old new : List Section) (before : ℕ) → given ≡ None → change ≡ Add kind → IfNoted places result name before
+    → ArePlaced places old → changed name given change old ≡ Ok new → before ≡ length old → ArePlaced result new
 follow_added places result name kind given change old new before g s n h e b =
     known_placed places result name old new before h n b (anonymous_comes name kind old new (ap (λ (z : Change). changed name None z old) (sym s) ∙ ap (λ (z : Option (List ℕ)). changed name z change old) (sym g) ∙ e))
 
@@ -155,7 +163,8 @@ all_append : (tree : Package) (deltas : List Delta) (delta : Delta) → all_appl
 all_append tree [] delta = refl
 all_append tree (first ∷ deltas) delta = all_append (or_before tree (applied tree first)) deltas delta
 
-pub one_more_applied : (tree before after : Package) (deltas : List Delta) (delta d : Delta) (i : ℕ) → before ≡ all_applied tree (take i deltas) → after ≡ or_before before (applied before delta) → i < length deltas → delta ≡ get_or deltas i d → after ≡ all_applied tree (take (i + 1) deltas)
+pub one_more_applied : (tree before after : Package) (deltas : List Delta) (delta d : Delta) (i : ℕ) → before ≡ all_applied tree (take i deltas) → after ≡ or_before before (applied before delta) → i < length deltas → delta
+    ≡ get_or deltas i d → after ≡ all_applied tree (take (i + 1) deltas)
 one_more_applied tree before after deltas delta d i b a inside e =
     a
     ∙ ap (λ (z : Package). or_before z (applied z delta)) b
@@ -183,13 +192,15 @@ err_of (Err e) p = p
 abbrev package_from : List ℕ → List Section → ℕ → Package
 package_from name sections made = record { name = name; sections = sections; made = made }
 
-pub whole_done : (tree : Package) (deltas : List Delta) (taken old left given : List Section) (count : ℕ) → taken ≡ old → old ≡ tree.sections → given ≡ left → ((name : List ℕ) → package_from name left count ≡ all_applied (package_from name taken tree.made) deltas) → package_from tree.name given count ≡ all_applied tree deltas
+pub whole_done : (tree : Package) (deltas : List Delta) (taken old left given : List Section) (count : ℕ) → taken ≡ old → old ≡ tree.sections → given ≡ left
+    → ((name : List ℕ) → package_from name left count ≡ all_applied (package_from name taken tree.made) deltas) → package_from tree.name given count ≡ all_applied tree deltas
 whole_done tree deltas taken old left given count t o g h =
     ap (λ (z : List Section). package_from tree.name z count) g
     ∙ h tree.name
     ∙ ap (λ (z : List Section). all_applied (package_from tree.name z tree.made) deltas) (t ∙ o)
 
-pub whole_front : (tree : Package) (deltas : List Delta) (taken old left given : List Section) (count : ℕ) → taken ≡ old → old ≡ tree.sections → given ≡ left → ((name : List ℕ) → HasFrontApplied (package_from name taken tree.made) deltas (package_from name left count)) → HasFrontApplied tree deltas (package_from tree.name given count)
+pub whole_front : (tree : Package) (deltas : List Delta) (taken old left given : List Section) (count : ℕ) → taken ≡ old → old ≡ tree.sections → given ≡ left
+    → ((name : List ℕ) → HasFrontApplied (package_from name taken tree.made) deltas (package_from name left count)) → HasFrontApplied tree deltas (package_from tree.name given count)
 whole_front tree deltas taken old left given count t o g h =
     let f = h tree.name in
     record {

@@ -40,7 +40,8 @@ abbrev tree : Package
 tree = package_of (listed ∷ named (codes "b") (codes "y") ∷ named (codes "c") (codes "z") ∷ []) 3
 
 -- each equal item goes from a list
-each_goes : applied tree (of_option (codes "a") (codes "l") (ListDel (codes "1"))) ≡ Ok (package_of (record { name = codes "a"; anonymous = true; kind = codes "x"; options = record { name = codes "l"; value = Many (codes "2" ∷ []) } ∷ [] } ∷ named (codes "b") (codes "y") ∷ named (codes "c") (codes "z") ∷ []) 3)
+each_goes : applied tree (of_option (codes "a") (codes "l") (ListDel (codes "1")))
+    ≡ Ok (package_of (record { name = codes "a"; anonymous = true; kind = codes "x"; options = record { name = codes "l"; value = Many (codes "2" ∷ []) } ∷ [] } ∷ named (codes "b") (codes "y") ∷ named (codes "c") (codes "z") ∷ []) 3)
 each_goes = refl
 
 -- a section that moves from the first place to the second
@@ -48,7 +49,8 @@ moved : applied tree (of_section (codes "a") (Reorder (codes "1"))) ≡ Ok (pack
 moved = refl
 
 -- a new anonymous section
-added : applied tree (of_section (codes "d") (Add (codes "z"))) ≡ Ok (package_of (listed ∷ named (codes "b") (codes "y") ∷ named (codes "c") (codes "z") ∷ record { name = codes "d"; anonymous = true; kind = codes "z"; options = [] } ∷ []) 4)
+added : applied tree (of_section (codes "d") (Add (codes "z")))
+    ≡ Ok (package_of (listed ∷ named (codes "b") (codes "y") ∷ named (codes "c") (codes "z") ∷ record { name = codes "d"; anonymous = true; kind = codes "z"; options = [] } ∷ []) 4)
 added = refl
 
 -- a name that is there, a section that is not there, and the shape before both
@@ -77,14 +79,24 @@ open_to_the_end = has_parts (codes "a\nb\"c\n\\")
 
 -- a part without `.` is no delta
 no_dot : (name part : List ℕ) → HasNone 46 part → Gives name part None
-no_dot name part h = λ delta n s. not_there 46 part (sign_of (kind_of delta.change) ++ delta.package) ((delta.section ++ option_text delta.option) ++ s.value) (s.whole ∙ head_whole delta s.value ∙ append_assoc (sign_of (kind_of delta.change) ++ delta.package) (46 ∷ (delta.section ++ option_text delta.option)) s.value) h
+no_dot name part h = λ delta n s. not_there 46 part (sign_of (kind_of delta.change) ++ delta.package) ((delta.section ++ option_text delta.option) ++ s.value)
+    (s.whole ∙ head_whole delta s.value ∙ append_assoc (sign_of (kind_of delta.change) ++ delta.package) (46 ∷ (delta.section ++ option_text delta.option)) s.value) h
 
 -- a value may be any word
 any_word : SpellsDelta (codes "p.a.l=1'2'") (of_option (codes "a") (codes "l") (Set (codes "12")))
 any_word = record {
   value = codes "=1'2'";
   whole = refl;
-  spelled = (codes "1'2'", refl, record { pieces = plain (codes "1") ∷ single (codes "2") ∷ []; whole = refl; is = record { some = omega arith; each = ((omega arith, tested Plain (codes "1") refl), (tested Quotable (codes "2") refl, tt)) }; value_is = refl });
+  spelled = (
+    codes "1'2'",
+    refl,
+    record {
+      pieces = plain (codes "1") ∷ single (codes "2") ∷ [];
+      whole = refl;
+      is = record { some = omega arith; each = ((omega arith, tested Plain (codes "1") refl), (tested Quotable (codes "2") refl, tt)) };
+      value_is = refl;
+    },
+  );
   named = record { in_package = (omega arith, tested PackageName (codes "p") refl); section = (omega arith, tested Name (codes "a") refl); option = (omega arith, tested Name (codes "l") refl) };
   shape = tt;
   clean = tested NotZero (codes "p.a.l=1'2'") refl;

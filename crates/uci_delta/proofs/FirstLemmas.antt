@@ -14,7 +14,9 @@ made_cons : {X : Type 0} (y : X) (f : List X → List X) (r : Result (List X) De
 made_cons y f (Ok new) = refl
 made_cons y f (Err error) = refl
 
-becomes_step : {X : Type 0} (b : Bool) (place : Option ℕ) (y : X) (ys : List X) (i : ℕ) (x : X) (becomes : X → Result (List X) DeltaError) (rest : Result (List X) DeltaError) → ((j : ℕ) → place ≡ Some j → x ≡ get_or ys j x → rest ≡ made (with_at ys j) (becomes x)) → cond {A = Option ℕ} b (Some 0) (option_map (λ k. suc k) place) ≡ Some i → x ≡ get_or (y ∷ ys) i x → cond {A = Result (List X) DeltaError} b (made (λ new. new ++ ys) (becomes y)) (made (λ rest. y ∷ rest) rest) ≡ made (with_at (y ∷ ys) i) (becomes x)
+becomes_step : {X : Type 0} (b : Bool) (place : Option ℕ) (y : X) (ys : List X) (i : ℕ) (x : X) (becomes : X → Result (List X) DeltaError) (rest : Result (List X) DeltaError)
+    → ((j : ℕ) → place ≡ Some j → x ≡ get_or ys j x → rest ≡ made (with_at ys j) (becomes x)) → cond {A = Option ℕ} b (Some 0) (option_map (λ k. suc k) place) ≡ Some i → x ≡ get_or (y ∷ ys) i x
+    → cond {A = Result (List X) DeltaError} b (made (λ new. new ++ ys) (becomes y)) (made (λ rest. y ∷ rest) rest) ≡ made (with_at (y ∷ ys) i) (becomes x)
 becomes_step true place y ys zero x becomes rest k e g = ap (λ z. made (λ new. new ++ ys) (becomes z)) (sym g)
 becomes_step true place y ys (suc i) x becomes rest k e g = absurd (let f : Some 0 ≡ Some (suc i) = e in cc)
 becomes_step false None y ys i x becomes rest k e g = absurd (let f : ◌≡◌ {A = Option ℕ} None (Some i) = e in cc)
@@ -24,18 +26,21 @@ becomes_step false (Some j) y ys (suc i) x becomes rest k e g =
     let s : Some j ≡ Some i = cc in
     ap (made (λ rest. y ∷ rest)) (k i s g) ∙ made_cons y (with_at ys i) (becomes x)
 
-pub becomes_at : {X : Type 0} (test : X → Bool) (lack : DeltaError) (becomes : X → Result (List X) DeltaError) (xs : List X) (i : ℕ) (x : X) → position test xs ≡ Some i → x ≡ get_or xs i x → first_becomes test lack becomes xs ≡ made (with_at xs i) (becomes x)
+pub becomes_at : {X : Type 0} (test : X → Bool) (lack : DeltaError) (becomes : X → Result (List X) DeltaError) (xs : List X) (i : ℕ) (x : X) → position test xs ≡ Some i → x ≡ get_or xs i x → first_becomes test lack becomes xs
+    ≡ made (with_at xs i) (becomes x)
 becomes_at test lack becomes [] i x e g = absurd (let f : ◌≡◌ {A = Option ℕ} None (Some i) = e in cc)
 becomes_at test lack becomes (y ∷ ys) i x e g = becomes_step (test y) (position test ys) y ys i x becomes (first_becomes test lack becomes ys) (λ j s h. becomes_at test lack becomes ys j x s h) (sym (position-cons test y ys) ∙ e) g
 
-none_step : {X : Type 0} (b : Bool) (place : Option ℕ) (y : X) (lack : DeltaError) (found rest : Result (List X) DeltaError) → (place ≡ None → rest ≡ Err lack) → cond {A = Option ℕ} b (Some 0) (option_map (λ k. suc k) place) ≡ None → cond {A = Result (List X) DeltaError} b found (made (λ rest. y ∷ rest) rest) ≡ Err lack
+none_step : {X : Type 0} (b : Bool) (place : Option ℕ) (y : X) (lack : DeltaError) (found rest : Result (List X) DeltaError) → (place ≡ None → rest ≡ Err lack) → cond {A = Option ℕ} b (Some 0) (option_map (λ k. suc k) place) ≡ None
+    → cond {A = Result (List X) DeltaError} b found (made (λ rest. y ∷ rest) rest) ≡ Err lack
 none_step true place y lack found rest k e = absurd (let f : ◌≡◌ {A = Option ℕ} (Some 0) None = e in cc)
 none_step false (Some j) y lack found rest k e = absurd (let f : ◌≡◌ {A = Option ℕ} (Some (suc j)) None = e in cc)
 none_step false None y lack found rest k e = ap (made (λ rest. y ∷ rest)) (k refl)
 
 pub becomes_none : {X : Type 0} (test : X → Bool) (lack : DeltaError) (becomes : X → Result (List X) DeltaError) (xs : List X) → position test xs ≡ None → first_becomes test lack becomes xs ≡ Err lack
 becomes_none test lack becomes [] e = refl
-becomes_none test lack becomes (y ∷ ys) e = none_step (test y) (position test ys) y lack (made (λ new. new ++ ys) (becomes y)) (first_becomes test lack becomes ys) (λ s. becomes_none test lack becomes ys s) (sym (position-cons test y ys) ∙ e)
+becomes_none test lack becomes (y ∷ ys) e = none_step (test y) (position test ys) y lack (made (λ new. new ++ ys) (becomes y)) (first_becomes test lack becomes ys) (λ s. becomes_none test lack becomes ys s)
+    (sym (position-cons test y ys) ∙ e)
 
 within_step : (b : Bool) (place : Option ℕ) (n i : ℕ) → ((j : ℕ) → place ≡ Some j → j < n) → cond {A = Option ℕ} b (Some 0) (option_map (λ k. suc k) place) ≡ Some i → i < suc n
 within_step true place n i k e = let f : Some 0 ≡ Some i = e in let s : 0 ≡ i = cc in omega arith
@@ -50,7 +55,8 @@ pub place_within : {X : Type 0} (test : X → Bool) (xs : List X) (i : ℕ) → 
 place_within test [] i e = absurd (let f : ◌≡◌ {A = Option ℕ} None (Some i) = e in cc)
 place_within test (y ∷ ys) i e = within_step (test y) (position test ys) (length ys) i (λ j s. place_within test ys j s) (sym (position-cons test y ys) ∙ e)
 
-others_step : {X : Type 0} (b : Bool) (place : Option ℕ) (y : X) (ys rest : List X) (i : ℕ) → ((j : ℕ) → place ≡ Some j → rest ≡ remove ys j) → cond {A = Option ℕ} b (Some 0) (option_map (λ k. suc k) place) ≡ Some i → cond {A = List X} b ys (y ∷ rest) ≡ remove (y ∷ ys) i
+others_step : {X : Type 0} (b : Bool) (place : Option ℕ) (y : X) (ys rest : List X) (i : ℕ) → ((j : ℕ) → place ≡ Some j → rest ≡ remove ys j) → cond {A = Option ℕ} b (Some 0) (option_map (λ k. suc k) place) ≡ Some i
+    → cond {A = List X} b ys (y ∷ rest) ≡ remove (y ∷ ys) i
 others_step true place y ys rest zero k e = refl
 others_step true place y ys rest (suc i) k e = absurd (let f : Some 0 ≡ Some (suc i) = e in cc)
 others_step false None y ys rest i k e = absurd (let f : ◌≡◌ {A = Option ℕ} None (Some i) = e in cc)
@@ -64,7 +70,8 @@ pub others_at : {X : Type 0} (test : X → Bool) (xs : List X) (i : ℕ) → pos
 others_at test [] i e = absurd (let f : ◌≡◌ {A = Option ℕ} None (Some i) = e in cc)
 others_at test (y ∷ ys) i e = others_step (test y) (position test ys) y ys (others test ys) i (λ j s. others_at test ys j s) (sym (position-cons test y ys) ∙ e)
 
-alone_step : {X : Type 0} (b : Bool) (place : Option ℕ) (y : X) (ys rest : List X) (i : ℕ) (x : X) → ((j : ℕ) → place ≡ Some j → x ≡ get_or ys j x → rest ≡ x ∷ []) → cond {A = Option ℕ} b (Some 0) (option_map (λ k. suc k) place) ≡ Some i → x ≡ get_or (y ∷ ys) i x → cond {A = List X} b (y ∷ []) rest ≡ x ∷ []
+alone_step : {X : Type 0} (b : Bool) (place : Option ℕ) (y : X) (ys rest : List X) (i : ℕ) (x : X) → ((j : ℕ) → place ≡ Some j → x ≡ get_or ys j x → rest ≡ x ∷ []) → cond {A = Option ℕ} b (Some 0) (option_map (λ k. suc k) place) ≡ Some i
+    → x ≡ get_or (y ∷ ys) i x → cond {A = List X} b (y ∷ []) rest ≡ x ∷ []
 alone_step true place y ys rest zero x k e g = ap (λ z. z ∷ []) (sym g)
 alone_step true place y ys rest (suc i) x k e g = absurd (let f : Some 0 ≡ Some (suc i) = e in cc)
 alone_step false None y ys rest i x k e g = absurd (let f : ◌≡◌ {A = Option ℕ} None (Some i) = e in cc)

@@ -26,7 +26,8 @@ front_lacks : (k : Kind) (name : List ℕ) → IsNameOf PackageName name → Has
 front_lacks k name n = each-append (λ other. other ≢ 46) (sign_of k) name (sign_lacks k) (lacks PackageName 46 name refl n.1)
 
 -- the cut of a head
-pub head_cut : (name head front place : List ℕ) (k : Kind) (section : List ℕ) (option : Option (List ℕ)) → CutsAtFirst 46 head front place → IsHead name head k section option → (front ≡ sign_of k ++ name) × (place ≡ section ++ option_text option)
+pub head_cut : (name head front place : List ℕ) (k : Kind) (section : List ℕ) (option : Option (List ℕ)) → CutsAtFirst 46 head front place → IsHead name head k section option → (front ≡ sign_of k ++ name)
+    × (place ≡ section ++ option_text option)
 head_cut name head front place k section option c h = one_first 46 front place (sign_of k ++ name) (section ++ option_text option) c.first (front_lacks k name h.in_package) (sym c.whole ∙ h.whole)
 
 pub no_cut : (name head : List ℕ) (k : Kind) (section : List ℕ) (option : Option (List ℕ)) → HasNone 46 head → IsHead name head k section option → ⊥
@@ -45,7 +46,8 @@ one_place place section other (Some option) (Some name) c e n o =
 -- a sign tells its kind
 kind_at : List ℕ → Kind
 kind_at [] = kind.Set
-kind_at (b ∷ bytes) = cond {A = Kind} (nat_eq b 45) kind.Remove (cond {A = Kind} (nat_eq b 43) kind.Add (cond {A = Kind} (nat_eq b 64) kind.Rename (cond {A = Kind} (nat_eq b 94) kind.Reorder (cond {A = Kind} (nat_eq b 124) kind.ListAdd kind.ListDel))))
+kind_at (b ∷ bytes) = cond {A = Kind} (nat_eq b 45) kind.Remove
+    (cond {A = Kind} (nat_eq b 43) kind.Add (cond {A = Kind} (nat_eq b 64) kind.Rename (cond {A = Kind} (nat_eq b 94) kind.Reorder (cond {A = Kind} (nat_eq b 124) kind.ListAdd kind.ListDel))))
 
 kind_is : (k : Kind) → kind_at (sign_of k) ≡ k
 unfolding kind_at
@@ -78,12 +80,16 @@ one_head name head k l section other option another h g =
     record { kinds = one_kind name k l f.0; sections = p.0; options = p.1 }
 
 -- a head is found
-pub head_found : (name head front place section : List ℕ) (k : Kind) (option : Option (List ℕ)) → CutsAtFirst 46 head front place → front ≡ sign_of k ++ name → CutsPlace place section option → IsNameOf PackageName name → IsNameOf Name section → IsNamedOption option → KindFits k option → IsHead name head k section option
-head_found name head front place section k None c f p n s o t = record { whole = c.whole ∙ ap (λ (z : List ℕ). z ++ 46 ∷ place) f ∙ ap (λ (z : List ℕ). (sign_of k ++ name) ++ 46 ∷ z) (sym p.0 ∙ sym (append-nil section)); in_package = n; section_named = s; option_named = o; fits = t }
-head_found name head front place section k (Some option) c f p n s o t = record { whole = c.whole ∙ ap (λ (z : List ℕ). z ++ 46 ∷ place) f ∙ ap (λ (z : List ℕ). (sign_of k ++ name) ++ 46 ∷ z) p.whole; in_package = n; section_named = s; option_named = o; fits = t }
+pub head_found : (name head front place section : List ℕ) (k : Kind) (option : Option (List ℕ)) → CutsAtFirst 46 head front place → front ≡ sign_of k ++ name → CutsPlace place section option → IsNameOf PackageName name
+    → IsNameOf Name section → IsNamedOption option → KindFits k option → IsHead name head k section option
+head_found name head front place section k None c f p n s o t =
+    record { whole = c.whole ∙ ap (λ (z : List ℕ). z ++ 46 ∷ place) f ∙ ap (λ (z : List ℕ). (sign_of k ++ name) ++ 46 ∷ z) (sym p.0 ∙ sym (append-nil section)); in_package = n; section_named = s; option_named = o; fits = t }
+head_found name head front place section k (Some option) c f p n s o t =
+    record { whole = c.whole ∙ ap (λ (z : List ℕ). z ++ 46 ∷ place) f ∙ ap (λ (z : List ℕ). (sign_of k ++ name) ++ 46 ∷ z) p.whole; in_package = n; section_named = s; option_named = o; fits = t }
 
 -- a head that is none, by what its cut finds
-head_place : (name head front place found section : List ℕ) (k : Kind) (other option : Option (List ℕ)) → CutsAtFirst 46 head front place → CutsPlace place found other → IsHead name head k section option → (found ≡ section) × (other ≡ option)
+head_place : (name head front place found section : List ℕ) (k : Kind) (other option : Option (List ℕ)) → CutsAtFirst 46 head front place → CutsPlace place found other → IsHead name head k section option → (found ≡ section)
+    × (other ≡ option)
 head_place name head front place found section k other option c p h =
     let f = head_cut name head front place k section option c h in
     one_place place found section other option p f.1 h.section_named h.option_named
@@ -93,17 +99,20 @@ denied : {P : Type 0} (test : Bool) → (IsTrue test ↔ P) → test ≡ false �
 denied true h e p = let f : true ≡ false = e in absurd cc
 denied false h e p = let f : false ≡ true = h.1 p in absurd cc
 
-pub no_section : (name head front place found section : List ℕ) (k : Kind) (other option : Option (List ℕ)) (test : Bool) → CutsAtFirst 46 head front place → CutsPlace place found other → (IsTrue test ↔ IsNameOf Name found) → test ≡ false → IsHead name head k section option → ⊥
+pub no_section : (name head front place found section : List ℕ) (k : Kind) (other option : Option (List ℕ)) (test : Bool) → CutsAtFirst 46 head front place → CutsPlace place found other → (IsTrue test ↔ IsNameOf Name found) → test ≡ false
+    → IsHead name head k section option → ⊥
 no_section name head front place found section k other option test c p t e h =
     let s = head_place name head front place found section k other option c p h in
     denied test t e (subst (IsNameOf Name) (sym s.0) h.section_named)
 
-pub no_option : (name head front place found section : List ℕ) (k : Kind) (other option : Option (List ℕ)) (test : Bool) → CutsAtFirst 46 head front place → CutsPlace place found other → (IsTrue test ↔ IsNamedOption other) → test ≡ false → IsHead name head k section option → ⊥
+pub no_option : (name head front place found section : List ℕ) (k : Kind) (other option : Option (List ℕ)) (test : Bool) → CutsAtFirst 46 head front place → CutsPlace place found other → (IsTrue test ↔ IsNamedOption other) → test ≡ false
+    → IsHead name head k section option → ⊥
 no_option name head front place found section k other option test c p t e h =
     let s = head_place name head front place found section k other option c p h in
     denied test t e (subst IsNamedOption (sym s.1) h.option_named)
 
-pub no_kind : (name head front place found section : List ℕ) (k l : Kind) (other option : Option (List ℕ)) (test : Bool) → CutsAtFirst 46 head front place → front ≡ sign_of l ++ name → CutsPlace place found other → (IsTrue test ↔ KindFits l other) → test ≡ false → IsHead name head k section option → ⊥
+pub no_kind : (name head front place found section : List ℕ) (k l : Kind) (other option : Option (List ℕ)) (test : Bool) → CutsAtFirst 46 head front place → front ≡ sign_of l ++ name → CutsPlace place found other
+    → (IsTrue test ↔ KindFits l other) → test ≡ false → IsHead name head k section option → ⊥
 no_kind name head front place found section k l other option test c f p t e h =
     let s = head_place name head front place found section k other option c p h in
     let same : k ≡ l = one_kind name k l (sym (head_cut name head front place k section option c h).0 ∙ f) in

@@ -98,7 +98,8 @@ bare_removal part delta h s =
     let b = bare_value part (head_text delta) s.value (value_of delta.change) w s.spelled h in
     (removal_is delta.change b.0, w ∙ ap (λ (z : List ℕ). head_text delta ++ z) b.1 ∙ append-nil (head_text delta))
 
-valued_from : (head word front value : List ℕ) (v : Option (List ℕ)) → head ++ 61 ∷ word ≡ front ++ value → SpellsValue value v → HasNone 61 head → HasNone 61 front → (given : List ℕ) × (v ≡ Some given) × (head ≡ front) × SpellsWord word given
+valued_from : (head word front value : List ℕ) (v : Option (List ℕ)) → head ++ 61 ∷ word ≡ front ++ value → SpellsValue value v → HasNone 61 head → HasNone 61 front → (given : List ℕ) × (v ≡ Some given) × (head ≡ front)
+    × SpellsWord word given
 valued_from head word front value None w s h f =
     absurd (not_there 61 front head word (sym (w ∙ ap (λ (z : List ℕ). front ++ z) s ∙ append-nil front)) f)
 valued_from head word front value (Some v) w s h f =
@@ -150,13 +151,15 @@ no_removal (Reorder text) value v e = let f : kind.Reorder ≡ kind.Remove = e i
 no_removal (ListAdd text) value v e = let f : kind.ListAdd ≡ kind.Remove = e in absurd cc
 no_removal (ListDel text) value v e = let f : kind.ListDel ≡ kind.Remove = e in absurd cc
 
-pub no_value : (name head word section : List ℕ) (k : Kind) (option : Option (List ℕ)) (delta : Delta) → HasNone 61 head → IsHead name head k section option → k ≡ kind.Remove → delta.package ≡ name → SpellsDelta (head ++ 61 ∷ word) delta → ⊥
+pub no_value : (name head word section : List ℕ) (k : Kind) (option : Option (List ℕ)) (delta : Delta) → HasNone 61 head → IsHead name head k section option → k ≡ kind.Remove → delta.package ≡ name → SpellsDelta (head ++ 61 ∷ word) delta
+    → ⊥
 no_value name head word section k option delta h i r n s =
     let v = valued head word delta h s in
     no_removal delta.change v.value v.gives (sym (one_head name head k (kind_of delta.change) section delta.section option delta.option i (valued_head name head word delta h n s)).kinds ∙ r)
 
 -- a delta with a value is spelled so
-pub valued_spelled : (name head word value section : List ℕ) (k : Kind) (option : Option (List ℕ)) (delta : Delta) → AllIn NotZero (head ++ 61 ∷ word) → IsHead name head k section option → SpellsWord word value → kind_of delta.change ≡ k → value_of delta.change ≡ Some value → delta.package ≡ name → delta.section ≡ section → delta.option ≡ option → SpellsDelta (head ++ 61 ∷ word) delta
+pub valued_spelled : (name head word value section : List ℕ) (k : Kind) (option : Option (List ℕ)) (delta : Delta) → AllIn NotZero (head ++ 61 ∷ word) → IsHead name head k section option → SpellsWord word value → kind_of delta.change ≡ k
+    → value_of delta.change ≡ Some value → delta.package ≡ name → delta.section ≡ section → delta.option ≡ option → SpellsDelta (head ++ 61 ∷ word) delta
 valued_spelled name head word value section k option delta clean i w ke ve n se oe =
     let V : Option (List ℕ) → Type 0 = λ z. SpellsValue (61 ∷ word) z in
     let F : Kind → Type 0 = λ z. KindFits z delta.option in
@@ -224,6 +227,7 @@ one_end front other value another (Some v) (Some w) e h g s t =
 
 pub one_delta : (part : List ℕ) (a b : Delta) → a.package ≡ b.package → SpellsDelta part a → SpellsDelta part b → a ≡ b
 one_delta part a b n s t =
-    let e = one_end (head_text a) (head_text b) s.value t.value (value_of a.change) (value_of b.change) (sym (s.whole ∙ head_whole a s.value) ∙ t.whole ∙ head_whole b t.value) (text_lacks part a s) (text_lacks part b t) s.spelled t.spelled in
+    let e = one_end (head_text a) (head_text b) s.value t.value (value_of a.change) (value_of b.change) (sym (s.whole ∙ head_whole a s.value) ∙ t.whole ∙ head_whole b t.value) (text_lacks part a s) (text_lacks part b t) s.spelled t.spelled
+    in
     let G : List ℕ → Type 0 = λ z. IsHead a.package z (kind_of a.change) a.section a.option in
     same_delta a b n (one_head b.package (head_text b) (kind_of a.change) (kind_of b.change) a.section b.section a.option b.option (head_at b.package (head_text b) part a n (sym e.0) s) (delta_head part b t)) e.1

@@ -22,7 +22,8 @@ use Rattle.uci_delta.proofs.FirstLemmas.{with_at, becomes_at, becomes_none, plac
 abbrev pub renewed : (Option Value → Value) → Opt → Opt
 renewed change option = record option { value = change (Some option.value) }
 
-put_step : (b : Bool) (place : Option ℕ) (change : Option Value → Value) (y : Opt) (ys rest : List Opt) (i : ℕ) (x : Opt) → ((j : ℕ) → place ≡ Some j → x ≡ get_or ys j x → rest ≡ with_at ys j (renewed change x ∷ [])) → cond {A = Option ℕ} b (Some 0) (option_map (λ k. suc k) place) ≡ Some i → x ≡ get_or (y ∷ ys) i x → cond {A = List Opt} b (renewed change y ∷ ys) (y ∷ rest) ≡ with_at (y ∷ ys) i (renewed change x ∷ [])
+put_step : (b : Bool) (place : Option ℕ) (change : Option Value → Value) (y : Opt) (ys rest : List Opt) (i : ℕ) (x : Opt) → ((j : ℕ) → place ≡ Some j → x ≡ get_or ys j x → rest ≡ with_at ys j (renewed change x ∷ []))
+    → cond {A = Option ℕ} b (Some 0) (option_map (λ k. suc k) place) ≡ Some i → x ≡ get_or (y ∷ ys) i x → cond {A = List Opt} b (renewed change y ∷ ys) (y ∷ rest) ≡ with_at (y ∷ ys) i (renewed change x ∷ [])
 put_step true place change y ys rest zero x k e g = ap (λ (z : Opt). renewed change z ∷ ys) (sym g)
 put_step true place change y ys rest (suc i) x k e g = absurd (let f : Some 0 ≡ Some (suc i) = e in cc)
 put_step false None change y ys rest i x k e g = absurd (let f : ◌≡◌ {A = Option ℕ} None (Some i) = e in cc)
@@ -36,16 +37,19 @@ pub put_at : (name : List ℕ) (change : Option Value → Value) (options : List
 put_at name change [] i x e g = absurd (let f : ◌≡◌ {A = Option ℕ} None (Some i) = e in cc)
 put_at name change (y ∷ ys) i x e g = put_step (is_option name y) (position (is_option name) ys) change y ys (put name change ys) i x (λ j s h. put_at name change ys j x s h) (sym (position-cons (is_option name) y ys) ∙ e) g
 
-end_step : (b : Bool) (place : Option ℕ) (new y y2 : Opt) (ys rest : List Opt) → (place ≡ None → rest ≡ ys ++ new ∷ []) → cond {A = Option ℕ} b (Some 0) (option_map (λ k. suc k) place) ≡ None → cond {A = List Opt} b (y2 ∷ ys) (y ∷ rest) ≡ y ∷ ys ++ new ∷ []
+end_step : (b : Bool) (place : Option ℕ) (new y y2 : Opt) (ys rest : List Opt) → (place ≡ None → rest ≡ ys ++ new ∷ []) → cond {A = Option ℕ} b (Some 0) (option_map (λ k. suc k) place) ≡ None → cond {A = List Opt} b (y2 ∷ ys) (y ∷ rest) ≡ y
+    ∷ ys ++ new ∷ []
 end_step true place new y y2 ys rest k e = absurd (let f : ◌≡◌ {A = Option ℕ} (Some 0) None = e in cc)
 end_step false (Some j) new y y2 ys rest k e = absurd (let f : ◌≡◌ {A = Option ℕ} (Some (suc j)) None = e in cc)
 end_step false None new y y2 ys rest k e = ap (λ (z : List Opt). y ∷ z) (k refl)
 
 pub put_none : (name : List ℕ) (change : Option Value → Value) (options : List Opt) → option_place options name ≡ None → put name change options ≡ options ++ record { name = name; value = change None } ∷ []
 put_none name change [] e = refl
-put_none name change (y ∷ ys) e = end_step (is_option name y) (position (is_option name) ys) (record { name = name; value = change None }) y (renewed change y) ys (put name change ys) (λ s. put_none name change ys s) (sym (position-cons (is_option name) y ys) ∙ e)
+put_none name change (y ∷ ys) e = end_step (is_option name y) (position (is_option name) ys) (record { name = name; value = change None }) y (renewed change y) ys (put name change ys) (λ s. put_none name change ys s)
+    (sym (position-cons (is_option name) y ys) ∙ e)
 
-without_step : (b : Bool) (place : Option ℕ) (y : Opt) (ys rest : List Opt) (i : ℕ) → ((j : ℕ) → place ≡ Some j → rest ≡ remove ys j) → cond {A = Option ℕ} b (Some 0) (option_map (λ k. suc k) place) ≡ Some i → cond {A = List Opt} b ys (y ∷ rest) ≡ remove (y ∷ ys) i
+without_step : (b : Bool) (place : Option ℕ) (y : Opt) (ys rest : List Opt) (i : ℕ) → ((j : ℕ) → place ≡ Some j → rest ≡ remove ys j) → cond {A = Option ℕ} b (Some 0) (option_map (λ k. suc k) place) ≡ Some i
+    → cond {A = List Opt} b ys (y ∷ rest) ≡ remove (y ∷ ys) i
 without_step true place y ys rest zero k e = refl
 without_step true place y ys rest (suc i) k e = absurd (let f : Some 0 ≡ Some (suc i) = e in cc)
 without_step false None y ys rest i k e = absurd (let f : ◌≡◌ {A = Option ℕ} None (Some i) = e in cc)
@@ -72,13 +76,15 @@ without_none name (y ∷ ys) e = same_step (is_option name y) (position (is_opti
 pub option_found : (xs options : List Opt) (bytes name : List ℕ) (result answer : Option ℕ) → result ≡ option_place xs bytes → xs ≡ options → bytes ≡ name → result ≡ answer → option_place options name ≡ answer
 option_found xs options bytes name result answer h a b e = ap (λ (z : List Opt). option_place z name) (sym a) ∙ ap (option_place xs) (sym b) ∙ sym h ∙ e
 
-pub put_written : (name : List ℕ) (change : Option Value → Value) (options : List Opt) (i : ℕ) (x : Opt) (value : Value) → option_place options name ≡ Some i → x ≡ get_or options i x → value ≡ change (Some x.value) → set options i (record { name = x.name; value = value }) ≡ put name change options
+pub put_written : (name : List ℕ) (change : Option Value → Value) (options : List Opt) (i : ℕ) (x : Opt) (value : Value) → option_place options name ≡ Some i → x ≡ get_or options i x → value ≡ change (Some x.value)
+    → set options i (record { name = x.name; value = value }) ≡ put name change options
 put_written name change options i x value e g v =
     ap (λ (z : Value). set options i (record { name = x.name; value = z })) v
     ∙ set_is options i (renewed change x) (place_within (is_option name) options i e)
     ∙ sym (put_at name change options i x e g)
 
-pub put_pushed : (name other : List ℕ) (change : Option Value → Value) (options new : List Opt) (value : Value) → option_place options name ≡ None → other ≡ name → value ≡ change None → new ≡ options ++ record { name = other; value = value } ∷ [] → new ≡ put name change options
+pub put_pushed : (name other : List ℕ) (change : Option Value → Value) (options new : List Opt) (value : Value) → option_place options name ≡ None → other ≡ name → value ≡ change None → new ≡ options
+    ++ record { name = other; value = value } ∷ [] → new ≡ put name change options
 put_pushed name other change options new value e n v w =
     w
     ∙ ap (λ (z : List ℕ). options ++ record { name = z; value = value } ∷ []) n
@@ -108,7 +114,8 @@ renamed_duplicate name new options i k e n d =
     ∙ ap (λ (t : Bool). made (with_at options i) (cond {A = Result (List Opt) DeltaError} (not t) (Err Invalid) (cond {A = Result (List Opt) DeltaError} (has_option new options) (Err Duplicate) (Ok (record x { name = new } ∷ []))))) n
     ∙ ap (λ (t : Bool). made (with_at options i) (cond {A = Result (List Opt) DeltaError} t (Err Duplicate) (Ok (record x { name = new } ∷ [])))) (is_there (option_place options new) k d)
 
-pub renamed_done : (name new other : List ℕ) (options : List Opt) (i : ℕ) (x : Opt) → option_place options name ≡ Some i → x ≡ get_or options i x → is_name_of Name new ≡ true → option_place options new ≡ None → other ≡ new → option_renamed name new options ≡ Ok (set options i (record { name = other; value = x.value }))
+pub renamed_done : (name new other : List ℕ) (options : List Opt) (i : ℕ) (x : Opt) → option_place options name ≡ Some i → x ≡ get_or options i x → is_name_of Name new ≡ true → option_place options new ≡ None → other ≡ new
+    → option_renamed name new options ≡ Ok (set options i (record { name = other; value = x.value }))
 renamed_done name new other options i x e g n d o =
     renamed_at name new options i x e g
     ∙ ap (λ (t : Bool). made (with_at options i) (cond {A = Result (List Opt) DeltaError} (not t) (Err Invalid) (cond {A = Result (List Opt) DeltaError} (has_option new options) (Err Duplicate) (Ok (record x { name = new } ∷ []))))) n
@@ -119,7 +126,8 @@ renamed_done name new other options i x e g n d o =
 valid_item : (name item : List ℕ) (valid : Bool) (answer : Result (List Opt) DeltaError) → valid ≡ (is_name_of Name name && is_value item) → valid ≡ true → where_valid name item answer ≡ answer
 valid_item name item valid answer v t = ap (λ (z : Bool). cond {A = Result (List Opt) DeltaError} z answer (Err Invalid)) (sym v ∙ t)
 
-pub item_gone : (name item : List ℕ) (options new : List Opt) (i : ℕ) (x y : Opt) (valid : Bool) → valid ≡ (is_name_of Name name && is_value item) → valid ≡ true → option_place options name ≡ Some i → x ≡ get_or options i x → left_of item x.value ≡ None → new ≡ remove (set options i y) i → where_valid name item (without_item name item options) ≡ Ok new
+pub item_gone : (name item : List ℕ) (options new : List Opt) (i : ℕ) (x y : Opt) (valid : Bool) → valid ≡ (is_name_of Name name && is_value item) → valid ≡ true → option_place options name ≡ Some i → x ≡ get_or options i x
+    → left_of item x.value ≡ None → new ≡ remove (set options i y) i → where_valid name item (without_item name item options) ≡ Ok new
 item_gone name item options new i x y valid v t e g l w =
     valid_item name item valid (without_item name item options) v t
     ∙ ap (λ (z : Bool). cond {A = Result (List Opt) DeltaError} z (first_becomes (is_option name) NotFound (λ option. Ok (with_left option (left_of item option.value))) options) (Ok options)) (is_there (option_place options name) i e)
@@ -127,7 +135,8 @@ item_gone name item options new i x y valid v t e g l w =
     ∙ ap (λ (z : Option Value). made (with_at options i) (Ok (with_left x z))) l
     ∙ ap (λ (z : List Opt). Ok z) (sym (w ∙ remove_set options i y))
 
-pub item_left : (name item : List ℕ) (options : List Opt) (i : ℕ) (x : Opt) (value : Value) (valid : Bool) → valid ≡ (is_name_of Name name && is_value item) → valid ≡ true → option_place options name ≡ Some i → x ≡ get_or options i x → left_of item x.value ≡ Some value → where_valid name item (without_item name item options) ≡ Ok (set options i (record { name = x.name; value = value }))
+pub item_left : (name item : List ℕ) (options : List Opt) (i : ℕ) (x : Opt) (value : Value) (valid : Bool) → valid ≡ (is_name_of Name name && is_value item) → valid ≡ true → option_place options name ≡ Some i → x ≡ get_or options i x
+    → left_of item x.value ≡ Some value → where_valid name item (without_item name item options) ≡ Ok (set options i (record { name = x.name; value = value }))
 item_left name item options i x value valid v t e g l =
     valid_item name item valid (without_item name item options) v t
     ∙ ap (λ (z : Bool). cond {A = Result (List Opt) DeltaError} z (first_becomes (is_option name) NotFound (λ option. Ok (with_left option (left_of item option.value))) options) (Ok options)) (is_there (option_place options name) i e)

@@ -47,7 +47,8 @@ some_cond false a b s u = u
 
 pub some_parts : (quoting : Quoting) (text : List ℕ) → SomeParts (parts_from quoting text)
 some_parts quoting [] = record { part = []; more = []; are = refl }
-some_parts quoting (byte ∷ text) = some_cond (is_cut quoting byte) ([] ∷ parts_from Bare text) (with_bytes (byte ∷ []) (parts_from (behind quoting byte) text)) (record { part = []; more = parts_from Bare text; are = refl }) (some_with (byte ∷ []) (parts_from (behind quoting byte) text))
+some_parts quoting (byte ∷ text) = some_cond (is_cut quoting byte) ([] ∷ parts_from Bare text) (with_bytes (byte ∷ []) (parts_from (behind quoting byte) text)) (record { part = []; more = parts_from Bare text; are = refl })
+    (some_with (byte ∷ []) (parts_from (behind quoting byte) text))
 
 none_in_front : (all : List (List ℕ)) → SomeParts all → with_bytes [] all ≡ all
 none_in_front all s = ap (with_bytes []) s.are ∙ sym s.are
@@ -142,7 +143,8 @@ inners_on (part ∷ inner) bytes h =
     ∙ twice (inner_text part) (flat_map inner_text inner) (parts_from Double bytes)
 
 -- between quotes
-quoted_on : (quote : ℕ) (text bytes : List ℕ) (within : Quoting) → behind Bare quote ≡ within → behind within quote ≡ Bare → is_cut Bare quote ≡ false → is_cut within quote ≡ false → ((more : List ℕ) → parts_from within (text ++ more) ≡ with_bytes text (parts_from within more)) → parts_from Bare ((quote ∷ text ++ quote ∷ []) ++ bytes) ≡ with_bytes (quote ∷ text ++ quote ∷ []) (parts_from Bare bytes)
+quoted_on : (quote : ℕ) (text bytes : List ℕ) (within : Quoting) → behind Bare quote ≡ within → behind within quote ≡ Bare → is_cut Bare quote ≡ false → is_cut within quote ≡ false
+    → ((more : List ℕ) → parts_from within (text ++ more) ≡ with_bytes text (parts_from within more)) → parts_from Bare ((quote ∷ text ++ quote ∷ []) ++ bytes) ≡ with_bytes (quote ∷ text ++ quote ∷ []) (parts_from Bare bytes)
 quoted_on quote text bytes within opens closes c d on =
     ap (λ (z : List ℕ). parts_from Bare (quote ∷ z)) (append_assoc text (quote ∷ []) bytes)
     ∙ byte_on Bare quote (text ++ quote ∷ bytes) c
@@ -197,7 +199,8 @@ data FromSingle (bytes : List ℕ) (all : List (List ℕ)) : Type 0 where
   single_stays : AllIn Quotable bytes → all ≡ bytes ∷ [] → FromSingle bytes all
 
 data FromDouble (bytes : List ℕ) (all : List (List ℕ)) : Type 0 where
-  double_ends : (inner : List Inner) (rest part : List ℕ) (more : List (List ℕ)) → bytes ≡ flat_map inner_text inner ++ 34 ∷ rest → AllByRecursion IsInner inner → AreParts rest (part ∷ more) → all ≡ (flat_map inner_text inner ++ 34 ∷ part) ∷ more → FromDouble bytes all
+  double_ends : (inner : List Inner) (rest part : List ℕ) (more : List (List ℕ)) → bytes ≡ flat_map inner_text inner ++ 34 ∷ rest → AllByRecursion IsInner inner → AreParts rest (part ∷ more) → all ≡ (flat_map inner_text inner ++ 34 ∷ part)
+      ∷ more → FromDouble bytes all
   double_stays : (inner : List Inner) → bytes ≡ flat_map inner_text inner → AllByRecursion IsInner inner → all ≡ bytes ∷ [] → FromDouble bytes all
   double_halves : (inner : List Inner) → bytes ≡ flat_map inner_text inner ++ 92 ∷ [] → AllByRecursion IsInner inner → all ≡ bytes ∷ [] → FromDouble bytes all
 
@@ -260,7 +263,9 @@ other_uncut false b e n q =
     let p : is_in Plain b ≡ true = ap (λ (s : Bool). not (s || is_quoting b)) e ∙ ap not q in
     in_word (plain (b ∷ [])) (omega arith, (p, tt)) refl
 
-bare_from : (n x y z : Bool) (b : ℕ) (bytes : List ℕ) → nat_eq b 10 ≡ n → nat_eq b 39 ≡ x → nat_eq b 34 ≡ y → nat_eq b 92 ≡ z → AreParts bytes (parts_from Bare bytes) → From (cond {A = Quoting} x Single (cond {A = Quoting} y Double (cond {A = Quoting} z BarePair Bare))) bytes (parts_from (cond {A = Quoting} x Single (cond {A = Quoting} y Double (cond {A = Quoting} z BarePair Bare))) bytes) → AreParts (b ∷ bytes) (cond {A = List (List ℕ)} n ([] ∷ parts_from Bare bytes) (with_bytes (b ∷ []) (parts_from (cond {A = Quoting} x Single (cond {A = Quoting} y Double (cond {A = Quoting} z BarePair Bare))) bytes)))
+bare_from : (n x y z : Bool) (b : ℕ) (bytes : List ℕ) → nat_eq b 10 ≡ n → nat_eq b 39 ≡ x → nat_eq b 34 ≡ y → nat_eq b 92 ≡ z → AreParts bytes (parts_from Bare bytes)
+    → From (cond {A = Quoting} x Single (cond {A = Quoting} y Double (cond {A = Quoting} z BarePair Bare))) bytes (parts_from (cond {A = Quoting} x Single (cond {A = Quoting} y Double (cond {A = Quoting} z BarePair Bare))) bytes)
+    → AreParts (b ∷ bytes) (cond {A = List (List ℕ)} n ([] ∷ parts_from Bare bytes) (with_bytes (b ∷ []) (parts_from (cond {A = Quoting} x Single (cond {A = Quoting} y Double (cond {A = Quoting} z BarePair Bare))) bytes)))
 bare_from true x y z b bytes n e f g h r = at_newline (b ∷ bytes) bytes ([] ∷ parts_from Bare bytes) (parts_from Bare bytes) (ap (λ (z : ℕ). z ∷ bytes) (is_byte b 10 n)) h refl
 bare_from false true y z b bytes n e f g h r = single_opens b bytes (parts_from Single bytes) e r
 bare_from false false true z b bytes n e f g h r = double_opens b bytes (parts_from Double bytes) f r
@@ -270,7 +275,8 @@ bare_from false false false false b bytes n e f g h r =
     let s : SomeParts (parts_from Bare bytes) = some_parts Bare bytes in
     goes_on (b ∷ bytes) (b ∷ []) bytes s.part (with_bytes (b ∷ []) (parts_from Bare bytes)) s.more refl (other_uncut (ends_word b) b refl n q) (subst (AreParts bytes) s.are h) (ap (with_bytes (b ∷ [])) s.are)
 
-single_from : (x : Bool) (b : ℕ) (bytes : List ℕ) → nat_eq b 39 ≡ x → From (cond {A = Quoting} x Bare Single) bytes (parts_from (cond {A = Quoting} x Bare Single) bytes) → FromSingle (b ∷ bytes) (with_bytes (b ∷ []) (parts_from (cond {A = Quoting} x Bare Single) bytes))
+single_from : (x : Bool) (b : ℕ) (bytes : List ℕ) → nat_eq b 39 ≡ x → From (cond {A = Quoting} x Bare Single) bytes (parts_from (cond {A = Quoting} x Bare Single) bytes)
+    → FromSingle (b ∷ bytes) (with_bytes (b ∷ []) (parts_from (cond {A = Quoting} x Bare Single) bytes))
 single_from true b bytes e r =
     let s : SomeParts (parts_from Bare bytes) = some_parts Bare bytes in
     let l = led_by b 39 bytes (parts_from Bare bytes) e in
@@ -295,7 +301,9 @@ inner_led part front bytes all f i (double_halves inner w q p) =
     (ap (λ (z : List ℕ). z ++ bytes) f ∙ ap (λ (z : List ℕ). inner_text part ++ z) w ∙ sym (append_assoc (inner_text part) (flat_map inner_text inner) (92 ∷ [])))
     (i, q) (ap (with_bytes front) p)
 
-double_from : (x y : Bool) (b : ℕ) (bytes : List ℕ) → nat_eq b 34 ≡ x → nat_eq b 92 ≡ y → From (cond {A = Quoting} x Bare (cond {A = Quoting} y DoublePair Double)) bytes (parts_from (cond {A = Quoting} x Bare (cond {A = Quoting} y DoublePair Double)) bytes) → FromDouble (b ∷ bytes) (with_bytes (b ∷ []) (parts_from (cond {A = Quoting} x Bare (cond {A = Quoting} y DoublePair Double)) bytes))
+double_from : (x y : Bool) (b : ℕ) (bytes : List ℕ) → nat_eq b 34 ≡ x → nat_eq b 92 ≡ y
+    → From (cond {A = Quoting} x Bare (cond {A = Quoting} y DoublePair Double)) bytes (parts_from (cond {A = Quoting} x Bare (cond {A = Quoting} y DoublePair Double)) bytes)
+    → FromDouble (b ∷ bytes) (with_bytes (b ∷ []) (parts_from (cond {A = Quoting} x Bare (cond {A = Quoting} y DoublePair Double)) bytes))
 double_from true y b bytes e f r =
     let s : SomeParts (parts_from Bare bytes) = some_parts Bare bytes in
     let l = led_by b 34 bytes (parts_from Bare bytes) e in
@@ -331,7 +339,8 @@ has_parts text = parts_tell Bare text
 pub part_begins : (text : List ℕ) → parts text ≡ with_bytes [] (parts text)
 part_begins text = sym (none_in_front (parts text) (some_parts Bare text))
 
-pub part_goes_on : (text front rest next : List ℕ) (quoting : Quoting) (byte : ℕ) → parts text ≡ with_bytes front (parts_from quoting rest) → rest ≡ byte ∷ next → is_cut quoting byte ≡ false → parts text ≡ with_bytes (front ++ byte ∷ []) (parts_from (behind quoting byte) next)
+pub part_goes_on : (text front rest next : List ℕ) (quoting : Quoting) (byte : ℕ) → parts text ≡ with_bytes front (parts_from quoting rest) → rest ≡ byte ∷ next → is_cut quoting byte ≡ false → parts text
+    ≡ with_bytes (front ++ byte ∷ []) (parts_from (behind quoting byte) next)
 part_goes_on text front rest next quoting byte h r c =
     h
     ∙ ap (λ (z : List ℕ). with_bytes front (parts_from quoting z)) r
@@ -361,7 +370,8 @@ part_is_cut text front rest next quoting byte h r c w =
       parts = λ more m. subst (AreParts text) (all ∙ ap (λ (z : List (List ℕ)). front ∷ z) (sym (parts_are next more m))) (has_parts text);
     }
 
-pub cut_here : (text : List ℕ) (at : ℕ) (quoting : Quoting) (test : Bool) → parts text ≡ with_bytes (take at text) (parts_from quoting (drop at text)) → at < length text → test ≡ is_cut quoting (get_or text at 0) → test ≡ true → IsCut text (take at text) (take (length text - (at + 1)) (drop (at + 1) text))
+pub cut_here : (text : List ℕ) (at : ℕ) (quoting : Quoting) (test : Bool) → parts text ≡ with_bytes (take at text) (parts_from quoting (drop at text)) → at < length text → test ≡ is_cut quoting (get_or text at 0) → test ≡ true
+    → IsCut text (take at text) (take (length text - (at + 1)) (drop (at + 1) text))
 cut_here text at quoting test h inside t e =
     let n : at + 1 ≡ suc at = omega arith in
     let back : take (length text - (at + 1)) (drop (at + 1) text) ≡ drop (suc at) text = take_rest text (at + 1) ∙ ap (λ (z : ℕ). drop z text) n in

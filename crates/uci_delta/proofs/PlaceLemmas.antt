@@ -34,7 +34,10 @@ digits_pass (b ∷ text) h = both (nat_lt (digit_value b) 10) (list_all (λ byte
 
 digits_from : (text : List ℕ) → list_all (λ byte. nat_lt (digit_value byte) 10) text ≡ true → AllDigits 10 text
 digits_from [] e = tt
-digits_from (b ∷ text) e = (digit_from b (first_true (nat_lt (digit_value b) 10) (list_all (λ byte. nat_lt (digit_value byte) 10) text) e), digits_from text (second_true (nat_lt (digit_value b) 10) (list_all (λ byte. nat_lt (digit_value byte) 10) text) e))
+digits_from (b ∷ text) e = (
+  digit_from b (first_true (nat_lt (digit_value b) 10) (list_all (λ byte. nat_lt (digit_value byte) 10) text) e),
+  digits_from text (second_true (nat_lt (digit_value b) 10) (list_all (λ byte. nat_lt (digit_value byte) 10) text) e),
+)
 
 -- digits of a number of 32 bits
 abbrev pub IsPlace : List ℕ → Type 0
@@ -51,8 +54,11 @@ place_passes text h =
 
 place_from : (text : List ℕ) → tests text ≡ true → IsPlace text
 place_from text e =
-    let d : are_digits text ≡ true = first_true (are_digits text) (nat_lt (digits_value 10 text) (2 ^ 32)) e in
-    (digits_from text (second_true (not (nat_eq (length text) 0)) (list_all (λ byte. nat_lt (digit_value byte) 10) text) d), some_from text (first_true (not (nat_eq (length text) 0)) (list_all (λ byte. nat_lt (digit_value byte) 10) text) d), small_from (digits_value 10 text) (second_true (are_digits text) (nat_lt (digits_value 10 text) (2 ^ 32)) e))
+    let d : are_digits text ≡ true = first_true (are_digits text) (nat_lt (digits_value 10 text) (2 ^ 32)) e in (
+      digits_from text (second_true (not (nat_eq (length text) 0)) (list_all (λ byte. nat_lt (digit_value byte) 10) text) d),
+      some_from text (first_true (not (nat_eq (length text) 0)) (list_all (λ byte. nat_lt (digit_value byte) 10) text) d),
+      small_from (digits_value 10 text) (second_true (are_digits text) (nat_lt (digits_value 10 text) (2 ^ 32)) e),
+    )
 
 pub no_place : (text : List ℕ) → (IsPlace text → ⊥) → ◌≡◌ {A = Option ℕ} None (place_of text)
 no_place text n = go (tests text) refl
@@ -89,7 +95,8 @@ parsed_place digits text r n b same p s f o =
     let P : List ℕ → Type 0 = λ z. Some n ≡ place_of z in
     subst P same (some_place text n g.0 g.1)
 
-pub unparsed_place : {E : Type 0} (digits text : List ℕ) (r : Result ℕ E) (error : E) (b : Bool) → text ≡ digits → ParsesUnsigned 32 10 text r → b ≡ starts_with nat_eq digits (43 ∷ []) → b ≡ false → r ≡ Err error → ◌≡◌ {A = Option ℕ} None (place_of digits)
+pub unparsed_place : {E : Type 0} (digits text : List ℕ) (r : Result ℕ E) (error : E) (b : Bool) → text ≡ digits → ParsesUnsigned 32 10 text r → b ≡ starts_with nat_eq digits (43 ∷ []) → b ≡ false → r ≡ Err error
+    → ◌≡◌ {A = Option ℕ} None (place_of digits)
 unparsed_place digits text r error b same p s f o =
     let plus : get_or text 0 0 ≢ 43 = no_plus text b (s ∙ ap (λ (z : List ℕ). starts_with nat_eq z (43 ∷ [])) (sym same)) f in
     let g = OkIff-at_err r _ _ error (parse_plain own 32 text r p plus) o in

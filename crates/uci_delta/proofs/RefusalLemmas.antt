@@ -51,7 +51,8 @@ options_settled name (Rename new) options =
     first_settled (is_option name) NotFound
     (λ option. cond {A = Result (List Opt) DeltaError} (not (is_name_of Name new)) (Err Invalid) (cond {A = Result (List Opt) DeltaError} (has_option new options) (Err Duplicate) (Ok (record option { name = new } ∷ []))))
     options tt
-    (λ option. either (not (is_name_of Name new)) (Err Invalid) (cond {A = Result (List Opt) DeltaError} (has_option new options) (Err Duplicate) (Ok (record option { name = new } ∷ []))) tt (either (has_option new options) (Err Duplicate) (Ok (record option { name = new } ∷ [])) tt tt))
+    (λ option. either (not (is_name_of Name new)) (Err Invalid) (cond {A = Result (List Opt) DeltaError} (has_option new options) (Err Duplicate) (Ok (record option { name = new } ∷ []))) tt
+    (either (has_option new options) (Err Duplicate) (Ok (record option { name = new } ∷ [])) tt tt))
 options_settled name (Reorder place) options = tt
 options_settled name (ListAdd item) options = either (is_name_of Name name && is_value item) (Ok (with_item name item options)) (Err Invalid) tt tt
 options_settled name (ListDel item) options =
@@ -77,9 +78,11 @@ sections_settled name (Add kind) sections =
     tt
 sections_settled name (Rename new) sections =
     first_settled (is_section name) NotFound
-    (λ section. cond {A = Result (List Section) DeltaError} (not (is_name_of Name new)) (Err Invalid) (cond {A = Result (List Section) DeltaError} (has_section new sections) (Err Duplicate) (Ok (record section { name = new; anonymous = false } ∷ []))))
+    (λ section. cond {A = Result (List Section) DeltaError} (not (is_name_of Name new)) (Err Invalid)
+    (cond {A = Result (List Section) DeltaError} (has_section new sections) (Err Duplicate) (Ok (record section { name = new; anonymous = false } ∷ []))))
     sections tt
-    (λ section. either (not (is_name_of Name new)) (Err Invalid) (cond {A = Result (List Section) DeltaError} (has_section new sections) (Err Duplicate) (Ok (record section { name = new; anonymous = false } ∷ []))) tt (either (has_section new sections) (Err Duplicate) (Ok (record section { name = new; anonymous = false } ∷ [])) tt tt))
+    (λ section. either (not (is_name_of Name new)) (Err Invalid) (cond {A = Result (List Section) DeltaError} (has_section new sections) (Err Duplicate) (Ok (record section { name = new; anonymous = false } ∷ []))) tt
+    (either (has_section new sections) (Err Duplicate) (Ok (record section { name = new; anonymous = false } ∷ [])) tt tt))
 sections_settled name (Reorder place) sections =
     either (has_section name sections) (put_at (place_of place) (first_alone (is_section name) sections) (others (is_section name) sections)) (Err NotFound)
     (put_settled (place_of place) (first_alone (is_section name) sections) (others (is_section name) sections)) tt

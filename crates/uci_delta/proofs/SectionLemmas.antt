@@ -31,16 +31,20 @@ removed_done name sections new i e w =
     ∙ ap (λ (z : List Section). Ok z) (sym w)
 
 -- a type
-pub kind_set : (name kind other : List ℕ) (sections : List Section) (i : ℕ) (x : Section) (named : Bool) → named ≡ are_named name kind → named ≡ true → named_place sections name ≡ Some i → x ≡ get_or sections i x → other ≡ kind → where_named name kind (with_kind name kind sections) ≡ Ok (set sections i (record { name = x.name; anonymous = x.anonymous; kind = other; options = x.options }))
+pub kind_set : (name kind other : List ℕ) (sections : List Section) (i : ℕ) (x : Section) (named : Bool) → named ≡ are_named name kind → named ≡ true → named_place sections name ≡ Some i → x ≡ get_or sections i x → other ≡ kind
+    → where_named name kind (with_kind name kind sections) ≡ Ok (set sections i (record { name = x.name; anonymous = x.anonymous; kind = other; options = x.options }))
 kind_set name kind other sections i x named n t e g o =
     ap (λ (z : Bool). cond {A = Result (List Section) DeltaError} z (with_kind name kind sections) (Err Invalid)) (sym n ∙ t)
-    ∙ ap (λ (z : Bool). cond {A = Result (List Section) DeltaError} z (first_becomes (is_section name) Invalid (λ section. Ok (record section { kind = kind } ∷ [])) sections) (Ok (with_new name false kind sections))) (is_there (named_place sections name) i e)
+    ∙ ap (λ (z : Bool). cond {A = Result (List Section) DeltaError} z (first_becomes (is_section name) Invalid (λ section. Ok (record section { kind = kind } ∷ [])) sections) (Ok (with_new name false kind sections)))
+    (is_there (named_place sections name) i e)
     ∙ becomes_at (is_section name) Invalid (λ section. Ok (record section { kind = kind } ∷ [])) sections i x e g
-    ∙ ap (λ (z : List Section). Ok z) (sym (set_is sections i (record x { kind = kind }) (place_within (is_section name) sections i e)) ∙ ap (λ (z : List ℕ). set sections i (record { name = x.name; anonymous = x.anonymous; kind = z; options = x.options })) (sym o))
+    ∙ ap (λ (z : List Section). Ok z) (sym (set_is sections i (record x { kind = kind }) (place_within (is_section name) sections i e))
+    ∙ ap (λ (z : List ℕ). set sections i (record { name = x.name; anonymous = x.anonymous; kind = z; options = x.options })) (sym o))
 
 -- a change of name
 abbrev renamed_to : List ℕ → List Section → Section → Result (List Section) DeltaError
-renamed_to new sections section = cond {A = Result (List Section) DeltaError} (not (is_name_of Name new)) (Err Invalid) (cond {A = Result (List Section) DeltaError} (has_section new sections) (Err Duplicate) (Ok (record section { name = new; anonymous = false } ∷ [])))
+renamed_to new sections section = cond {A = Result (List Section) DeltaError} (not (is_name_of Name new)) (Err Invalid)
+    (cond {A = Result (List Section) DeltaError} (has_section new sections) (Err Duplicate) (Ok (record section { name = new; anonymous = false } ∷ [])))
 
 pub renamed_lacks : (name new : List ℕ) (sections : List Section) → named_place sections name ≡ None → section_renamed name new sections ≡ Err NotFound
 renamed_lacks name new sections e = becomes_none (is_section name) NotFound (renamed_to new sections) sections e
@@ -52,24 +56,30 @@ pub renamed_invalid : (name new : List ℕ) (sections : List Section) (i : ℕ) 
 renamed_invalid name new sections i e n =
     let x : Section = at_place sections i (place_within (is_section name) sections i e) in
     renamed_at name new sections i x e (at_place_is sections i (place_within (is_section name) sections i e))
-    ∙ ap (λ (t : Bool). made (with_at sections i) (cond {A = Result (List Section) DeltaError} (not t) (Err Invalid) (cond {A = Result (List Section) DeltaError} (has_section new sections) (Err Duplicate) (Ok (record x { name = new; anonymous = false } ∷ []))))) n
+    ∙ ap (λ (t : Bool). made (with_at sections i) (cond {A = Result (List Section) DeltaError} (not t) (Err Invalid)
+    (cond {A = Result (List Section) DeltaError} (has_section new sections) (Err Duplicate) (Ok (record x { name = new; anonymous = false } ∷ []))))) n
 
 pub renamed_duplicate : (name new : List ℕ) (sections : List Section) (i k : ℕ) → named_place sections name ≡ Some i → is_name_of Name new ≡ true → named_place sections new ≡ Some k → section_renamed name new sections ≡ Err Duplicate
 renamed_duplicate name new sections i k e n d =
     let x : Section = at_place sections i (place_within (is_section name) sections i e) in
     renamed_at name new sections i x e (at_place_is sections i (place_within (is_section name) sections i e))
-    ∙ ap (λ (t : Bool). made (with_at sections i) (cond {A = Result (List Section) DeltaError} (not t) (Err Invalid) (cond {A = Result (List Section) DeltaError} (has_section new sections) (Err Duplicate) (Ok (record x { name = new; anonymous = false } ∷ []))))) n
+    ∙ ap (λ (t : Bool). made (with_at sections i) (cond {A = Result (List Section) DeltaError} (not t) (Err Invalid)
+    (cond {A = Result (List Section) DeltaError} (has_section new sections) (Err Duplicate) (Ok (record x { name = new; anonymous = false } ∷ []))))) n
     ∙ ap (λ (t : Bool). made (with_at sections i) (cond {A = Result (List Section) DeltaError} t (Err Duplicate) (Ok (record x { name = new; anonymous = false } ∷ [])))) (is_there (named_place sections new) k d)
 
-pub renamed_done : (name new other : List ℕ) (sections : List Section) (i : ℕ) (x : Section) → named_place sections name ≡ Some i → x ≡ get_or sections i x → is_name_of Name new ≡ true → named_place sections new ≡ None → other ≡ new → section_renamed name new sections ≡ Ok (set sections i (record { name = other; anonymous = false; kind = x.kind; options = x.options }))
+pub renamed_done : (name new other : List ℕ) (sections : List Section) (i : ℕ) (x : Section) → named_place sections name ≡ Some i → x ≡ get_or sections i x → is_name_of Name new ≡ true → named_place sections new ≡ None → other ≡ new
+    → section_renamed name new sections ≡ Ok (set sections i (record { name = other; anonymous = false; kind = x.kind; options = x.options }))
 renamed_done name new other sections i x e g n d o =
     renamed_at name new sections i x e g
-    ∙ ap (λ (t : Bool). made (with_at sections i) (cond {A = Result (List Section) DeltaError} (not t) (Err Invalid) (cond {A = Result (List Section) DeltaError} (has_section new sections) (Err Duplicate) (Ok (record x { name = new; anonymous = false } ∷ []))))) n
+    ∙ ap (λ (t : Bool). made (with_at sections i) (cond {A = Result (List Section) DeltaError} (not t) (Err Invalid)
+    (cond {A = Result (List Section) DeltaError} (has_section new sections) (Err Duplicate) (Ok (record x { name = new; anonymous = false } ∷ []))))) n
     ∙ ap (λ (t : Bool). made (with_at sections i) (cond {A = Result (List Section) DeltaError} t (Err Duplicate) (Ok (record x { name = new; anonymous = false } ∷ [])))) (not_there (named_place sections new) d)
-    ∙ ap (λ (z : List Section). Ok z) (sym (set_is sections i (record x { name = new; anonymous = false }) (place_within (is_section name) sections i e)) ∙ ap (λ (z : List ℕ). set sections i (record { name = z; anonymous = false; kind = x.kind; options = x.options })) (sym o))
+    ∙ ap (λ (z : List Section). Ok z) (sym (set_is sections i (record x { name = new; anonymous = false }) (place_within (is_section name) sections i e))
+    ∙ ap (λ (z : List ℕ). set sections i (record { name = z; anonymous = false; kind = x.kind; options = x.options })) (sym o))
 
 -- another place
-pub moved : (name digits : List ℕ) (sections new : List Section) (i place : ℕ) → named_place sections name ≡ Some i → place_of digits ≡ Some place → ((section : Section) → section ≡ get_or sections i section → ◌≡◌ {A = Result (List Section) DeltaError} (Ok new) (put_at (Some place) (section ∷ []) (remove sections i))) → reordered name digits sections ≡ Ok new
+pub moved : (name digits : List ℕ) (sections new : List Section) (i place : ℕ) → named_place sections name ≡ Some i → place_of digits ≡ Some place
+    → ((section : Section) → section ≡ get_or sections i section → ◌≡◌ {A = Result (List Section) DeltaError} (Ok new) (put_at (Some place) (section ∷ []) (remove sections i))) → reordered name digits sections ≡ Ok new
 moved name digits sections new i place e p k =
     let x : Section = at_place sections i (place_within (is_section name) sections i e) in
     let g : x ≡ get_or sections i x = at_place_is sections i (place_within (is_section name) sections i e) in
@@ -92,17 +102,20 @@ refused_through make outcome inner Invalid e h = e ∙ ap (made make) h
 refused_through make outcome inner Duplicate e h = e ∙ ap (made make) h
 refused_through make outcome inner Memory e h = tt
 
-option_at : (name option : List ℕ) (change : Change) (sections : List Section) (i : ℕ) (x : Section) → named_place sections name ≡ Some i → x ≡ get_or sections i x → sections_with_option name option change sections ≡ made (with_at sections i) (in_section option change x)
+option_at : (name option : List ℕ) (change : Change) (sections : List Section) (i : ℕ) (x : Section) → named_place sections name ≡ Some i → x ≡ get_or sections i x → sections_with_option name option change sections
+    ≡ made (with_at sections i) (in_section option change x)
 option_at name option change sections i x e g = becomes_at (is_section name) (lack_of change) (in_section option change) sections i x e g
 
 pub option_lacks : (name option : List ℕ) (change : Change) (sections : List Section) (error : DeltaError) → named_place sections name ≡ None → error ≡ lack_of change → IsRefusalOf (sections_with_option name option change sections) error
 option_lacks name option change sections error e l = refuses _ error (becomes_none (is_section name) (lack_of change) (in_section option change) sections e ∙ ap Err (sym l))
 
-pub option_done : (name option : List ℕ) (change : Change) (sections : List Section) (i : ℕ) (x y : Section) → named_place sections name ≡ Some i → x ≡ get_or sections i x → in_section option change x ≡ Ok (y ∷ []) → sections_with_option name option change sections ≡ Ok (set sections i y)
+pub option_done : (name option : List ℕ) (change : Change) (sections : List Section) (i : ℕ) (x y : Section) → named_place sections name ≡ Some i → x ≡ get_or sections i x → in_section option change x ≡ Ok (y ∷ [])
+    → sections_with_option name option change sections ≡ Ok (set sections i y)
 option_done name option change sections i x y e g d =
     option_at name option change sections i x e g
     ∙ ap (made (with_at sections i)) d
     ∙ ap (λ (z : List Section). Ok z) (sym (set_is sections i y (place_within (is_section name) sections i e)))
 
-pub option_refused : (name option : List ℕ) (change : Change) (sections : List Section) (i : ℕ) (x : Section) (error : DeltaError) → named_place sections name ≡ Some i → x ≡ get_or sections i x → IsRefusalOf (in_section option change x) error → IsRefusalOf (sections_with_option name option change sections) error
+pub option_refused : (name option : List ℕ) (change : Change) (sections : List Section) (i : ℕ) (x : Section) (error : DeltaError) → named_place sections name ≡ Some i → x ≡ get_or sections i x
+    → IsRefusalOf (in_section option change x) error → IsRefusalOf (sections_with_option name option change sections) error
 option_refused name option change sections i x error e g h = refused_through (with_at sections i) _ (in_section option change x) error (option_at name option change sections i x e g) h

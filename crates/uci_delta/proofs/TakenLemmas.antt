@@ -60,7 +60,8 @@ clean_piece (double inner) h = clean_inner inner (all_in-left NotZero (flat_map 
 
 clean_word : (pieces : List Piece) → IsClean (word_text pieces) → IsClean (word_value pieces)
 clean_word [] h = tt
-clean_word (piece ∷ pieces) h = all_in-append NotZero (piece_value piece) (word_value pieces) (clean_piece piece (all_in-left NotZero (piece_text piece) (word_text pieces) h)) (clean_word pieces (all_in-right NotZero (piece_text piece) (word_text pieces) h))
+clean_word (piece ∷ pieces) h = all_in-append NotZero (piece_value piece) (word_value pieces) (clean_piece piece (all_in-left NotZero (piece_text piece) (word_text pieces) h))
+    (clean_word pieces (all_in-right NotZero (piece_text piece) (word_text pieces) h))
 
 clean_value : (text : List ℕ) (value : Option (List ℕ)) → IsClean text → SpellsValue text value → IsCleanValue value
 clean_value text None c s = tt
@@ -128,7 +129,8 @@ record Found {X : Type 0} (P : X → Type 0) (test : X → Bool) (becomes : X �
   pub new : List X
   pub is : becomes item ≡ Ok new
 
-found_step : {X : Type 0} (P : X → Type 0) (test : X → Bool) (becomes : X → Result (List X) DeltaError) (x : X) (xs new : List X) (rest : Result (List X) DeltaError) (b : Bool) → test x ≡ b → P x → ((zs : List X) → rest ≡ Ok zs → Found P test becomes)
+found_step : {X : Type 0} (P : X → Type 0) (test : X → Bool) (becomes : X → Result (List X) DeltaError) (x : X) (xs new : List X) (rest : Result (List X) DeltaError) (b : Bool) → test x ≡ b → P x
+    → ((zs : List X) → rest ≡ Ok zs → Found P test becomes)
     → cond {A = Result (List X) DeltaError} b (made (λ new. new ++ xs) (becomes x)) (made (λ rest. x ∷ rest) rest) ≡ Ok new → Found P test becomes
 found_step P test becomes x xs new rest true t p h e =
     let m = made_of (λ new. new ++ xs) (becomes x) new e in
@@ -147,7 +149,8 @@ record Passing {X : Type 0} (P : X → Type 0) (test : X → Bool) : Type 0 wher
   pub has : P item
   pub passes : test item ≡ true
 
-passing_step : {X : Type 0} (P : X → Type 0) (test : X → Bool) (x : X) (b : Bool) (place : Option ℕ) → test x ≡ b → P x → (is_some place ≡ true → Passing P test) → is_some (cond {A = Option ℕ} b (Some 0) (option_map (λ k. suc k) place)) ≡ true → Passing P test
+passing_step : {X : Type 0} (P : X → Type 0) (test : X → Bool) (x : X) (b : Bool) (place : Option ℕ) → test x ≡ b → P x → (is_some place ≡ true → Passing P test) → is_some (cond {A = Option ℕ} b (Some 0) (option_map (λ k. suc k) place))
+    ≡ true → Passing P test
 passing_step P test x true place t p h e = record { item = x; has = p; passes = t }
 passing_step P test x false None t p h e = absurd (let f : false ≡ true = e in cc)
 passing_step P test x false (Some k) t p h e = h refl
@@ -194,7 +197,8 @@ section_taken name (Add kind) sections new v e =
     let t = (where_true (are_named name kind) (with_anonymous name kind sections) Invalid new e).0 in
     record { named = name_from Name name (first_true _ _ t); option_named = tt; shape = tt; clean = kind_clean kind (name_from Printable kind (second_true _ _ t)).1 }
 section_taken name (Rename to) sections new v e =
-    let f = found IsValidSection (is_section name) NotFound (λ section. cond {A = Result (List Section) DeltaError} (not (is_name_of Name to)) (Err Invalid) (cond {A = Result (List Section) DeltaError} (has_section to sections) (Err Duplicate) (Ok (record section { name = to; anonymous = false } ∷ [])))) sections new v e in
+    let f = found IsValidSection (is_section name) NotFound (λ section. cond {A = Result (List Section) DeltaError} (not (is_name_of Name to)) (Err Invalid)
+    (cond {A = Result (List Section) DeltaError} (has_section to sections) (Err Duplicate) (Ok (record section { name = to; anonymous = false } ∷ [])))) sections new v e in
     record { named = same_name f.item.name name f.has.named f.passes; option_named = tt; shape = tt; clean = name_clean to (name_from Name to (renamed_name to (is_name_of Name to) (has_section to sections) _ f.new f.is)).1 }
 section_taken name (Reorder place) sections new v e =
     let moved = first_alone (is_section name) sections in
@@ -223,7 +227,8 @@ option_taken name Remove options new v e =
     record { named = same_name f.item.name name f.has.named f.passes; shape = tt; clean = tt }
 option_taken name (Add kind) options new v e = no_change Invalid new e
 option_taken name (Rename to) options new v e =
-    let f = found IsValidOption (is_option name) NotFound (λ option. cond {A = Result (List Opt) DeltaError} (not (is_name_of Name to)) (Err Invalid) (cond {A = Result (List Opt) DeltaError} (has_option to options) (Err Duplicate) (Ok (record option { name = to } ∷ [])))) options new v e in
+    let f = found IsValidOption (is_option name) NotFound (λ option. cond {A = Result (List Opt) DeltaError} (not (is_name_of Name to)) (Err Invalid)
+    (cond {A = Result (List Opt) DeltaError} (has_option to options) (Err Duplicate) (Ok (record option { name = to } ∷ [])))) options new v e in
     record { named = same_name f.item.name name f.has.named f.passes; shape = tt; clean = name_clean to (name_from Name to (renamed_option to (is_name_of Name to) (has_option to options) _ f.new f.is)).1 }
 option_taken name (Reorder place) options new v e = no_change Invalid new e
 option_taken name (ListAdd item) options new v e = let t = valued name item (Ok (with_item name item options)) new e in record { named = t.0; shape = tt; clean = t.1 }

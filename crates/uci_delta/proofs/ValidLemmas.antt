@@ -52,7 +52,8 @@ where_false true answer error x e = absurd (let f : ◌≡◌ {A = Result _ Delt
 ok_same : {X : Type 0} (x y : X) → ◌≡◌ {A = Result X DeltaError} (Ok x) (Ok y) → y ≡ x
 ok_same x y e = cc
 
-keeps_step : {X : Type 0} (P : X → Type 0) (b : Bool) (y : X) (ys new : List X) (answer rest : Result (List X) DeltaError) → ((zs : List X) → answer ≡ Ok zs → AllByRecursion P zs) → ((zs : List X) → rest ≡ Ok zs → AllByRecursion P zs) → P y → AllByRecursion P ys → cond {A = Result (List X) DeltaError} b (made (λ new. new ++ ys) answer) (made (λ rest. y ∷ rest) rest) ≡ Ok new → AllByRecursion P new
+keeps_step : {X : Type 0} (P : X → Type 0) (b : Bool) (y : X) (ys new : List X) (answer rest : Result (List X) DeltaError) → ((zs : List X) → answer ≡ Ok zs → AllByRecursion P zs) → ((zs : List X) → rest ≡ Ok zs → AllByRecursion P zs) → P y
+    → AllByRecursion P ys → cond {A = Result (List X) DeltaError} b (made (λ new. new ++ ys) answer) (made (λ rest. y ∷ rest) rest) ≡ Ok new → AllByRecursion P new
 keeps_step P true y ys new answer rest k r p h e =
     let m = made_of (λ new. new ++ ys) answer new e in
     subst (AllByRecursion P) (sym m.is) (each-append P m.x ys (k m.x m.found) h)
@@ -61,7 +62,8 @@ keeps_step P false y ys new answer rest k r p h e =
     subst (AllByRecursion P) (sym m.is) (p, r m.x m.found)
 
 -- what holds of each item, and of what the first becomes
-pub becomes_keeps : {X : Type 0} (P : X → Type 0) (test : X → Bool) (lack : DeltaError) (becomes : X → Result (List X) DeltaError) (xs new : List X) → ((x : X) (zs : List X) → P x → becomes x ≡ Ok zs → AllByRecursion P zs) → AllByRecursion P xs → first_becomes test lack becomes xs ≡ Ok new → AllByRecursion P new
+pub becomes_keeps : {X : Type 0} (P : X → Type 0) (test : X → Bool) (lack : DeltaError) (becomes : X → Result (List X) DeltaError) (xs new : List X) → ((x : X) (zs : List X) → P x → becomes x ≡ Ok zs → AllByRecursion P zs)
+    → AllByRecursion P xs → first_becomes test lack becomes xs ≡ Ok new → AllByRecursion P new
 becomes_keeps P test lack becomes [] new k h e = absurd (let f : ◌≡◌ {A = Result _ DeltaError} (Err lack) (Ok new) = e in cc)
 becomes_keeps P test lack becomes (y ∷ ys) new k h e = keeps_step P (test y) y ys new (becomes y) (first_becomes test lack becomes ys) (λ zs f. k y zs h.0 f) (λ zs f. becomes_keeps P test lack becomes ys zs k h.1 f) h.0 h.1 e
 
@@ -86,7 +88,9 @@ record StaysApart (Q : Opt → Type 0) (becomes : Opt → Result (List Opt) Delt
   before : (x : Opt) (zs rest : List Opt) → becomes x ≡ Ok zs → AllByRecursion Q rest → AllByRecursion (λ (option : Opt). option.name ≢ x.name) rest → AreDistinct (names_of rest) → AreDistinct (names_of (zs ++ rest))
   behind : (x y : Opt) (zs : List Opt) → becomes x ≡ Ok zs → Q y → x.name ≢ y.name → AllByRecursion (λ (option : Opt). option.name ≢ y.name) zs
 
-distinct_step : (Q : Opt → Type 0) (becomes : Opt → Result (List Opt) DeltaError) (b : Bool) (y : Opt) (ys new : List Opt) (rest : Result (List Opt) DeltaError) → StaysApart Q becomes → AllByRecursion Q (y ∷ ys) → AreDistinct (names_of (y ∷ ys)) → ((zs : List Opt) → rest ≡ Ok zs → AllByRecursion (λ (option : Opt). option.name ≢ y.name) zs) → ((zs : List Opt) → rest ≡ Ok zs → AreDistinct (names_of zs)) → cond {A = Result (List Opt) DeltaError} b (made (λ new. new ++ ys) (becomes y)) (made (λ rest. y ∷ rest) rest) ≡ Ok new → AreDistinct (names_of new)
+distinct_step : (Q : Opt → Type 0) (becomes : Opt → Result (List Opt) DeltaError) (b : Bool) (y : Opt) (ys new : List Opt) (rest : Result (List Opt) DeltaError) → StaysApart Q becomes → AllByRecursion Q (y ∷ ys)
+    → AreDistinct (names_of (y ∷ ys)) → ((zs : List Opt) → rest ≡ Ok zs → AllByRecursion (λ (option : Opt). option.name ≢ y.name) zs) → ((zs : List Opt) → rest ≡ Ok zs → AreDistinct (names_of zs))
+    → cond {A = Result (List Opt) DeltaError} b (made (λ new. new ++ ys) (becomes y)) (made (λ rest. y ∷ rest) rest) ≡ Ok new → AreDistinct (names_of new)
 distinct_step Q becomes true y ys new rest s q d l r e =
     let m = made_of (λ new. new ++ ys) (becomes y) new e in
     let P : List Opt → Type 0 = λ z. AreDistinct (names_of z) in
@@ -96,7 +100,8 @@ distinct_step Q becomes false y ys new rest s q d l r e =
     let P : List Opt → Type 0 = λ z. AreDistinct (names_of z) in
     subst P (sym m.is) (lacks_of y.name m.x (l m.x m.found), r m.x m.found)
 
-becomes_distinct : (Q : Opt → Type 0) (test : Opt → Bool) (lack : DeltaError) (becomes : Opt → Result (List Opt) DeltaError) (options new : List Opt) → StaysApart Q becomes → AllByRecursion Q options → AreDistinct (names_of options) → first_becomes test lack becomes options ≡ Ok new → AreDistinct (names_of new)
+becomes_distinct : (Q : Opt → Type 0) (test : Opt → Bool) (lack : DeltaError) (becomes : Opt → Result (List Opt) DeltaError) (options new : List Opt) → StaysApart Q becomes → AllByRecursion Q options → AreDistinct (names_of options)
+    → first_becomes test lack becomes options ≡ Ok new → AreDistinct (names_of new)
 becomes_distinct Q test lack becomes [] new s q d e = no_answer lack new e
 becomes_distinct Q test lack becomes (y ∷ ys) new s q d e =
     distinct_step Q becomes (test y) y ys new (first_becomes test lack becomes ys) s q d
@@ -116,13 +121,15 @@ absent new (option ∷ options) e =
     let s = absent_step (is_option new option) (position (is_option new) options) (ap is_some (sym (position-cons (is_option new) option options)) ∙ e) in
     (λ (same : option.name ≡ new). apart_names option.name new s.0 (sym same), absent new options s.1)
 
-renamed_of : (t u : Bool) (x : Opt) (new : List ℕ) (zs : List Opt) → cond {A = Result (List Opt) DeltaError} t (Err Invalid) (cond {A = Result (List Opt) DeltaError} u (Err Duplicate) (Ok (record x { name = new } ∷ []))) ≡ Ok zs → (t ≡ false) × (u ≡ false) × (zs ≡ record x { name = new } ∷ [])
+renamed_of : (t u : Bool) (x : Opt) (new : List ℕ) (zs : List Opt) → cond {A = Result (List Opt) DeltaError} t (Err Invalid) (cond {A = Result (List Opt) DeltaError} u (Err Duplicate) (Ok (record x { name = new } ∷ []))) ≡ Ok zs
+    → (t ≡ false) × (u ≡ false) × (zs ≡ record x { name = new } ∷ [])
 renamed_of t u x new zs e =
     let a = where_false t _ Invalid zs e in
     let b = where_false u _ Duplicate zs a.1 in
     (a.0, b.0, ok_same (record x { name = new } ∷ []) zs b.1)
 
-rename_apart : (new : List ℕ) (options : List Opt) → StaysApart (λ (option : Opt). option.name ≢ new) (λ option. cond {A = Result (List Opt) DeltaError} (not (is_name_of Name new)) (Err Invalid) (cond {A = Result (List Opt) DeltaError} (has_option new options) (Err Duplicate) (Ok (record option { name = new } ∷ []))))
+rename_apart : (new : List ℕ) (options : List Opt) → StaysApart (λ (option : Opt). option.name ≢ new)
+    (λ option. cond {A = Result (List Opt) DeltaError} (not (is_name_of Name new)) (Err Invalid) (cond {A = Result (List Opt) DeltaError} (has_option new options) (Err Duplicate) (Ok (record option { name = new } ∷ []))))
 rename_apart new options = record {
   before = λ x zs rest e q l d.
       let r = renamed_of (not (is_name_of Name new)) (has_option new options) x new zs e in
@@ -133,7 +140,9 @@ rename_apart new options = record {
       subst (AllByRecursion (λ (option : Opt). option.name ≢ y.name)) (sym r.2) (λ (same : new ≡ y.name). q (sym same), tt);
 }
 
-rename_each : (new : List ℕ) (options : List Opt) (x : Opt) (zs : List Opt) → IsValidOption x → cond {A = Result (List Opt) DeltaError} (not (is_name_of Name new)) (Err Invalid) (cond {A = Result (List Opt) DeltaError} (has_option new options) (Err Duplicate) (Ok (record x { name = new } ∷ []))) ≡ Ok zs → AllByRecursion IsValidOption zs
+rename_each : (new : List ℕ) (options : List Opt) (x : Opt) (zs : List Opt) → IsValidOption x
+    → cond {A = Result (List Opt) DeltaError} (not (is_name_of Name new)) (Err Invalid) (cond {A = Result (List Opt) DeltaError} (has_option new options) (Err Duplicate) (Ok (record x { name = new } ∷ []))) ≡ Ok zs
+    → AllByRecursion IsValidOption zs
 rename_each new options x zs v e =
     let r = renamed_of (not (is_name_of Name new)) (has_option new options) x new zs e in
     subst (AllByRecursion IsValidOption) (sym r.2) (record { named = name_from Name new (not_false (is_name_of Name new) r.0); value = v.value }, tt)
@@ -144,7 +153,8 @@ record Became {X : Type 0} (becomes : X → Result (List X) DeltaError) : Type 0
   zs : List X
   found : becomes x ≡ Ok zs
 
-became_step : {X : Type 0} (b : Bool) (y : X) (ys new : List X) (becomes : X → Result (List X) DeltaError) (rest : Result (List X) DeltaError) → ((zs : List X) → rest ≡ Ok zs → Became becomes) → cond {A = Result (List X) DeltaError} b (made (λ new. new ++ ys) (becomes y)) (made (λ rest. y ∷ rest) rest) ≡ Ok new → Became becomes
+became_step : {X : Type 0} (b : Bool) (y : X) (ys new : List X) (becomes : X → Result (List X) DeltaError) (rest : Result (List X) DeltaError) → ((zs : List X) → rest ≡ Ok zs → Became becomes)
+    → cond {A = Result (List X) DeltaError} b (made (λ new. new ++ ys) (becomes y)) (made (λ rest. y ∷ rest) rest) ≡ Ok new → Became becomes
 became_step true y ys new becomes rest k e = let m = made_of (λ new. new ++ ys) (becomes y) new e in record { x = y; zs = m.x; found = m.found }
 became_step false y ys new becomes rest k e = let m = made_of (λ (zs : List _). y ∷ zs) rest new e in k m.x m.found
 
@@ -154,7 +164,8 @@ became test lack becomes (y ∷ ys) new e = became_step (test y) y ys new become
 
 valid_rename : (name new : List ℕ) (options zs : List Opt) → AreValid options → option_renamed name new options ≡ Ok zs → AreValid zs
 valid_rename name new options zs v e =
-    let becomes : Opt → Result (List Opt) DeltaError = λ option. cond {A = Result (List Opt) DeltaError} (not (is_name_of Name new)) (Err Invalid) (cond {A = Result (List Opt) DeltaError} (has_option new options) (Err Duplicate) (Ok (record option { name = new } ∷ []))) in
+    let becomes : Opt → Result (List Opt) DeltaError = λ option. cond {A = Result (List Opt) DeltaError} (not (is_name_of Name new)) (Err Invalid)
+    (cond {A = Result (List Opt) DeltaError} (has_option new options) (Err Duplicate) (Ok (record option { name = new } ∷ []))) in
     let b : Became becomes = became (is_option name) NotFound becomes options zs e in
     let r = renamed_of (not (is_name_of Name new)) (has_option new options) b.x new b.zs b.found in
     record {
@@ -222,7 +233,8 @@ valid_left name item options zs v e = go (has_option name options) e
     go : (b : Bool) → cond {A = Result (List Opt) DeltaError} b (first_becomes (is_option name) NotFound (λ option. Ok (with_left option (left_of item option.value))) options) (Ok options) ≡ Ok zs → AreValid zs
     go false f = subst AreValid (sym (ok_same options zs f)) v
     go true f = record {
-      each = becomes_keeps IsValidOption (is_option name) NotFound (λ option. Ok (with_left option (left_of item option.value))) options zs (λ x ws w g. subst (AllByRecursion IsValidOption) (sym (ok_same (with_left x (left_of item x.value)) ws g)) (with_left_each x (left_of item x.value) w.named (λ value l. left_valid item x.value value w.value l))) v.each f;
+      each = becomes_keeps IsValidOption (is_option name) NotFound (λ option. Ok (with_left option (left_of item option.value))) options zs
+          (λ x ws w g. subst (AllByRecursion IsValidOption) (sym (ok_same (with_left x (left_of item x.value)) ws g)) (with_left_each x (left_of item x.value) w.named (λ value l. left_valid item x.value value w.value l))) v.each f;
       distinct = becomes_distinct (λ option. Unit {0}) (is_option name) NotFound (λ option. Ok (with_left option (left_of item option.value))) options zs (left_apart item) (any options) v.distinct f;
     }
 
@@ -252,8 +264,10 @@ options_valid name (ListDel item) options zs v e =
 abbrev AreSections : List Section → Type 0
 AreSections sections = AllByRecursion IsValidSection sections
 
-new_valid : (name kind : List ℕ) (anonymous : Bool) (sections zs : List Section) → AreSections sections → IsNameOf Name name → IsNameOf Printable kind → ◌≡◌ {A = Result (List Section) DeltaError} (Ok (with_new name anonymous kind sections)) (Ok zs) → AreSections zs
-new_valid name kind anonymous sections zs h n k e = subst AreSections (sym (ok_same (with_new name anonymous kind sections) zs e)) (each-append IsValidSection sections (record { name = name; anonymous = anonymous; kind = kind; options = [] } ∷ []) h (record { named = n; typed = k; options = tt; distinct = tt }, tt))
+new_valid : (name kind : List ℕ) (anonymous : Bool) (sections zs : List Section) → AreSections sections → IsNameOf Name name → IsNameOf Printable kind
+    → ◌≡◌ {A = Result (List Section) DeltaError} (Ok (with_new name anonymous kind sections)) (Ok zs) → AreSections zs
+new_valid name kind anonymous sections zs h n k e = subst AreSections (sym (ok_same (with_new name anonymous kind sections) zs e))
+    (each-append IsValidSection sections (record { name = name; anonymous = anonymous; kind = kind; options = [] } ∷ []) h (record { named = n; typed = k; options = tt; distinct = tt }, tt))
 
 named_where : (name kind : List ℕ) (answer : Result (List Section) DeltaError) (zs : List Section) → where_named name kind answer ≡ Ok zs → IsNameOf Name name × IsNameOf Printable kind × (answer ≡ Ok zs)
 named_where name kind answer zs e =
@@ -265,11 +279,15 @@ kind_valid name kind sections zs h e =
     let a = named_where name kind (with_kind name kind sections) zs e in
     go a.0 a.1 (has_section name sections) a.2
   where
-    go : IsNameOf Name name → IsNameOf Printable kind → (b : Bool) → cond {A = Result (List Section) DeltaError} b (first_becomes (is_section name) Invalid (λ section. Ok (record section { kind = kind } ∷ [])) sections) (Ok (with_new name false kind sections)) ≡ Ok zs → AreSections zs
-    go n k true f = becomes_keeps IsValidSection (is_section name) Invalid (λ section. Ok (record section { kind = kind } ∷ [])) sections zs (λ x ws v g. subst AreSections (sym (ok_same (record x { kind = kind } ∷ []) ws g)) (record { named = v.named; typed = k; options = v.options; distinct = v.distinct }, tt)) h f
+    go : IsNameOf Name name → IsNameOf Printable kind → (b : Bool)
+        → cond {A = Result (List Section) DeltaError} b (first_becomes (is_section name) Invalid (λ section. Ok (record section { kind = kind } ∷ [])) sections) (Ok (with_new name false kind sections)) ≡ Ok zs → AreSections zs
+    go n k true f = becomes_keeps IsValidSection (is_section name) Invalid (λ section. Ok (record section { kind = kind } ∷ [])) sections zs
+        (λ x ws v g. subst AreSections (sym (ok_same (record x { kind = kind } ∷ []) ws g)) (record { named = v.named; typed = k; options = v.options; distinct = v.distinct }, tt)) h f
     go n k false f = new_valid name kind false sections zs h n k f
 
-renamed_section : (t u : Bool) (x : Section) (new : List ℕ) (zs : List Section) → cond {A = Result (List Section) DeltaError} t (Err Invalid) (cond {A = Result (List Section) DeltaError} u (Err Duplicate) (Ok (record x { name = new; anonymous = false } ∷ []))) ≡ Ok zs → (t ≡ false) × (zs ≡ record x { name = new; anonymous = false } ∷ [])
+renamed_section : (t u : Bool) (x : Section) (new : List ℕ) (zs : List Section)
+    → cond {A = Result (List Section) DeltaError} t (Err Invalid) (cond {A = Result (List Section) DeltaError} u (Err Duplicate) (Ok (record x { name = new; anonymous = false } ∷ []))) ≡ Ok zs → (t ≡ false)
+    × (zs ≡ record x { name = new; anonymous = false } ∷ [])
 renamed_section t u x new zs e =
     let a = where_false t _ Invalid zs e in
     let b = where_false u _ Duplicate zs a.1 in
@@ -277,7 +295,8 @@ renamed_section t u x new zs e =
 
 rename_valid : (name new : List ℕ) (sections zs : List Section) → AreSections sections → section_renamed name new sections ≡ Ok zs → AreSections zs
 rename_valid name new sections zs h e =
-    becomes_keeps IsValidSection (is_section name) NotFound (λ section. cond {A = Result (List Section) DeltaError} (not (is_name_of Name new)) (Err Invalid) (cond {A = Result (List Section) DeltaError} (has_section new sections) (Err Duplicate) (Ok (record section { name = new; anonymous = false } ∷ [])))) sections zs
+    becomes_keeps IsValidSection (is_section name) NotFound (λ section. cond {A = Result (List Section) DeltaError} (not (is_name_of Name new)) (Err Invalid)
+    (cond {A = Result (List Section) DeltaError} (has_section new sections) (Err Duplicate) (Ok (record section { name = new; anonymous = false } ∷ [])))) sections zs
     (λ x ws v g.
     let r = renamed_section (not (is_name_of Name new)) (has_section new sections) x new ws g in
     subst AreSections (sym r.1) (record { named = name_from Name new (not_false (is_name_of Name new) r.0); typed = v.typed; options = v.options; distinct = v.distinct }, tt))
@@ -345,7 +364,8 @@ applied_valid tree new delta v e =
     subst IsValid (sym m.is) (record { named = v.named; sections = changed_valid delta.section delta.option delta.change tree.sections m.x v.sections m.found })
 
 -- a package with the sections that a change left
-pub left_valid_package : (tree : Package) (delta : Delta) (taken old new given : List Section) (count : ℕ) → taken ≡ old → old ≡ tree.sections → given ≡ new → changed delta.section delta.option delta.change taken ≡ Ok new → IsValid tree → IsValid (record { name = tree.name; sections = given; made = count })
+pub left_valid_package : (tree : Package) (delta : Delta) (taken old new given : List Section) (count : ℕ) → taken ≡ old → old ≡ tree.sections → given ≡ new → changed delta.section delta.option delta.change taken ≡ Ok new → IsValid tree
+    → IsValid (record { name = tree.name; sections = given; made = count })
 left_valid_package tree delta taken old new given count t o g e v = record {
   named = v.named;
   sections = subst AreSections (sym g) (changed_valid delta.section delta.option delta.change taken new (subst AreSections (sym (t ∙ o)) v.sections) e);

@@ -179,7 +179,8 @@ not_ended false front rest value e = (refl, behind_front front rest value e)
 pub is_byte : (b n : ℕ) → nat_eq b n ≡ true → b ≡ n
 is_byte b n e = grind (arith, nat_tests)
 
-bare_means : (x y z w : Bool) (b : ℕ) (bytes value last : List ℕ) → nat_eq b 39 ≡ x → nat_eq b 34 ≡ y → nat_eq b 92 ≡ z → ends_word b ≡ false → value ≡ cond {A = List ℕ} (x || y || z) [] (b ∷ []) ++ last → Means (cond {A = Quoting} x Single (cond {A = Quoting} y Double (cond {A = Quoting} z BarePair Bare))) bytes last → Loose (b ∷ bytes) value
+bare_means : (x y z w : Bool) (b : ℕ) (bytes value last : List ℕ) → nat_eq b 39 ≡ x → nat_eq b 34 ≡ y → nat_eq b 92 ≡ z → ends_word b ≡ false → value ≡ cond {A = List ℕ} (x || y || z) [] (b ∷ []) ++ last
+    → Means (cond {A = Quoting} x Single (cond {A = Quoting} y Double (cond {A = Quoting} z BarePair Bare))) bytes last → Loose (b ∷ bytes) value
 bare_means true y z w b bytes value last e f g h v m = record {
   pieces = single m.run ∷ m.loose.pieces;
   whole =
@@ -218,7 +219,8 @@ single_means : (x : Bool) (b : ℕ) (bytes value last : List ℕ) → nat_eq b 3
 single_means true b bytes value last e v m = record { run = []; rest = bytes; last = last; whole = ap (λ (n : ℕ). n ∷ bytes) (is_byte b 39 e); within = tt; is = v; loose = m }
 single_means false b bytes value last e v m = record { run = b ∷ m.run; rest = m.rest; last = m.last; whole = ap (λ (s : List ℕ). b ∷ s) m.whole; within = (ap not e, m.within); is = v ∙ ap (λ (s : List ℕ). b ∷ s) m.is; loose = m.loose }
 
-double_means : (x y : Bool) (b : ℕ) (bytes value last : List ℕ) → nat_eq b 34 ≡ x → nat_eq b 92 ≡ y → value ≡ cond {A = List ℕ} (x || y) [] (b ∷ []) ++ last → Means (cond {A = Quoting} x Bare (cond {A = Quoting} y DoublePair Double)) bytes last → InDouble (b ∷ bytes) value
+double_means : (x y : Bool) (b : ℕ) (bytes value last : List ℕ) → nat_eq b 34 ≡ x → nat_eq b 92 ≡ y → value ≡ cond {A = List ℕ} (x || y) [] (b ∷ []) ++ last
+    → Means (cond {A = Quoting} x Bare (cond {A = Quoting} y DoublePair Double)) bytes last → InDouble (b ∷ bytes) value
 double_means true y b bytes value last e f v m = record { inner = []; rest = bytes; last = last; whole = ap (λ (n : ℕ). n ∷ bytes) (is_byte b 34 e); each = tt; is = v; loose = m }
 double_means false true b bytes value last e f v m = record {
   inner = pair m.byte ∷ m.next.inner;
@@ -286,7 +288,8 @@ none_behind zero (b ∷ bytes) h = absurd (omega (arith, h))
 none_behind (suc i) (b ∷ bytes) h = none_behind i bytes (omega (arith, h))
 
 -- a byte that ends a word stands in none
-pub word_stops : (bytes value : List ℕ) (quoting : Quoting) (i : ℕ) (test : Bool) → with_front value (worded quoting (drop i bytes)) ≡ worded Bare bytes → i < length bytes → test ≡ ends quoting (get_or bytes i 0) → test ≡ true → (other : List ℕ) → SpellsWord bytes other → ⊥
+pub word_stops : (bytes value : List ℕ) (quoting : Quoting) (i : ℕ) (test : Bool) → with_front value (worded quoting (drop i bytes)) ≡ worded Bare bytes → i < length bytes → test ≡ ends quoting (get_or bytes i 0) → test ≡ true
+    → (other : List ℕ) → SpellsWord bytes other → ⊥
 word_stops bytes value quoting i test h inside t e other w =
     let stopped : worded quoting (drop i bytes) ≡ None =
     ap (worded quoting) (drop-cons bytes i 0 inside)
@@ -326,7 +329,8 @@ no_empty_word bytes test t e other w =
     absurd (grind (arith, nat_tests, s, z))
 
 -- the value at the end of the bytes
-pub word_found : (bytes value result : List ℕ) (quoting : Quoting) (i : ℕ) (test : Bool) → with_front value (worded quoting (drop i bytes)) ≡ worded Bare bytes → length bytes ≤ i → quoting ≡ Bare → test ≡ nat_eq (length bytes) 0 → test ≡ false → result ≡ value → SpellsWord bytes result
+pub word_found : (bytes value result : List ℕ) (quoting : Quoting) (i : ℕ) (test : Bool) → with_front value (worded quoting (drop i bytes)) ≡ worded Bare bytes → length bytes ≤ i → quoting ≡ Bare → test ≡ nat_eq (length bytes) 0 → test
+    ≡ false → result ≡ value → SpellsWord bytes result
 word_found bytes value result quoting i test h outside b t e r =
     let z : nat_eq (length bytes) 0 ≡ false = sym t ∙ e in
     let s : 0 < length bytes = grind (arith, nat_tests, z) in

@@ -19,7 +19,8 @@ made_with before more = min (before + more) (2 ^ 64 - 1)
 
 -- the package with these sections in place of its own
 abbrev pub with_sections : Package → List Section → Package
-with_sections tree sections = record tree { sections = sections; made = made_with tree.made (length sections - length tree.sections) }
+with_sections tree sections = record tree
+    { sections = sections; made = made_with tree.made (length sections - length tree.sections) }
 
 -- the package with the delta, or why it is refused; the delta's package is not looked at
 abbrev pub applied : Package → Delta → Result Package DeltaError

@@ -7,10 +7,13 @@ abbrev pub made : {X Y : Type 0} → (X → Y) → Result X DeltaError → Resul
 made make (Ok x) = Ok (make x)
 made make (Err error) = Err error
 
--- the first item that passes gives way to what it becomes; where it is refused this is told, and where none passes, it lacks
-abbrev pub first_becomes : {X : Type 0} → (X → Bool) → DeltaError → (X → Result (List X) DeltaError) → List X → Result (List X) DeltaError
+-- the first item that passes gives way to what it becomes; where it is refused this is told, and where none passes, it
+-- lacks
+abbrev pub first_becomes : {X : Type 0} → (X → Bool) → DeltaError → (X → Result (List X) DeltaError) → List X
+    → Result (List X) DeltaError
 first_becomes test lack becomes [] = Err lack
-first_becomes test lack becomes (x ∷ xs) = if test x then made (λ new. new ++ xs) (becomes x) else made (λ rest. x ∷ rest) (first_becomes test lack becomes xs)
+first_becomes test lack becomes (x ∷ xs) = if test x then made (λ new. new ++ xs) (becomes x)
+    else made (λ rest. x ∷ rest) (first_becomes test lack becomes xs)
 
 -- the first item that passes, alone, and the others
 abbrev pub first_alone : {X : Type 0} → (X → Bool) → List X → List X

@@ -1,6 +1,7 @@
--- What a change of an option makes of the options of a section (OpenWrt's uci). That a name which is there is refused, that an
--- emptied list goes, and that one value counts as a list of one, are rules of our own.
-use Rattle.std.specs.Prelude.{ℕ, List, [], ◌∷◌, Bool, not, ◌&&◌, Option, Some, None, Result, Ok, Err, if◌then◌else◌, bytes_eq, is_some}
+-- What a change of an option makes of the options of a section (OpenWrt's uci). That a name which is there is refused,
+-- that an emptied list goes, and that one value counts as a list of one, are rules of our own.
+use Rattle.std.specs.Prelude.{ℕ, List, [], ◌∷◌, Bool, not, ◌&&◌, Option, Some, None, Result, Ok, Err, if◌then◌else◌}
+use Rattle.std.specs.Prelude.{bytes_eq, is_some}
 use Rattle.std.specs.List.{filter}
 use Rattle.uci_text.specs.declared.byte_class.ByteClass.TheVariants.{Name}
 use Rattle.uci_tree.specs.declared.package.Value.{Value}
@@ -25,7 +26,8 @@ has_option name options = is_some (option_place options name)
 abbrev pub option_renamed : List ℕ → List ℕ → List Opt → Result (List Opt) DeltaError
 option_renamed name new options =
     first_becomes (is_option name) NotFound
-    (λ option. if not (is_name_of Name new) then Err Invalid else if has_option new options then Err Duplicate else Ok (record option { name = new } ∷ []))
+    (λ option. if not (is_name_of Name new) then Err Invalid else if has_option new options then Err Duplicate
+    else Ok (record option { name = new } ∷ []))
     options
 
 -- items as a list, where there are any
@@ -45,7 +47,9 @@ with_left option (Some value) = record option { value = value } ∷ []
 
 -- the items that are equal go from an option, and an option that is not there lacks them
 abbrev pub without_item : List ℕ → List ℕ → List Opt → Result (List Opt) DeltaError
-without_item name item options = if has_option name options then first_becomes (is_option name) NotFound (λ option. Ok (with_left option (left_of item option.value))) options else Ok options
+without_item name item options = if has_option name options
+    then first_becomes (is_option name) NotFound (λ option. Ok (with_left option (left_of item option.value))) options
+    else Ok options
 
 -- where the name is one, and the value may be one
 abbrev pub where_valid : List ℕ → List ℕ → Result (List Opt) DeltaError → Result (List Opt) DeltaError

@@ -1,5 +1,5 @@
--- The parts of the text of a delta file (OpenWrt's uci). That a quote which does not end reaches to the end of the text, and that
--- there are no comments, are rules of our own.
+-- The parts of the text of a delta file (OpenWrt's uci). That a quote which does not end reaches to the end of the
+-- text, and that there are no comments, are rules of our own.
 use Rattle.std.specs.Prelude.{ℕ, ◌≡◌, ◌≢◌, IsTrue, List, [], ◌∷◌, ◌++◌}
 use Rattle.uci_text.specs.Byte.{newline}
 use Rattle.uci_text.specs.ByteClass.{ends_word}
@@ -11,8 +11,8 @@ pub data IsUncut (bytes : List ℕ) : Type 0 where
   in_word : (piece : Piece) → IsPiece piece → bytes ≡ piece_text piece → IsUncut bytes
   between : (byte : ℕ) → IsTrue (ends_word byte) → byte ≢ newline → bytes ≡ byte ∷ [] → IsUncut bytes
 
--- The text is cut into these parts, from its left on, at the newlines that stand in no piece. A piece that lacks its end
--- reaches to the end of the text.
+-- The text is cut into these parts, from its left on, at the newlines that stand in no piece. A piece that lacks its
+-- end reaches to the end of the text.
 pub data AreParts : List ℕ → List (List ℕ) → Type 0 where
   at_end : (text : List ℕ) (parts : List (List ℕ))
       → text ≡ [] → parts ≡ [] ∷ []

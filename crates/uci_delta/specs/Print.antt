@@ -85,4 +85,5 @@ shown_sign (ListDel item) = codes "-"
 
 -- a line of `changes`, without its newline
 abbrev pub shown : Delta → List ℕ
-shown delta = shown_mark delta.change ++ (place_text delta ++ (shown_sign delta.change ++ value_text (value_of delta.change)))
+shown delta = shown_mark delta.change
+    ++ (place_text delta ++ (shown_sign delta.change ++ value_text (value_of delta.change)))

@@ -14,7 +14,8 @@ abbrev pub IsCleanValue : Option (List ℕ) → Type 0
 IsCleanValue None = Unit {0}
 IsCleanValue (Some value) = AllIn NotZero value
 
--- a delta of this package that a line tells: its names are of their form, it has a shape, and its value has no zero byte
+-- a delta of this package that a line tells: its names are of their form, it has a shape, and its value has no zero
+-- byte
 pub record IsLine (name : List ℕ) (delta : Delta) : Type 0 where
   pub in_package : delta.package ≡ name
   pub named : IsNamed delta

@@ -8,7 +8,8 @@ use Rattle.uci_delta.specs.declared.quoting.Quoting.TheVariants.{Bare, BarePair,
 
 -- how a byte stands that comes behind this one
 abbrev pub behind : Quoting → ℕ → Quoting
-behind Bare byte = if nat_eq byte single_quote then Single else if nat_eq byte double_quote then Double else if nat_eq byte backslash then BarePair else Bare
+behind Bare byte = if nat_eq byte single_quote then Single else if nat_eq byte double_quote then Double
+    else if nat_eq byte backslash then BarePair else Bare
 behind BarePair byte = Bare
 behind Single byte = if nat_eq byte single_quote then Bare else Single
 behind Double byte = if nat_eq byte double_quote then Bare else if nat_eq byte backslash then DoublePair else Double

@@ -13,10 +13,12 @@ use std::collections::BTreeMap;
 use std::mem;
 use uci_tree::{Package, Section};
 
-/// Applies the deltas one after another, as [`crate::apply`] does, and passes over each one that is refused.
+/// Applies the deltas one after another, as [`crate::apply`] does, and passes over each one that is
+/// refused.
 ///
-/// The places of the sections are kept by name, so that an option or a new section of a package with many sections costs no
-/// look through them all. Once a section goes, moves or gets another name, each later delta looks through them.
+/// The places of the sections are kept by name, so that an option or a new section of a package
+/// with many sections costs no look through them all. Once a section goes, moves or gets another
+/// name, each later delta looks through them.
 ///
 /// # Errors
 ///
@@ -40,8 +42,8 @@ pub fn apply_all(alloc: Global, package: &mut Package, deltas: &[Delta]) -> Resu
     applied
 }
 
-/// The sections of a package while deltas are applied, the number of sections that were made, and the place of the first
-/// section of each name, where the places are known.
+/// The sections of a package while deltas are applied, the number of sections that were made, and
+/// the place of the first section of each name, where the places are known.
 #[derive(Drop)]
 struct Batch {
     sections: Vec<Section>,

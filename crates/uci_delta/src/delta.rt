@@ -6,8 +6,8 @@ use plane_io::Text;
 /// What a delta does to a section, or to an option in it.
 #[derive(Drop)]
 pub enum Change {
-    /// The section gets this type, and a named one is added where there is none; or the option gets this value, and an empty
-    /// value removes it.
+    /// The section gets this type, and a named one is added where there is none; or the option gets
+    /// this value, and an empty value removes it.
     Set(Text),
     /// The section or the option goes.
     Remove,
@@ -15,7 +15,8 @@ pub enum Change {
     Add(Text),
     /// The section or the option gets this name, and the section is named from then on.
     Rename(Text),
-    /// The section gets this place among the others, in decimal digits: from 0, and as the last one where the place is beyond.
+    /// The section gets this place among the others, in decimal digits: from 0, and as the last one
+    /// where the place is beyond.
     Reorder(Text),
     /// The option gets this item behind those that it has.
     ListAdd(Text),

@@ -12,8 +12,8 @@ pub enum DeltaError {
     /// What is to go, to move or to get a name is not there.
     #[error("not found")]
     NotFound,
-    /// A name, a type, a value or a place is not of its form, the section of an option is not there, or the delta is of no
-    /// shape.
+    /// A name, a type, a value or a place is not of its form, the section of an option is not
+    /// there, or the delta is of no shape.
     #[error("invalid")]
     Invalid,
     /// The name that a section or an option is to get is there.
@@ -25,7 +25,8 @@ pub enum DeltaError {
 }
 
 impl DeltaError {
-    /// The number of the kind of error: 20 for `NotFound`, 21 for `Invalid`, 22 for `Duplicate`, 8 for `Memory`.
+    /// The number of the kind of error: 20 for `NotFound`, 21 for `Invalid`, 22 for `Duplicate`, 8
+    /// for `Memory`.
     pub fn number(&self) -> u8
         ensures { result ≡ number_of self.now }
     {

@@ -1,6 +1,6 @@
 ghost use Rattle.std.specs.Prelude.{◌≡◌, ◌++◌, ℕ, List, Option, MatchOption, IsTrue, ◌↔◌};
 ghost use Rattle.std.specs.Option.{option_copied};
-ghost use Rattle.uci_text.specs.declared.byte_class.ByteClass.TheVariants.{Name as NameClass, PackageName as PackageClass};
+ghost use Rattle.uci_text.specs.declared.byte_class.ByteClass.TheVariants.{Name as NameClass};
 ghost use Rattle.uci_text.specs.Table.{IsNameOf};
 ghost use Rattle.uci_delta.specs.declared.head.Kind.{Kind};
 ghost use Rattle.uci_delta.specs.Head as spec;
@@ -80,7 +80,8 @@ fn fits(kind: Kind, option: Option<&[u8]>) -> bool
     }
 }
 
-/// The kind, the section and perhaps the option of the line of this package that has this in front of its value.
+/// The kind, the section and perhaps the option of the line of this package that has this in front
+/// of its value.
 pub fn read_head<'a>(package: &[u8], head: &'a [u8]) -> Option<(Kind, &'a [u8], Option<&'a [u8]>)>
     ensures { MatchOption result
         ((kind : Kind) (section : List ℕ) (option : Option (List ℕ)) →

@@ -16,14 +16,15 @@ pub fn valid_stays_valid()
         IsValid new }
 {}
 
-/// What deltas of a package are printed as, one a line, reads back as these deltas, where their names are of their form and
-/// their values have no zero byte.
+/// What deltas of a package are printed as, one a line, reads back as these deltas, where their
+/// names are of their form and their values have no zero byte.
 pub fn printed_deltas_read_back()
     ensures { (name : List ℕ) (deltas : List Delta) → AllByRecursion (IsLine name) deltas →
         AreDeltas name (lines_of deltas) deltas }
 {}
 
-/// Deltas that are read of a text are such deltas, so that what was read is written and read back as it is.
+/// Deltas that are read of a text are such deltas, so that what was read is written and read back
+/// as it is.
 pub fn read_deltas_are_lines()
     ensures { (name text : List ℕ) (deltas : List Delta) → AreDeltas name text deltas →
         AllByRecursion (IsLine name) deltas }

@@ -1,4 +1,5 @@
-//! Staged changes of UCI packages, as OpenWrt's `uci` keeps them: what each makes of a package, and their text.
+//! Staged changes of UCI packages, as OpenWrt's `uci` keeps them: what each makes of a package, and
+//! their text.
 #![tactic(auto)]
 
 mod applying;

@@ -1,4 +1,5 @@
-ghost use Rattle.std.specs.Prelude.{◌≡◌, [], ◌∷◌, ◌&&◌, false, IfOk, IfErr, OnOk, OnErr, Ok, Some, None, if◌then◌else◌};
+ghost use Rattle.std.specs.Prelude.{◌≡◌, [], ◌∷◌, ◌&&◌, false, IfOk, IfErr, OnOk, OnErr, Ok, Some};
+ghost use Rattle.std.specs.Prelude.{None, if◌then◌else◌};
 ghost use Rattle.uci_text.specs.declared.byte_class.ByteClass.TheVariants.{Name};
 ghost use Rattle.uci_tree.specs.Fold as fold;
 ghost use Rattle.uci_delta.specs.DeltaError.{IsRefusalOf};

@@ -8,8 +8,9 @@ use crate::{Change, Delta};
 use plane_io::{Memory, Text};
 use uci_text::quote_into;
 
-/// Appends the delta as a line of a delta file, without a newline: a sign that tells the kind of change, but none for `Set`;
-/// `PACKAGE.SECTION` or `PACKAGE.SECTION.OPTION`; and `=` with the quoted value where there is one.
+/// Appends the delta as a line of a delta file, without a newline: a sign that tells the kind of
+/// change, but none for `Set`; `PACKAGE.SECTION` or `PACKAGE.SECTION.OPTION`; and `=` with the
+/// quoted value where there is one.
 ///
 /// # Errors
 ///
@@ -36,8 +37,8 @@ fn append_delta(out: &mut Vec<u8>, delta: &Delta) -> Result<(), Memory>
     append_value(out, &delta.change)
 }
 
-/// Appends the delta as `uci changes` shows it, without a newline: as in a delta file, but that a removal alone has its sign,
-/// and that an item which comes has `+=`, and one which goes `-=`.
+/// Appends the delta as `uci changes` shows it, without a newline: as in a delta file, but that a
+/// removal alone has its sign, and that an item which comes has `+=`, and one which goes `-=`.
 ///
 /// # Errors
 ///

@@ -11,9 +11,10 @@ use std::alloc::Global;
 
 /// Reads the deltas of the package of this name from the text of a delta file.
 ///
-/// The text is cut at the newlines that stand in no quotes and behind no backslash; a quote that does not end reaches to the end
-/// of the text, and there are no comments. A part is a delta where it is one as [`crate::print_delta`] writes it, but that its
-/// value may be any word of UCI text. Any other part gives nothing, as does a delta of another package.
+/// The text is cut at the newlines that stand in no quotes and behind no backslash; a quote that
+/// does not end reaches to the end of the text, and there are no comments. A part is a delta where
+/// it is one as [`crate::print_delta`] writes it, but that its value may be any word of UCI text.
+/// Any other part gives nothing, as does a delta of another package.
 ///
 /// # Errors
 ///

@@ -1,4 +1,5 @@
-ghost use Rattle.std.specs.Prelude.{◌≡◌, ◌<◌, [], ◌∷◌, false, true, length, slice_index_or, Some, IfErr, OnOk, OnErr, Ok};
+ghost use Rattle.std.specs.Prelude.{◌≡◌, ◌<◌, [], ◌∷◌, false, true, length, slice_index_or, Some};
+ghost use Rattle.std.specs.Prelude.{IfErr, OnOk, OnErr, Ok};
 ghost use Rattle.std.specs.List.{remove};
 ghost use Rattle.uci_tree.specs.declared.package.Section.{Section};
 ghost use Rattle.uci_tree.specs.Find.{named_place as place_of_name};

@@ -20,7 +20,8 @@ use Rattle.uci_staged.specs.Kept.{IsStagedIn, AreStagedIn}
 
 -- ---- a filter behind another one
 
-within_step : {X : Type 0} (p q : X → Bool) (x : X) (xs : List X) → filter p (filter q xs) ≡ filter p xs → (a b : Bool) → p x ≡ a → (a ≡ true → b ≡ true) → filter p (cond {A = List X} b (x ∷ filter q xs) (filter q xs)) ≡ cond {A = List X} a (x ∷ filter p xs) (filter p xs)
+within_step : {X : Type 0} (p q : X → Bool) (x : X) (xs : List X) → filter p (filter q xs) ≡ filter p xs → (a b : Bool) → p x ≡ a → (a ≡ true → b ≡ true) → filter p (cond {A = List X} b (x ∷ filter q xs) (filter q xs))
+    ≡ cond {A = List X} a (x ∷ filter p xs) (filter p xs)
 within_step {X} p q x xs more true true e h = ap (λ (t : Bool). cond {A = List X} t (x ∷ filter p (filter q xs)) (filter p (filter q xs))) e ∙ ap (λ (l : List X). x ∷ l) more
 within_step {X} p q x xs more false true e h = ap (λ (t : Bool). cond {A = List X} t (x ∷ filter p (filter q xs)) (filter p (filter q xs))) e ∙ more
 within_step p q x xs more true false e h = absurd (let f : false ≡ true = h refl in cc)

@@ -16,7 +16,8 @@ use Rattle.uci_delta.proofs.PrintedLemmas.{lines_read}
 use Rattle.uci_staged.specs.declared.change.StagedChange.{StagedChange}
 use Rattle.uci_staged.specs.Change.{is_of, changes_at, deltas_in, stays, reverted, without, forgotten, kept_text}
 use Rattle.uci_staged.specs.Kept.{IsStagedIn, AreStagedIn, AreKept, Follows, ReadsOn, HasFilled, HasEmptied}
-use Rattle.uci_staged.proofs.ChangeLemmas.{Leaves, holder_of, file_of, other_number, and_false, each_filter, each_line, other_holder, other_file, reverted_leaves, without_leaves, forgotten_leaves, without_none, forgotten_none, all_stay, deltas-append, one_passed}
+use Rattle.uci_staged.proofs.ChangeLemmas.{Leaves, holder_of, file_of, other_number, and_false, each_filter, each_line, other_holder, other_file, reverted_leaves, without_leaves, forgotten_leaves, without_none, forgotten_none, all_stay}
+use Rattle.uci_staged.proofs.ChangeLemmas.{deltas-append, one_passed}
 
 -- ---- a disk that tells
 
@@ -123,10 +124,12 @@ staged_more old new changes after change sound follows lines kept staged grown f
 none_of : (holder file k : ℕ) (deltas : List Delta) → (nat_eq holder 0 && nat_eq file k) ≡ false → deltas_in 0 k (changes_at holder file deltas) ≡ []
 none_of holder file k [] e = refl
 none_of holder file k (delta ∷ deltas) e =
-    ap (λ (t : Bool). map (λ (c : StagedChange). c.delta) (cond {A = List StagedChange} t (record { holder = holder; file = file; delta = delta } ∷ filter (is_of 0 k) (changes_at holder file deltas)) (filter (is_of 0 k) (changes_at holder file deltas)))) e
+    ap (λ (t : Bool). map (λ (c : StagedChange). c.delta) (cond {A = List StagedChange} t (record { holder = holder; file = file; delta = delta } ∷ filter (is_of 0 k) (changes_at holder file deltas))
+    (filter (is_of 0 k) (changes_at holder file deltas)))) e
     ∙ none_of holder file k deltas e
 
-pub staged_all_more : (old new : View) (changes after : List StagedChange) (holder file : ℕ) (deltas : List Delta) → IsSound old → Follows old new → file < length old.names → AreStagedIn old.names changes → AreKept old changes → AreStagedIn old.names (changes_at holder file deltas)
+pub staged_all_more : (old new : View) (changes after : List StagedChange) (holder file : ℕ) (deltas : List Delta) → IsSound old → Follows old new → file < length old.names → AreStagedIn old.names changes → AreKept old changes
+    → AreStagedIn old.names (changes_at holder file deltas)
     → after ≡ changes ++ changes_at holder file deltas → (holder ≡ 0 → HasFilled old new file (kept_text file None after)) → (holder ≢ 0 → new ≡ old) → AreStagedIn new.names after × AreKept new after
 staged_all_more old new changes after holder file deltas sound follows within lines kept staged grown filled aside =
     let all : AreStagedIn old.names after = subst (AreStagedIn old.names) (sym grown) (each-append (IsStagedIn old.names) changes (changes_at holder file deltas) lines staged) in (
@@ -146,7 +149,8 @@ staged_all_more old new changes after holder file deltas sound follows within li
 
 -- of holder 0 in that file only what is left is kept, and the others stay
 pub dropped : (old new : View) (holder file : ℕ) (text : List ℕ) (changes after : List StagedChange) (q : StagedChange → Bool) → IsSound old → Follows old new → file < length old.names → AreStagedIn old.names changes → AreKept old changes
-    → after ≡ filter q changes → (holder ≡ 0 → HasFilled old new file text) → (holder ≢ 0 → new ≡ old) → (holder ≡ 0 → text ≡ lines_of (deltas_in 0 file after)) → ((k : ℕ) → Leaves holder file k → deltas_in 0 k after ≡ deltas_in 0 k changes)
+    → after ≡ filter q changes → (holder ≡ 0 → HasFilled old new file text) → (holder ≢ 0 → new ≡ old) → (holder ≡ 0 → text ≡ lines_of (deltas_in 0 file after))
+    → ((k : ℕ) → Leaves holder file k → deltas_in 0 k after ≡ deltas_in 0 k changes)
     → AreStagedIn new.names after × AreKept new after
 dropped old new holder file text changes after q sound follows within lines kept is filled aside whole leaves =
     let all : AreStagedIn old.names after = subst (AreStagedIn old.names) (sym is) (each_filter (IsStagedIn old.names) q changes lines) in (
@@ -191,5 +195,6 @@ forgotten_on old new holder changes after follows lines kept is emptied aside =
 pub reads_on : (old new : View) (changes : List StagedChange) → ReadsOn old new → AreStagedIn old.names changes → AreKept old changes → AreStagedIn new.names changes × AreKept new changes
 reads_on old new changes reads lines kept = (
   subst (λ (n : List (List ℕ)). AreStagedIn n changes) (sym reads.names) lines,
-  λ files seen k low below. subst (λ (n : List (List ℕ)). AreDeltas (name_at n k) (bytes_of files k) (deltas_in 0 k changes)) (sym reads.names) (kept files (sym reads.seen ∙ seen) k low (subst (λ (n : List (List ℕ)). k < length n) reads.names below)),
+  λ files seen k low below. subst (λ (n : List (List ℕ)). AreDeltas (name_at n k) (bytes_of files k) (deltas_in 0 k changes)) (sym reads.names)
+      (kept files (sym reads.seen ∙ seen) k low (subst (λ (n : List (List ℕ)). k < length n) reads.names below)),
 )

@@ -49,13 +49,15 @@ self_number n = grind (arith, nat_tests)
 own_here : (file : ℕ) (deltas : List Delta) → deltas_in 0 file (map (own_change file) deltas) ≡ deltas
 own_here file [] = refl
 own_here file (delta ∷ deltas) =
-    ap (λ (t : Bool). map (λ (c : StagedChange). c.delta) (cond {A = List StagedChange} t (own_change file delta ∷ filter (is_of 0 file) (map (own_change file) deltas)) (filter (is_of 0 file) (map (own_change file) deltas)))) (self_number file)
+    ap (λ (t : Bool). map (λ (c : StagedChange). c.delta) (cond {A = List StagedChange} t (own_change file delta ∷ filter (is_of 0 file) (map (own_change file) deltas)) (filter (is_of 0 file) (map (own_change file) deltas))))
+    (self_number file)
     ∙ ap (λ (l : List Delta). delta ∷ l) (own_here file deltas)
 
 own_there : (file k : ℕ) (deltas : List Delta) → file ≢ k → deltas_in 0 k (map (own_change file) deltas) ≡ []
 own_there file k [] n = refl
 own_there file k (delta ∷ deltas) n =
-    ap (λ (t : Bool). map (λ (c : StagedChange). c.delta) (cond {A = List StagedChange} t (own_change file delta ∷ filter (is_of 0 k) (map (own_change file) deltas)) (filter (is_of 0 k) (map (own_change file) deltas)))) (other_number file k n)
+    ap (λ (t : Bool). map (λ (c : StagedChange). c.delta) (cond {A = List StagedChange} t (own_change file delta ∷ filter (is_of 0 k) (map (own_change file) deltas)) (filter (is_of 0 k) (map (own_change file) deltas))))
+    (other_number file k n)
     ∙ own_there file k deltas n
 
 none_yet : (k : ℕ) (changes : List StagedChange) → AllByRecursion (λ (change : StagedChange). change.file < k) changes → deltas_in 0 k changes ≡ []
@@ -84,8 +86,10 @@ one_more view file old new low within so_far read =
     let own = map (own_change file) read.deltas in
     let P : (StagedChange → Type 0) → List StagedChange → Type 0 = λ Q l. AllByRecursion Q l in
     record {
-      lines = subst (AreStagedIn view.names) (sym read.grown) (each-append (IsStagedIn view.names) old own so_far.lines (own_lines view.names file read.deltas low within (read_lines (name_at view.names file) read.text read.deltas read.read)));
-      below = subst (P (λ change. change.file < file + 1)) (sym read.grown) (each-append (λ (change : StagedChange). change.file < file + 1) old own (each_below file old so_far.below) (each_own (λ change. change.file < file + 1) file read.deltas (λ delta. omega arith)));
+      lines = subst (AreStagedIn view.names) (sym read.grown)
+          (each-append (IsStagedIn view.names) old own so_far.lines (own_lines view.names file read.deltas low within (read_lines (name_at view.names file) read.text read.deltas read.read)));
+      below = subst (P (λ change. change.file < file + 1)) (sym read.grown)
+          (each-append (λ (change : StagedChange). change.file < file + 1) old own (each_below file old so_far.below) (each_own (λ change. change.file < file + 1) file read.deltas (λ delta. omega arith)));
       own = subst (P (λ change. change.holder ≡ 0)) (sym read.grown) (each-append (λ (change : StagedChange). change.holder ≡ 0) old own so_far.own (each_own (λ change. change.holder ≡ 0) file read.deltas (λ delta. refl)));
       kept = λ files seen k k_low below. subst (λ (l : List StagedChange). AreDeltas (name_at view.names k) (bytes_of files k) (deltas_in 0 k l)) (sym read.grown) (by files seen k k_low below (nat_eq k file) refl);
     }
@@ -93,12 +97,14 @@ one_more view file old new low within so_far read =
     by : (files : Files) → view.seen ≡ Some files → (k : ℕ) → 2 ≤ k → k < file + 1 → (t : Bool) → nat_eq k file ≡ t → AreDeltas (name_at view.names k) (bytes_of files k) (deltas_in 0 k (old ++ map (own_change file) read.deltas))
     by files seen k k_low below true e =
         let same : k ≡ file = grind (arith, nat_tests) in
-        let is : deltas_in 0 file (old ++ map (own_change file) read.deltas) ≡ read.deltas = deltas-append 0 file old (map (own_change file) read.deltas) ∙ ap (λ (l : List Delta). l ++ deltas_in 0 file (map (own_change file) read.deltas)) (none_yet file old so_far.below) ∙ own_here file read.deltas in
+        let is : deltas_in 0 file (old ++ map (own_change file) read.deltas) ≡ read.deltas = deltas-append 0 file old (map (own_change file) read.deltas)
+        ∙ ap (λ (l : List Delta). l ++ deltas_in 0 file (map (own_change file) read.deltas)) (none_yet file old so_far.below) ∙ own_here file read.deltas in
         subst (λ (j : ℕ). AreDeltas (name_at view.names j) (bytes_of files j) (deltas_in 0 j (old ++ map (own_change file) read.deltas))) (sym same)
         (subst (AreDeltas (name_at view.names file) (bytes_of files file)) (sym is) (subst (λ (t : List ℕ). AreDeltas (name_at view.names file) t read.deltas) (read.told files seen) read.read))
     by files seen k k_low below false e =
         let n : k ≢ file = λ s. let f : nat_eq k file ≡ true = ap (nat_eq k) (sym s) ∙ self_number k in let g : true ≡ false = sym f ∙ e in absurd cc in
-        let is : deltas_in 0 k (old ++ map (own_change file) read.deltas) ≡ deltas_in 0 k old = deltas-append 0 k old (map (own_change file) read.deltas) ∙ ap (λ (l : List Delta). deltas_in 0 k old ++ l) (own_there file k read.deltas (λ s. n (sym s))) ∙ append-nil (deltas_in 0 k old) in
+        let is : deltas_in 0 k (old ++ map (own_change file) read.deltas) ≡ deltas_in 0 k old = deltas-append 0 k old (map (own_change file) read.deltas)
+        ∙ ap (λ (l : List Delta). deltas_in 0 k old ++ l) (own_there file k read.deltas (λ s. n (sym s))) ∙ append-nil (deltas_in 0 k old) in
         subst (AreDeltas (name_at view.names k) (bytes_of files k)) (sym is) (so_far.kept files seen k k_low (omega (arith, below, n)))
 
 pub read_from : (old mid : View) (file : ℕ) (changes more : List StagedChange) → ReadsOn old mid → HasRead mid file changes more → HasRead old file changes more

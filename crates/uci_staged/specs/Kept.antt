@@ -66,7 +66,8 @@ HasFilled old new file bytes = (files : Files) → old.seen ≡ Some files → n
 
 -- and that all packages are empty
 abbrev pub HasEmptied : View → View → Type 0
-HasEmptied old new = (files : Files) → old.seen ≡ Some files → (now : Files) × (new.seen ≡ Some now) × ((file : ℕ) → 2 ≤ file → bytes_of now file ≡ [])
+HasEmptied old new = (files : Files) → old.seen ≡ Some files → (now : Files) × (new.seen ≡ Some now)
+    × ((file : ℕ) → 2 ≤ file → bytes_of now file ≡ [])
 
 -- where the holder is 0, the file has now the lines of what holder 0 has staged of its package
 abbrev pub IsKeptAt : ℕ → ℕ → View → View → List StagedChange → Type 0

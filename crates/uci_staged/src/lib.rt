@@ -1,4 +1,5 @@
-//! Changes of UCI packages that holders have staged, and the disk on which the command line's own are kept.
+//! Changes of UCI packages that holders have staged, and the disk on which the command line's own
+//! are kept.
 #![tactic(auto)]
 
 mod change;

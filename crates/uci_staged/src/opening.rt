@@ -14,7 +14,8 @@ use std::alloc::Global;
 use uci_delta::{Delta, read_deltas};
 
 impl Staged {
-    /// Reads what the command line, holder 0, has staged. What is no change in a text is passed over.
+    /// Reads what the command line, holder 0, has staged. What is no change in a text is passed
+    /// over.
     ///
     /// # Errors
     ///
@@ -47,7 +48,8 @@ fn read_changes<T: Disk>(
 ) -> Result<(), StagedError>
     requires { IsFile (T.view disk.old) file }
     ensures reads { ReadsOn (T.view disk.old) (T.view disk.new) }
-    ensures read { OnOk result (HasRead (T.view disk.old) file changes.old.items changes.new.items) }
+    ensures read { OnOk result
+        (HasRead (T.view disk.old) file changes.old.items changes.new.items) }
     ensures refused { IfErr result (DiskRefuses (T.view disk.old) (T.view disk.new)) }
 {
     let text = match read_file(alloc, disk, file) {
@@ -65,7 +67,8 @@ fn read_changes<T: Disk>(
 
 /// Adds changes of holder 0.
 fn push_all(changes: &mut Vec<StagedChange>, file: u32, deltas: Vec<Delta>) -> Result<(), Memory>
-    ensures { OnOk result (changes.new.items ≡ changes.old.items ++ map (own_change file) deltas.items) }
+    ensures { OnOk result (changes.new.items ≡ changes.old.items
+        ++ map (own_change file) deltas.items) }
 {
     for delta in deltas {
         changes.push(StagedChange {

@@ -10,8 +10,8 @@ use std::alloc::Global;
 use uci_delta::{Delta, apply_all};
 use uci_tree::Package;
 
-/// The changes that holders have staged. Those of holder 0, the command line, are kept on a disk as well, which is the one on
-/// which they were opened.
+/// The changes that holders have staged. Those of holder 0, the command line, are kept on a disk as
+/// well, which is the one on which they were opened.
 #[derive(Drop)]
 pub struct Staged {
     pub(crate) changes: Vec<StagedChange>,
@@ -49,7 +49,8 @@ impl Staged {
         self.changes.iter().any(|change| change.holder == holder)
     }
 
-    /// Applies what the holder has staged of the package to it, and passes over each change that is refused.
+    /// Applies what the holder has staged of the package to it, and passes over each change that is
+    /// refused.
     ///
     /// # Errors
     ///

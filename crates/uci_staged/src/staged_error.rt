@@ -1,6 +1,6 @@
 ghost use Rattle.std.specs.Prelude.{◌≡◌};
 ghost use Rattle.uci_staged.specs.StagedError.{number_of};
-ghost use Rattle.uci_staged.specs.declared.staged_error.StagedError.TheVariants.{Memory as NoMemory, DiskFailed as NoDisk};
+ghost use Rattle.uci_staged.specs.declared.staged_error.StagedError.TheVariants as refusal;
 
 use plane_io::{Failed, Memory};
 use std::alloc::{AllocError, AllocFailed};
@@ -30,7 +30,7 @@ impl StagedError {
 }
 
 impl From<Failed> for StagedError {
-    ghost from_gives = { λ _ e. e ≡ NoDisk };
+    ghost from_gives = { λ _ e. e ≡ refusal.DiskFailed };
 
     fn from(_error: Failed) -> StagedError {
         StagedError::DiskFailed
@@ -38,7 +38,7 @@ impl From<Failed> for StagedError {
 }
 
 impl From<Memory> for StagedError {
-    ghost from_gives = { λ _ e. e ≡ NoMemory };
+    ghost from_gives = { λ _ e. e ≡ refusal.Memory };
 
     fn from(_error: Memory) -> StagedError {
         StagedError::Memory
@@ -46,7 +46,7 @@ impl From<Memory> for StagedError {
 }
 
 impl From<AllocError> for StagedError {
-    ghost from_gives = { λ _ e. e ≡ NoMemory };
+    ghost from_gives = { λ _ e. e ≡ refusal.Memory };
 
     fn from(_error: AllocError) -> StagedError {
         StagedError::Memory
@@ -54,7 +54,7 @@ impl From<AllocError> for StagedError {
 }
 
 impl<T: Drop> From<AllocFailed<T>> for StagedError {
-    ghost from_gives = { λ _ e. e ≡ NoMemory };
+    ghost from_gives = { λ _ e. e ≡ refusal.Memory };
 
     fn from(_error: AllocFailed<T>) -> StagedError {
         StagedError::Memory

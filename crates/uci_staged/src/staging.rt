@@ -1,12 +1,16 @@
 //! How changes are staged and dropped.
-ghost use Rattle.std.specs.Prelude.{◌≡◌, ◌≢◌, ◌≤◌, ◌++◌, ◌∷◌, [], ℕ, List, Err, IfOk, IfErr, OnOk, OnErr};
+ghost use Rattle.std.specs.Prelude.{◌≡◌, ◌≢◌, ◌≤◌, ◌++◌, ◌∷◌, [], ℕ, List, Err, IfOk, IfErr, OnOk};
+ghost use Rattle.std.specs.Prelude.{OnErr};
 ghost use Rattle.std.specs.List.{AllByRecursion};
 ghost use Rattle.std.specs.Option.{option_copied};
 ghost use Rattle.plane_words.specs.Causes.{HasCause};
 ghost use Rattle.plane_disk.specs.View.{IsFile};
 ghost use Rattle.uci_delta.specs.Shape.{HasShape};
-ghost use Rattle.uci_staged.specs.Change.{changes_at as changes_of_deltas, reverted, without, forgotten, kept_text};
-ghost use Rattle.uci_staged.specs.Kept.{changes_of, IsStagedIn, AreStagedIn, IsStagedOn, Follows, ChangesFile, ChangesPackages, HasFilled, HasEmptied, IsKeptAt};
+ghost use Rattle.uci_staged.specs.Change.{changes_at as changes_of_deltas, reverted, without};
+ghost use Rattle.uci_staged.specs.Change.{forgotten, kept_text};
+ghost use Rattle.uci_staged.specs.Kept.{changes_of, IsStagedIn, AreStagedIn, IsStagedOn, Follows};
+ghost use Rattle.uci_staged.specs.Kept.{ChangesFile, ChangesPackages, HasFilled, HasEmptied};
+ghost use Rattle.uci_staged.specs.Kept.{IsKeptAt};
 ghost use Rattle.uci_staged.specs.StagedError.{KeepRefuses};
 
 use crate::file::{empty, fill};
@@ -20,7 +24,8 @@ use uci_delta::{Delta, print_delta};
 use uci_tree::Path;
 
 impl Staged {
-    /// Stages a change. Where it is one of holder 0, the file of its package is written anew and whole.
+    /// Stages a change. Where it is one of holder 0, the file of its package is written anew and
+    /// whole.
     ///
     /// # Errors
     ///
@@ -60,8 +65,8 @@ impl Staged {
         }
     }
 
-    /// Stages changes of the holder, of the package of that file, all of them or none. Where the holder is 0, the file is written
-    /// anew and whole, once.
+    /// Stages changes of the holder, of the package of that file, all of them or none. Where the
+    /// holder is 0, the file is written anew and whole, once.
     ///
     /// # Errors
     ///
@@ -233,7 +238,8 @@ fn changes_at(
     Ok(changes)
 }
 
-/// Keeps what the holder has staged of the package, but for what is dropped, where its changes are kept.
+/// Keeps what the holder has staged of the package, but for what is dropped, where its changes are
+/// kept.
 fn keep<T: Disk>(
     alloc: Global,
     disk: &mut T,
@@ -290,7 +296,8 @@ fn empty_own<T: Disk>(disk: &mut T, holder: u128, file: u32) -> Result<(), Faile
     requires { IsFile (T.view disk.old) file }
     ensures follows { Follows (T.view disk.old) (T.view disk.new) }
     ensures changes { ChangesFile file (T.view disk.old) (T.view disk.new) }
-    ensures filled { OnOk result (holder ≡ 0 → HasFilled (T.view disk.old) (T.view disk.new) file []) }
+    ensures filled { OnOk result
+        (holder ≡ 0 → HasFilled (T.view disk.old) (T.view disk.new) file []) }
     ensures cause { HasCause (T.view disk.old).faults (T.view disk.new).faults result }
     ensures own { OnErr result (holder ≡ 0) }
     ensures aside { holder ≢ 0 → disk.new ≡ disk.old }

@@ -47,7 +47,8 @@ stands_small store holder (one ∷ new) k all (inr h) = stands_small store holde
 pub start_found : (store : Store) (holder : ℕ) → AreSoFar store holder 2 [] None
 start_found store holder = record { read = λ k low below some. absurd (omega (arith, low, below)); found = (tt, λ k low below some. absurd (omega (arith, low, below))) }
 
-pub taken_on : (store : Store) (holder file next : ℕ) (new pushed : List NewFile) (one : NewFile) (large : Option ℕ) → next ≡ file + 1 → one.file ≡ file → IsNewFile store holder one → pushed ≡ new ++ one ∷ [] → AreSoFar store holder file new large → AreSoFar store holder next pushed large
+pub taken_on : (store : Store) (holder file next : ℕ) (new pushed : List NewFile) (one : NewFile) (large : Option ℕ) → next ≡ file + 1 → one.file ≡ file → IsNewFile store holder one → pushed ≡ new ++ one ∷ []
+    → AreSoFar store holder file new large → AreSoFar store holder next pushed large
 taken_on store holder file next new pushed one large step number is grown so_far = record {
   read = each_more store holder file next (HasView store holder) step so_far.read (λ some. subst (HasView store holder) number (is.view, is.seen));
   found = by large so_far.found;
@@ -61,7 +62,8 @@ taken_on store holder file next new pushed one large step number is grown so_far
     )
     by (Some bytes) found = found
 
-pub large_on : (store : Store) (holder file next bytes : ℕ) (new : List NewFile) (large : Option ℕ) → next ≡ file + 1 → 2 ≤ file → file < length (names_of store) + 2 → has_deltas holder file (staged_in store) ≡ true → IsSeenTooLarge store holder file bytes → AreSoFar store holder file new large
+pub large_on : (store : Store) (holder file next bytes : ℕ) (new : List NewFile) (large : Option ℕ) → next ≡ file + 1 → 2 ≤ file → file < length (names_of store) + 2 → has_deltas holder file (staged_in store) ≡ true
+    → IsSeenTooLarge store holder file bytes → AreSoFar store holder file new large
     → AreSoFar store holder next new (Some (unwrap_or large bytes))
 large_on store holder file next bytes new large step low number some is so_far = record {
   read = each_more store holder file next (HasView store holder) step so_far.read (λ _. (is.view, is.seen));

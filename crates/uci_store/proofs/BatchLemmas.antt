@@ -47,10 +47,12 @@ left_is tree all delta d i inside is =
     let split : drop i all ≡ delta ∷ drop (i + 1) all = drop-cons all i d inside ∙ ap (λ (x : Delta). x ∷ drop (suc i) all) (sym is) ∙ ap (λ (k : ℕ). delta ∷ drop k all) (suc-eq-add-one i) in
     ap (taken_from (Ok tree)) split
 
-pub one_taken : (start tree next : Package) (all : List Delta) (delta d : Delta) (i : ℕ) → i < length all → delta ≡ get_or all i d → all_taken start all ≡ taken_from (Ok tree) (drop i all) → applied tree delta ≡ Ok next → all_taken start all ≡ taken_from (Ok next) (drop (i + 1) all)
+pub one_taken : (start tree next : Package) (all : List Delta) (delta d : Delta) (i : ℕ) → i < length all → delta ≡ get_or all i d → all_taken start all ≡ taken_from (Ok tree) (drop i all) → applied tree delta ≡ Ok next
+    → all_taken start all ≡ taken_from (Ok next) (drop (i + 1) all)
 one_taken start tree next all delta d i inside is so_far takes = so_far ∙ left_is tree all delta d i inside is ∙ ap (λ (r : Result Package DeltaError). taken_from r (drop (i + 1) all)) takes
 
-pub one_refused : (start tree : Package) (all : List Delta) (delta d : Delta) (error : DeltaError) (i : ℕ) → i < length all → delta ≡ get_or all i d → all_taken start all ≡ taken_from (Ok tree) (drop i all) → IsRefusalOf (applied tree delta) error → IsRefusalOf (all_taken start all) error
+pub one_refused : (start tree : Package) (all : List Delta) (delta d : Delta) (error : DeltaError) (i : ℕ) → i < length all → delta ≡ get_or all i d → all_taken start all ≡ taken_from (Ok tree) (drop i all)
+    → IsRefusalOf (applied tree delta) error → IsRefusalOf (all_taken start all) error
 one_refused start tree all delta d error i inside is so_far why = by error why
   where
     refused : (e : DeltaError) → applied tree delta ≡ Err e → all_taken start all ≡ Err e
@@ -65,8 +67,10 @@ one_refused start tree all delta d error i inside is so_far why = by error why
 -- ---- deltas that the view takes
 
 -- each of them is staged on the disk
-lines_step : (store : Store) (view : View) (tree taken : Package) (holder file : ℕ) (name : List ℕ) (delta : Delta) (deltas : List Delta) → IsOnStaged store view → 2 ≤ file → file < length (names_of store) + 2 → name_of (names_of store) file ≡ name → IsValid tree → IsOf name delta → all_taken tree (delta ∷ deltas) ≡ Ok taken
-    → ((next : Package) → IsValid next → all_taken next deltas ≡ Ok taken → AreStagedIn view.names (changes_at holder file deltas)) → (r : Result Package DeltaError) → applied tree delta ≡ r → AreStagedIn view.names (changes_at holder file (delta ∷ deltas))
+lines_step : (store : Store) (view : View) (tree taken : Package) (holder file : ℕ) (name : List ℕ) (delta : Delta) (deltas : List Delta) → IsOnStaged store view → 2 ≤ file → file < length (names_of store) + 2
+    → name_of (names_of store) file ≡ name → IsValid tree → IsOf name delta → all_taken tree (delta ∷ deltas) ≡ Ok taken
+    → ((next : Package) → IsValid next → all_taken next deltas ≡ Ok taken → AreStagedIn view.names (changes_at holder file deltas)) → (r : Result Package DeltaError) → applied tree delta ≡ r
+    → AreStagedIn view.names (changes_at holder file (delta ∷ deltas))
 lines_step store view tree taken holder file name delta deltas on low number named valid one takes others (Ok next) e = (
   stage_change store view tree next holder file delta on low number (named ∙ sym one) valid e,
   others next (applied_valid tree next delta valid e) (ap (λ (r : Result Package DeltaError). taken_from r deltas) (sym e) ∙ takes),
@@ -74,7 +78,8 @@ lines_step store view tree taken holder file name delta deltas on low number nam
 lines_step store view tree taken holder file name delta deltas on low number named valid one takes others (Err error) e =
     absurd (let f : ◌≡◌ {A = Result Package DeltaError} (Err error) (Ok taken) = sym (stops error deltas) ∙ ap (λ (r : Result Package DeltaError). taken_from r deltas) (sym e) ∙ takes in cc)
 
-pub batch_lines : (store : Store) (view : View) (tree taken : Package) (holder file : ℕ) (name : List ℕ) (deltas : List Delta) → IsOnStaged store view → 2 ≤ file → file < length (names_of store) + 2 → name_of (names_of store) file ≡ name → IsValid tree → AllByRecursion (IsOf name) deltas → all_taken tree deltas ≡ Ok taken
+pub batch_lines : (store : Store) (view : View) (tree taken : Package) (holder file : ℕ) (name : List ℕ) (deltas : List Delta) → IsOnStaged store view → 2 ≤ file → file < length (names_of store) + 2 → name_of (names_of store) file ≡ name
+    → IsValid tree → AllByRecursion (IsOf name) deltas → all_taken tree deltas ≡ Ok taken
     → AreStagedIn view.names (changes_at holder file deltas)
 batch_lines store view tree taken holder file name [] on low number named valid each takes = tt
 batch_lines store view tree taken holder file name (delta ∷ deltas) on low number named valid each takes =
@@ -83,7 +88,8 @@ batch_lines store view tree taken holder file name (delta ∷ deltas) on low num
 
 -- ---- deltas that it does not take
 
-does_not_take : (store : Store) (holder file : ℕ) (name : List ℕ) (deltas : List Delta) (view : Package) (error : DeltaError) → HasFile store name file → IsSeenAt store holder file view → all_taken view deltas ≡ Err error → DoesNotTakeBatch store holder name deltas error
+does_not_take : (store : Store) (holder file : ℕ) (name : List ℕ) (deltas : List Delta) (view : Package) (error : DeltaError) → HasFile store name file → IsSeenAt store holder file view → all_taken view deltas ≡ Err error
+    → DoesNotTakeBatch store holder name deltas error
 does_not_take store holder file name deltas view error number seen why = record {
   view = view;
   seen = record { file = file; number = number; seen = seen };
@@ -91,7 +97,8 @@ does_not_take store holder file name deltas view error number seen why = record 
 }
 
 -- the view did not take one of them, or there was no memory
-pub batch_not_taken : (store : Store) (holder file : ℕ) (name : List ℕ) (deltas : List Delta) (view : Package) (old new : View) (error : DeltaError) (answer : StoreError) → has_failed store ≡ false → HasFile store name file → IsSeenAt store holder file view → IsRefusalOf (all_taken view deltas) error
+pub batch_not_taken : (store : Store) (holder file : ℕ) (name : List ℕ) (deltas : List Delta) (view : Package) (old new : View) (error : DeltaError) (answer : StoreError) → has_failed store ≡ false → HasFile store name file
+    → IsSeenAt store holder file view → IsRefusalOf (all_taken view deltas) error
     → (error ≡ DeltaMemory → answer ≡ Memory) × (error ≢ DeltaMemory → answer ≡ NotTaken error) → BatchRefuses store holder name deltas old new answer
 batch_not_taken store holder file name deltas view old new NotFound answer ready number seen why from =
     subst (BatchRefuses store holder name deltas old new) (sym (from.1 (λ e. cc))) (ready, does_not_take store holder file name deltas view NotFound number seen why)
@@ -103,7 +110,8 @@ batch_not_taken store holder file name deltas view old new DeltaMemory answer re
     subst (BatchRefuses store holder name deltas old new) (sym (from.0 refl)) (ready, (file, number))
 
 -- the view took them, and the disk failed or there was no memory
-pub batch_not_kept : (store : Store) (holder file : ℕ) (name : List ℕ) (deltas : List Delta) (view taken : Package) (old new : View) (was now : Bool) (error : StagedError) (answer : StoreError) → has_failed store ≡ false → HasFile store name file → IsSeenAt store holder file view → all_taken view deltas ≡ Ok taken
+pub batch_not_kept : (store : Store) (holder file : ℕ) (name : List ℕ) (deltas : List Delta) (view taken : Package) (old new : View) (was now : Bool) (error : StagedError) (answer : StoreError) → has_failed store ≡ false
+    → HasFile store name file → IsSeenAt store holder file view → all_taken view deltas ≡ Ok taken
     → KeepRefuses holder old new error → IsDiskAnswer error answer was now → BatchRefuses store holder name deltas old new answer
 batch_not_kept store holder file name deltas view taken old new was now StagedFailed answer ready number seen takes why from =
     subst (BatchRefuses store holder name deltas old new) (sym from.0)
@@ -149,7 +157,8 @@ applied_more tree [] delta = refl
 applied_more tree (first ∷ deltas) delta = applied_more (or_before tree (applied tree first)) deltas delta
 
 -- behind a change that the view took, the holder sees what the view became
-next_seen : (old mid : Store) (holder file : ℕ) (view taken next : Package) (delta : Delta) → HasSameFiles old mid → staged_in mid ≡ staged_in old ++ record { holder = holder; file = file; delta = delta } ∷ [] → IsSeenAt old holder file view → applied view delta ≡ Ok taken → IsSeenAt mid holder file next → next ≡ taken
+next_seen : (old mid : Store) (holder file : ℕ) (view taken next : Package) (delta : Delta) → HasSameFiles old mid → staged_in mid ≡ staged_in old ++ record { holder = holder; file = file; delta = delta } ∷ []
+    → IsSeenAt old holder file view → applied view delta ≡ Ok taken → IsSeenAt mid holder file next → next ≡ taken
 next_seen old mid holder file view taken next delta same grown seen takes behind =
     let more : deltas_in holder file (staged_in mid) ≡ deltas_in holder file (staged_in old) ++ delta ∷ [] = ap (deltas_in holder file) grown ∙ deltas_more holder file (staged_in old) delta in
     let ds = deltas_in holder file (staged_in old) in
@@ -169,7 +178,8 @@ record GoesOn (old mid : Store) (holder file : ℕ) (name : List ℕ) (delta : D
   pub takes : applied view delta ≡ Ok next
   pub grown : staged_in mid ≡ staged_in old ++ record { holder = holder; file = file; delta = delta } ∷ []
 
-goes_on : (old mid : Store) (holder file : ℕ) (name : List ℕ) (delta : Delta) (next : Package) → IsOf name delta → HasSameFiles old mid → HasStaged old mid holder delta → HasFile mid name file → IsSeenAt mid holder file next → GoesOn old mid holder file name delta next
+goes_on : (old mid : Store) (holder file : ℕ) (name : List ℕ) (delta : Delta) (next : Package) → IsOf name delta → HasSameFiles old mid → HasStaged old mid holder delta → HasFile mid name file → IsSeenAt mid holder file next
+    → GoesOn old mid holder file name delta next
 goes_on old mid holder file name delta next one same first number seen =
     let there : HasFile old name file = file_there old mid name file same number in
     let named : HasFile old name first.file = ap (λ (z : List ℕ). file_of (names_of old) z) (sym one) ∙ first.number in
@@ -184,7 +194,8 @@ goes_on old mid holder file name delta next one same first number seen =
       grown = grown;
     }
 
-pub one_then_others : (old mid new : Store) (holder : ℕ) (name : List ℕ) (delta : Delta) (deltas : List Delta) → IsOf name delta → HasSameFiles old mid → HasStaged old mid holder delta → HasStagedBatch mid new holder name deltas → HasStagedBatch old new holder name (delta ∷ deltas)
+pub one_then_others : (old mid new : Store) (holder : ℕ) (name : List ℕ) (delta : Delta) (deltas : List Delta) → IsOf name delta → HasSameFiles old mid → HasStaged old mid holder delta → HasStagedBatch mid new holder name deltas
+    → HasStagedBatch old new holder name (delta ∷ deltas)
 one_then_others old mid new holder name delta deltas one same first rest =
     let on = goes_on old mid holder rest.file name delta rest.view one same first rest.number rest.seen in
     record {
@@ -195,7 +206,8 @@ one_then_others old mid new holder name delta deltas one same first rest =
       seen = on.seen;
       taken = rest.taken;
       takes = ap (λ (r : Result Package DeltaError). taken_from r deltas) on.takes ∙ rest.takes;
-      staged = rest.staged ∙ ap (λ (z : List StagedChange). z ++ changes_at holder rest.file deltas) on.grown ∙ append_assoc (staged_in old) (record { holder = holder; file = rest.file; delta = delta } ∷ []) (changes_at holder rest.file deltas);
+      staged = rest.staged ∙ ap (λ (z : List StagedChange). z ++ changes_at holder rest.file deltas) on.grown
+          ∙ append_assoc (staged_in old) (record { holder = holder; file = rest.file; delta = delta } ∷ []) (changes_at holder rest.file deltas);
     }
 
 pub first_refused : (store : Store) (holder : ℕ) (name : List ℕ) (delta : Delta) (deltas : List Delta) (error : DeltaError) → IsOf name delta → DoesNotTake store holder delta error → DoesNotTakeBatch store holder name (delta ∷ deltas) error
@@ -203,7 +215,8 @@ first_refused store holder name delta deltas error one h =
     does_not_take store holder h.seen.file name (delta ∷ deltas) h.view error (ap (λ (z : List ℕ). file_of (names_of store) z) (sym one) ∙ h.seen.number) h.seen.seen
     (ap (λ (r : Result Package DeltaError). taken_from r deltas) h.refused ∙ stops error deltas)
 
-pub later_refused : (old mid : Store) (holder : ℕ) (name : List ℕ) (delta : Delta) (deltas : List Delta) (error : DeltaError) → IsOf name delta → HasSameFiles old mid → HasStaged old mid holder delta → DoesNotTakeBatch mid holder name deltas error → DoesNotTakeBatch old holder name (delta ∷ deltas) error
+pub later_refused : (old mid : Store) (holder : ℕ) (name : List ℕ) (delta : Delta) (deltas : List Delta) (error : DeltaError) → IsOf name delta → HasSameFiles old mid → HasStaged old mid holder delta
+    → DoesNotTakeBatch mid holder name deltas error → DoesNotTakeBatch old holder name (delta ∷ deltas) error
 later_refused old mid holder name delta deltas error one same first h =
     let on = goes_on old mid holder h.seen.file name delta h.view one same first h.seen.number h.seen.seen in
     does_not_take old holder h.seen.file name (delta ∷ deltas) on.view error on.number on.seen

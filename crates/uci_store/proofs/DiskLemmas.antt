@@ -62,3 +62,7 @@ staged_stay old new view on is names staged failed = record {
   lines = subst (AreStagedIn view.names) (sym staged) on.lines;
   kept = λ good. subst (AreKept view) (sym staged) (on.kept (failed good));
 }
+
+pub ruleset files_goodness = (files_stay, still_good)
+
+pub ruleset staged_goodness = (staged_stay, still_good)

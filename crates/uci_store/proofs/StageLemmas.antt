@@ -13,7 +13,8 @@ use Rattle.uci_store.specs.declared.store_error.StoreError.TheVariants.{Delta as
 use Rattle.uci_store.specs.Store.{has_failed}
 use Rattle.uci_store.specs.Refusals.{HasFile, IsSeenAt, DoesNotTake, StageRefuses}
 
-does_not_take : (store : Store) (holder file : ℕ) (delta : Delta) (view : Package) (error : DeltaError) → HasFile store delta.package file → IsSeenAt store holder file view → applied view delta ≡ Err error → DoesNotTake store holder delta error
+does_not_take : (store : Store) (holder file : ℕ) (delta : Delta) (view : Package) (error : DeltaError) → HasFile store delta.package file → IsSeenAt store holder file view → applied view delta ≡ Err error
+    → DoesNotTake store holder delta error
 does_not_take store holder file delta view error number seen why = record {
   view = view;
   seen = record { file = file; number = number; seen = seen };
@@ -21,7 +22,8 @@ does_not_take store holder file delta view error number seen why = record {
 }
 
 -- the view did not take the change, or there was no memory
-pub not_taken : (store : Store) (holder file : ℕ) (delta : Delta) (view : Package) (old new : View) (error : DeltaError) (answer : StoreError) → has_failed store ≡ false → HasFile store delta.package file → IsSeenAt store holder file view → IsRefusalOf (applied view delta) error
+pub not_taken : (store : Store) (holder file : ℕ) (delta : Delta) (view : Package) (old new : View) (error : DeltaError) (answer : StoreError) → has_failed store ≡ false → HasFile store delta.package file → IsSeenAt store holder file view
+    → IsRefusalOf (applied view delta) error
     → (error ≡ DeltaMemory → answer ≡ Memory) × (error ≢ DeltaMemory → answer ≡ NotTaken error) → StageRefuses store holder delta old new answer
 not_taken store holder file delta view old new NotFound answer ready number seen why from =
     subst (StageRefuses store holder delta old new) (sym (from.1 (λ e. cc))) (ready, does_not_take store holder file delta view NotFound number seen why)

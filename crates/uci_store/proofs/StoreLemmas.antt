@@ -73,7 +73,8 @@ name_there view names file same low =
     sym (ap (λ (k : ℕ). get_or view.names k []) two) ∙ sym (get_or-drop 2 view.names (file - 2) []) ∙ ap (λ (l : List (List ℕ)). get_or l (file - 2) []) same
 
 -- what a view takes is staged on the disk
-pub stage_change : (store : Store) (view : View) (tree taken : Package) (holder file : ℕ) (delta : Delta) → IsOnStaged store view → 2 ≤ file → file < length (names_of store) + 2 → name_of (names_of store) file ≡ delta.package → IsValid tree → applied tree delta ≡ Ok taken
+pub stage_change : (store : Store) (view : View) (tree taken : Package) (holder file : ℕ) (delta : Delta) → IsOnStaged store view → 2 ≤ file → file < length (names_of store) + 2 → name_of (names_of store) file ≡ delta.package → IsValid tree
+    → applied tree delta ≡ Ok taken
     → IsStagedIn view.names (record { holder = holder; file = file; delta = delta })
 stage_change store view tree taken holder file delta on low number name valid takes = record {
   low = low;
@@ -103,7 +104,8 @@ opened_files store view opened good names named = record {
   ready = λ _. good;
 }
 
-pub opened_staged : (store : Store) (view staged : View) → IsOpenOn (snap_of store) view → names_of store ≡ drop 2 view.names → AllByRecursion (IsNameOf PackageName) (names_of store) → staged.names ≡ view.names → AreStagedIn staged.names (staged_in store) → AreKept staged (staged_in store) → IsOnStaged store staged
+pub opened_staged : (store : Store) (view staged : View) → IsOpenOn (snap_of store) view → names_of store ≡ drop 2 view.names → AllByRecursion (IsNameOf PackageName) (names_of store) → staged.names ≡ view.names
+    → AreStagedIn staged.names (staged_in store) → AreKept staged (staged_in store) → IsOnStaged store staged
 opened_staged store view staged opened names named same lines kept = record {
   is = opened_is store view opened names named;
   names = ap (drop 2) same ∙ sym names;

@@ -66,7 +66,8 @@ pub record AreReadAndLarge (store : Store) (holder bytes : ℕ) : Type 0 where
 
 -- new files of these packages, or the size of the first that does not fit
 abbrev pub FoundSoFar : Store → ℕ → ℕ → List NewFile → Option ℕ → Type 0
-FoundSoFar store holder file new None = AllByRecursion (IsNewFile store holder) new × EachBefore store holder file (Stands new)
+FoundSoFar store holder file new None = AllByRecursion (IsNewFile store holder) new
+    × EachBefore store holder file (Stands new)
 FoundSoFar store holder file new (Some bytes) = IsFirstLarge store holder bytes
 
 -- the packages before that file, of which the holder has staged something, were gone through
@@ -94,14 +95,15 @@ pub record HasApplied (old new : Store) (holder : ℕ) (deadline : Option ℕ) :
   pub leads : AppliesTo old holder deadline (files_of new)
   pub staged : staged_in new ≡ forgotten holder (staged_in old)
 
--- why there are no new files, in the order of these causes: one of the packages does not read; they do, and one does not fit
+-- why there are no new files, in the order of these causes: one of the packages does not read; they do, and one does
+-- not fit
 abbrev pub NewFilesRefuse : Store → ℕ → StoreError → Type 0
 NewFilesRefuse store holder error =
     ((fault : TreeError) × (error ≡ Parse fault) × IsFirstUnread store holder fault)
     ⊎ ((bytes : ℕ) × (error ≡ TooLarge bytes) × AreReadAndLarge store holder bytes) ⊎ (error ≡ Memory)
 
--- why an apply is refused before it writes, in the order of these causes: a call has failed; an apply waits; the holder has
--- staged nothing; there are no new files
+-- why an apply is refused before it writes, in the order of these causes: a call has failed; an apply waits; the holder
+-- has staged nothing; there are no new files
 abbrev pub ApplyStops : Store → ℕ → StoreError → Type 0
 ApplyStops store holder (Snap Reopen) = has_failed store ≡ true
 ApplyStops store holder (Snap (Waiting deadline)) = IsWaiting store deadline

@@ -10,7 +10,8 @@ use Rattle.uci_delta.specs.Applied.{applied}
 use Rattle.uci_staged.specs.Change.{changes_at}
 use Rattle.uci_store.specs.declared.store.Store.{Store}
 use Rattle.uci_store.specs.declared.store_error.StoreError.{StoreError}
-use Rattle.uci_store.specs.declared.store_error.StoreError.TheVariants.{Snap, NoPackage, Parse, Delta as NotTaken, Memory}
+use Rattle.uci_store.specs.declared.store_error.StoreError.TheVariants.{Snap, NoPackage, Parse, Delta as NotTaken}
+use Rattle.uci_store.specs.declared.store_error.StoreError.TheVariants.{Memory}
 use Rattle.uci_store.specs.Store.{names_of, files_of, staged_in, has_failed}
 use Rattle.uci_store.specs.Refusals.{HasFile, HasNoFile, HasSomeFile, IsSeenAt, IsSeen, DoesNotRead}
 
@@ -43,7 +44,8 @@ pub record HasStagedBatch (old new : Store) (holder : ℕ) (name : List ℕ) (de
   pub staged : staged_in new ≡ staged_in old ++ changes_at holder file deltas
 
 -- the view does not take one of the deltas, and this is why the first of those is refused
-pub record DoesNotTakeBatch (store : Store) (holder : ℕ) (name : List ℕ) (deltas : List Delta) (error : DeltaError) : Type 0 where
+pub record DoesNotTakeBatch (store : Store) (holder : ℕ) (name : List ℕ) (deltas : List Delta) (error : DeltaError)
+    : Type 0 where
   pub view : Package
   pub seen : IsSeen store holder name view
   pub refused : all_taken view deltas ≡ Err error
@@ -60,8 +62,10 @@ abbrev pub BatchRefuses : Store → ℕ → List ℕ → List Delta → View →
 BatchRefuses store holder name deltas old new (Snap Reopen) = has_failed store ≡ true
 BatchRefuses store holder name deltas old new NoPackage = (has_failed store ≡ false) × HasNoFile store name
 BatchRefuses store holder name deltas old new (Parse error) = (has_failed store ≡ false) × DoesNotRead store name error
-BatchRefuses store holder name deltas old new (NotTaken error) = (has_failed store ≡ false) × DoesNotTakeBatch store holder name deltas error
-BatchRefuses store holder name deltas old new (Snap DiskFailed) = (has_failed store ≡ false) × (holder ≡ 0) × TakesBatch store holder name deltas × Rose old.faults new.faults
+BatchRefuses store holder name deltas old new (NotTaken error) = (has_failed store ≡ false)
+    × DoesNotTakeBatch store holder name deltas error
+BatchRefuses store holder name deltas old new (Snap DiskFailed) = (has_failed store ≡ false) × (holder ≡ 0)
+    × TakesBatch store holder name deltas × Rose old.faults new.faults
 BatchRefuses store holder name deltas old new Memory = (has_failed store ≡ false) × HasSomeFile store name
 BatchRefuses store holder name deltas old new error = ⊥
 

@@ -168,14 +168,15 @@ pub record OfWaiting (store : Store) (name : List ℕ) (deadline : ℕ) : Type 0
   pub file : ℕ
   pub number : HasFile store name file
 
--- why a commit is refused before it writes, in the order of these causes: a call has failed; no file has the name; an apply
--- waits; where something is staged, the file does not read, or what is seen does not fit
+-- why a commit is refused before it writes, in the order of these causes: a call has failed; no file has the name; an
+-- apply waits; where something is staged, the file does not read, or what is seen does not fit
 abbrev pub CommitStops : Store → ℕ → List ℕ → StoreError → Type 0
 CommitStops store holder name (Snap Reopen) = has_failed store ≡ true
 CommitStops store holder name NoPackage = (has_failed store ≡ false) × HasNoFile store name
 CommitStops store holder name (Snap (Waiting deadline)) = OfWaiting store name deadline
 CommitStops store holder name (Parse error) = OfStaged store holder name (λ file. LacksReading store file error)
-CommitStops store holder name (TooLarge bytes) = OfStaged store holder name (λ file. IsSeenTooLarge store holder file bytes)
+CommitStops store holder name (TooLarge bytes) =
+    OfStaged store holder name (λ file. IsSeenTooLarge store holder file bytes)
 CommitStops store holder name Memory = OfStaged store holder name (λ file. Unit {0})
 CommitStops store holder name error = ⊥
 
@@ -183,7 +184,8 @@ CommitStops store holder name error = ⊥
 abbrev pub CommitRefuses : Store → ℕ → List ℕ → View → View → View → View → StoreError → Type 0
 CommitRefuses store holder name files_old files_new staged_old staged_new error =
     CommitStops store holder name error
-    ⊎ ((error ≡ Snap DiskFailed) × OfStaged store holder name (λ file. DiskRose holder files_old files_new staged_old staged_new))
+    ⊎ ((error ≡ Snap DiskFailed)
+    × OfStaged store holder name (λ file. DiskRose holder files_old files_new staged_old staged_new))
 
 -- why a replacement is refused before it writes, in the order of these causes
 abbrev pub ReplaceStops : Store → Package → StoreError → Type 0

@@ -15,7 +15,8 @@ AreOwn changes = AllByRecursion (λ change. change.holder ≡ 0) changes
 
 -- what opening the files is refused for; one of the disks failed; or there was no memory
 abbrev pub OpenRefuses : View → View → View → View → ℕ → StoreError → Type 0
-OpenRefuses files_old files_new staged_old staged_new now (Snap DiskFailed) = Rose files_old.faults files_new.faults ⊎ Rose staged_old.faults staged_new.faults
+OpenRefuses files_old files_new staged_old staged_new now (Snap DiskFailed) =
+    Rose files_old.faults files_new.faults ⊎ Rose staged_old.faults staged_new.faults
 OpenRefuses files_old files_new staged_old staged_new now (Snap SnapMemory) = ⊥
 OpenRefuses files_old files_new staged_old staged_new now (Snap error) = Refuses files_old files_new now error
 OpenRefuses files_old files_new staged_old staged_new now Memory = Unit {0}

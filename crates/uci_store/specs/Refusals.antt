@@ -13,7 +13,8 @@ use Rattle.uci_delta.specs.Batch.{all_applied}
 use Rattle.uci_staged.specs.Change.{deltas_in}
 use Rattle.uci_store.specs.declared.store.Store.{Store}
 use Rattle.uci_store.specs.declared.store_error.StoreError.{StoreError}
-use Rattle.uci_store.specs.declared.store_error.StoreError.TheVariants.{Snap, NoPackage, Parse, Delta as NotTaken, Memory}
+use Rattle.uci_store.specs.declared.store_error.StoreError.TheVariants.{Snap, NoPackage, Parse, Delta as NotTaken}
+use Rattle.uci_store.specs.declared.store_error.StoreError.TheVariants.{Memory}
 use Rattle.uci_store.specs.Store.{names_of, files_of, staged_in, has_failed, file_of, name_of, text_of}
 
 -- a call has failed before
@@ -36,8 +37,8 @@ HasSomeFile store name = (file : ℕ) × HasFile store name file
 abbrev pub ReadsAt : Store → ℕ → Package → Type 0
 ReadsAt store file tree = Reads (name_of (names_of store) file) (text_of (files_of store) file) tree
 
--- the package of that file as the holder sees it: what the holder has staged of it, applied in its order, where what is refused
--- is passed over
+-- the package of that file as the holder sees it: what the holder has staged of it, applied in its order, where what is
+-- refused is passed over
 pub record IsSeenAt (store : Store) (holder file : ℕ) (view : Package) : Type 0 where
   pub base : Package
   pub reads : ReadsAt store file base
@@ -61,7 +62,8 @@ LacksReading store file error = HasTreeFault (text_of (files_of store) file) err
 
 -- why the package of a file is not read
 abbrev pub FileRefuses : Store → ℕ → StoreError → Type 0
-FileRefuses store file error = ((fault : TreeError) × (error ≡ Parse fault) × LacksReading store file fault) ⊎ (error ≡ Memory)
+FileRefuses store file error = ((fault : TreeError) × (error ≡ Parse fault) × LacksReading store file fault) ⊎
+    (error ≡ Memory)
 
 -- the package's file does not read
 pub record DoesNotRead (store : Store) (name : List ℕ) (error : TreeError) : Type 0 where
@@ -104,9 +106,12 @@ pub record Takes (store : Store) (holder : ℕ) (delta : Delta) : Type 0 where
 abbrev pub StageRefuses : Store → ℕ → Delta → View → View → StoreError → Type 0
 StageRefuses store holder delta old new (Snap Reopen) = has_failed store ≡ true
 StageRefuses store holder delta old new NoPackage = (has_failed store ≡ false) × HasNoFile store delta.package
-StageRefuses store holder delta old new (Parse error) = (has_failed store ≡ false) × DoesNotRead store delta.package error
-StageRefuses store holder delta old new (NotTaken error) = (has_failed store ≡ false) × DoesNotTake store holder delta error
-StageRefuses store holder delta old new (Snap DiskFailed) = (has_failed store ≡ false) × (holder ≡ 0) × Takes store holder delta × Rose old.faults new.faults
+StageRefuses store holder delta old new (Parse error) = (has_failed store ≡ false)
+    × DoesNotRead store delta.package error
+StageRefuses store holder delta old new (NotTaken error) = (has_failed store ≡ false)
+    × DoesNotTake store holder delta error
+StageRefuses store holder delta old new (Snap DiskFailed) = (has_failed store ≡ false) × (holder ≡ 0)
+    × Takes store holder delta × Rose old.faults new.faults
 StageRefuses store holder delta old new Memory = (has_failed store ≡ false) × HasSomeFile store delta.package
 StageRefuses store holder delta old new error = ⊥
 
@@ -114,6 +119,7 @@ StageRefuses store holder delta old new error = ⊥
 abbrev pub RevertRefuses : Store → ℕ → List ℕ → View → View → StoreError → Type 0
 RevertRefuses store holder name old new (Snap Reopen) = has_failed store ≡ true
 RevertRefuses store holder name old new NoPackage = (has_failed store ≡ false) × HasNoFile store name
-RevertRefuses store holder name old new (Snap DiskFailed) = (has_failed store ≡ false) × (holder ≡ 0) × HasSomeFile store name × Rose old.faults new.faults
+RevertRefuses store holder name old new (Snap DiskFailed) = (has_failed store ≡ false) × (holder ≡ 0)
+    × HasSomeFile store name × Rose old.faults new.faults
 RevertRefuses store holder name old new Memory = (has_failed store ≡ false) × HasSomeFile store name
 RevertRefuses store holder name old new error = ⊥

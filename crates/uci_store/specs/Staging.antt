@@ -40,7 +40,8 @@ ChangesPackage store name old new = (files now : Files) → old.seen ≡ Some fi
 
 -- where the holder is 0, the package's file there has now the lines of what holder 0 has staged of it
 abbrev pub IsKeptOf : Store → ℕ → List ℕ → View → View → Type 0
-IsKeptOf store holder name old new = (file : ℕ) → HasFile store name file → IsKeptAt holder file old new (staged_in store)
+IsKeptOf store holder name old new = (file : ℕ) → HasFile store name file
+    → IsKeptAt holder file old new (staged_in store)
 
 -- a call that a disk failed leaves a store that refuses calls on disks, and any other leaves it as it was
 abbrev pub IsWhole : {X : Type 0} → Result X StoreError → Bool → Bool → Type 0

@@ -1,5 +1,6 @@
 -- A store, and the two disks on which it was opened.
-use Rattle.std.specs.Prelude.{ℕ, ◌≡◌, ◌+◌, ◌-◌, Bool, false, List, [], length, drop, slice_index_or, Option, bytes_eq, position}
+use Rattle.std.specs.Prelude.{ℕ, ◌≡◌, ◌+◌, ◌-◌, Bool, false, List, [], length, drop, slice_index_or, Option, bytes_eq}
+use Rattle.std.specs.Prelude.{position}
 use Rattle.std.specs.List.{AllByRecursion}
 use Rattle.std.specs.Option.{option_map}
 use Rattle.plane_disk.specs.Files.{bytes_of}

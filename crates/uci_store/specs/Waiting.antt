@@ -38,7 +38,8 @@ pub record TicksTo (store : Store) (now : ℕ) (after : State) : Type 0 where
 abbrev pub EndStops : Store → ℕ → StoreError → Type 0
 EndStops store holder (Snap Reopen) = has_failed store ≡ true
 EndStops store holder (Snap NothingWaits) = (has_failed store ≡ false) × (pending_of (files_of store).waits ≡ None)
-EndStops store holder (NotHolder other) = (has_failed store ≡ false) × (other ≢ holder) × WaitsFor other (pending_of (files_of store).waits)
+EndStops store holder (NotHolder other) = (has_failed store ≡ false) × (other ≢ holder)
+    × WaitsFor other (pending_of (files_of store).waits)
 EndStops store holder error = ⊥
 
 -- why ending it is refused, with the views of the disk before and after
@@ -47,6 +48,7 @@ EndRefuses store holder old new error =
     EndStops store holder error ⊎ ((error ≡ Snap DiskFailed) × IsHolders store holder × Rose old.faults new.faults)
 
 abbrev pub TickRefuses : Store → ℕ → View → View → StoreError → Type 0
-TickRefuses store now old new (Snap DiskFailed) = (has_failed store ≡ false) × (is_due (files_of store).waits now ≡ true) × Rose old.faults new.faults
+TickRefuses store now old new (Snap DiskFailed) = (has_failed store ≡ false)
+    × (is_due (files_of store).waits now ≡ true) × Rose old.faults new.faults
 TickRefuses store now old new (Snap Reopen) = has_failed store ≡ true
 TickRefuses store now old new error = ⊥

@@ -5,12 +5,15 @@ ghost use Rattle.snap_disk.specs.Images.{SameDisk};
 ghost use Rattle.snap_disk.specs.Open.{begun};
 ghost use Rattle.snap_disk.specs.Phase.{ArePackageFiles, Stands};
 ghost use Rattle.uci_staged.specs.Kept.{Follows, ChangesPackages};
-ghost use Rattle.uci_store.specs.Store.{names_of, files_of, has_failed, IsStore, IsOnFiles, IsOnStaged};
+ghost use Rattle.uci_store.specs.Store.{names_of, files_of, has_failed, IsStore, IsOnFiles};
+ghost use Rattle.uci_store.specs.Store.{IsOnStaged};
 ghost use Rattle.uci_store.specs.Staging.{IsWhole};
 ghost use Rattle.uci_store.specs.Stops.{StopLeaves, IsLeft, UnlessFailed};
 ghost use Rattle.uci_store.specs.Committing.{IsFree, IsNewFile, WriteRefuses};
 ghost use Rattle.uci_store.specs.Applying as spec;
-ghost use Rattle.uci_store.specs.Applying.{EachBefore, AreNewFiles, AreSoFar, HasWrittenAll, AppliesTo, HasApplied, NewFilesRefuse, ApplyStops, ApplyRefuses};
+ghost use Rattle.uci_store.specs.Applying.{EachBefore, AreNewFiles, AreSoFar, HasWrittenAll};
+ghost use Rattle.uci_store.specs.Applying.{AppliesTo, HasApplied, NewFilesRefuse, ApplyStops};
+ghost use Rattle.uci_store.specs.Applying.{ApplyRefuses};
 
 use crate::{Store, StoreError};
 use plane_disk::Disk;
@@ -25,17 +28,18 @@ struct NewFiles {
 }
 
 impl Store {
-    /// Writes all packages of which the holder has staged something, as the holder sees them, at once, and drops all that the
-    /// holder has staged once the files are durable. With a deadline the new files wait for the holder's confirm, without one they
-    /// stay.
+    /// Writes all packages of which the holder has staged something, as the holder sees them, at
+    /// once, and drops all that the holder has staged once the files are durable. With a deadline
+    /// the new files wait for the holder's confirm, without one they stay.
     ///
     /// # Errors
     ///
-    /// In this order: `Reopen` exactly after a disk failed; `Waiting` exactly where an apply waits; `NothingStaged` exactly where
-    /// the holder has staged nothing; `Parse` exactly where one of the files does not read, with the fault of the first one;
-    /// `TooLarge` exactly where one of the new files passes 1,048,576 bytes, with the size of the first one. `DiskFailed` only where
-    /// a disk failed; then the files may be the new ones. `Memory`. But for `DiskFailed` the disks are untouched, and the staged one
-    /// is untouched wherever the files are those before.
+    /// In this order: `Reopen` exactly after a disk failed; `Waiting` exactly where an apply waits;
+    /// `NothingStaged` exactly where the holder has staged nothing; `Parse` exactly where one of
+    /// the files does not read, with the fault of the first one; `TooLarge` exactly where one of
+    /// the new files passes 1,048,576 bytes, with the size of the first one. `DiskFailed` only
+    /// where a disk failed; then the files may be the new ones. `Memory`. But for `DiskFailed` the
+    /// disks are untouched, and the staged one is untouched wherever the files are those before.
     pub fn apply<D: Disk, T: Disk>(
         &mut self,
         alloc: Global,

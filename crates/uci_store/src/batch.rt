@@ -15,15 +15,18 @@ use uci_delta::{Delta, DeltaError, apply};
 use uci_tree::Package;
 
 impl Store {
-    /// Stages changes of one package, where the holder's view takes them one after another: all of them or none. The view is made
-    /// once, and the staged disk of the command line is written once.
+    /// Stages changes of one package, where the holder's view takes them one after another: all of
+    /// them or none. The view is made once, and the staged disk of the command line is written
+    /// once.
     ///
     /// # Errors
     ///
-    /// The store stays as it was, and but for `DiskFailed` the disk is untouched. `Reopen` exactly after a disk failed; `NoPackage`
-    /// exactly where no file has the package's name; `Parse` exactly where the file does not read; those of [`uci_delta::apply`]
-    /// exactly where the view does not take one of the changes behind those before it, with the cause of the first; `DiskFailed`
-    /// only where it takes them all and the disk failed; and `Memory`, of a package that has a file.
+    /// The store stays as it was, and but for `DiskFailed` the disk is untouched. `Reopen` exactly
+    /// after a disk failed; `NoPackage` exactly where no file has the package's name; `Parse`
+    /// exactly where the file does not read; those of [`uci_delta::apply`] exactly where the view
+    /// does not take one of the changes behind those before it, with the cause of the first;
+    /// `DiskFailed` only where it takes them all and the disk failed; and `Memory`, of a package
+    /// that has a file.
     #[tactic(auto, using(crate::proofs::BatchLemmas::batch_not_taken))]
     pub fn stage_all<T: Disk>(
         &mut self,

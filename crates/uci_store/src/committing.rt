@@ -1,13 +1,19 @@
 //! How packages are committed.
-ghost use Rattle.std.specs.Prelude.{◌≡◌, ◌≢◌, ◌≤◌, ◌<◌, ◌+◌, Option, Some, None, true, length, IfOk, IfErr, OnOk};
+ghost use Rattle.std.specs.Prelude.{◌≡◌, ◌≢◌, ◌≤◌, ◌<◌, ◌+◌, Option, Some, None, true, length};
+ghost use Rattle.std.specs.Prelude.{IfOk, IfErr, OnOk};
 ghost use Rattle.snap_disk.specs.Body.{most_bytes};
 ghost use Rattle.snap_disk.specs.Images.{SameDisk};
 ghost use Rattle.uci_staged.specs.Change.{has_deltas};
 ghost use Rattle.uci_staged.specs.Kept.{Follows};
-ghost use Rattle.uci_store.specs.Store.{names_of, name_of, staged_in, has_failed, IsStore, IsOnFiles, IsOnStaged};
+ghost use Rattle.uci_store.specs.Store.{names_of, name_of, staged_in, has_failed, IsStore};
+ghost use Rattle.uci_store.specs.Store.{IsOnFiles, IsOnStaged};
 ghost use Rattle.uci_store.specs.Staging.{ChangesPackage, IsWhole};
 ghost use Rattle.uci_store.specs.Stops.{StopLeaves, IsLeft, UnlessFailed};
-ghost use Rattle.uci_store.specs.Committing.{file_text, NothingToCommit, CommitsTo, ReplacesTo, HasCommitted, HasReplaced, IsReplaceFile, IsNewFile, PlansCommit, NewFileRefuses, PrintRefuses, CommitStops, CommitRefuses, ReplaceStops, ReplaceRefuses};
+ghost use Rattle.uci_store.specs.Committing.{file_text, NothingToCommit, CommitsTo, ReplacesTo};
+ghost use Rattle.uci_store.specs.Committing.{HasCommitted, HasReplaced, IsReplaceFile, IsNewFile};
+ghost use Rattle.uci_store.specs.Committing.{PlansCommit, NewFileRefuses, PrintRefuses};
+ghost use Rattle.uci_store.specs.Committing.{CommitStops, CommitRefuses, ReplaceStops};
+ghost use Rattle.uci_store.specs.Committing.{ReplaceRefuses};
 
 use crate::{Store, StoreError};
 use plane_disk::Disk;
@@ -20,15 +26,17 @@ use uci_tree::{Package, print_package};
 const MOST_BYTES: usize = 1_048_576;
 
 impl Store {
-    /// Writes the package as the holder sees it, and drops what the holder has staged of it once the file is durable. Where the
-    /// holder has staged nothing of it, the file is not looked at and the disks are untouched.
+    /// Writes the package as the holder sees it, and drops what the holder has staged of it once
+    /// the file is durable. Where the holder has staged nothing of it, the file is not looked at
+    /// and the disks are untouched.
     ///
     /// # Errors
     ///
-    /// In this order: `Reopen` exactly after a disk failed; `NoPackage` exactly where no file has that name; `Waiting` exactly where
-    /// an apply waits; `Parse` exactly where the file does not read; `TooLarge` exactly where the new file passes 1,048,576 bytes.
-    /// `DiskFailed` only where a disk failed; then the files may be those of the commit. `Memory`. But for `DiskFailed` the disks are
-    /// untouched, and the staged one is untouched wherever the files are those before.
+    /// In this order: `Reopen` exactly after a disk failed; `NoPackage` exactly where no file has
+    /// that name; `Waiting` exactly where an apply waits; `Parse` exactly where the file does not
+    /// read; `TooLarge` exactly where the new file passes 1,048,576 bytes. `DiskFailed` only where
+    /// a disk failed; then the files may be those of the commit. `Memory`. But for `DiskFailed` the
+    /// disks are untouched, and the staged one is untouched wherever the files are those before.
     pub fn commit<D: Disk, T: Disk>(
         &mut self,
         alloc: Global,
@@ -66,14 +74,15 @@ impl Store {
         }
     }
 
-    /// Writes a package in place of what is committed under its name, and drops what the holder has staged of it once the file is
-    /// durable.
+    /// Writes a package in place of what is committed under its name, and drops what the holder has
+    /// staged of it once the file is durable.
     ///
     /// # Errors
     ///
-    /// In this order: `Reopen` exactly after a disk failed; `NoPackage` exactly where no file has its name; `Waiting` exactly where
-    /// an apply waits; `TooLarge` exactly where it passes 1,048,576 bytes. `DiskFailed` only where a disk failed; then the files may
-    /// be the new ones. `Memory`. The disks are left as by a commit.
+    /// In this order: `Reopen` exactly after a disk failed; `NoPackage` exactly where no file has
+    /// its name; `Waiting` exactly where an apply waits; `TooLarge` exactly where it passes
+    /// 1,048,576 bytes. `DiskFailed` only where a disk failed; then the files may be the new ones.
+    /// `Memory`. The disks are left as by a commit.
     pub fn replace<D: Disk, T: Disk>(
         &mut self,
         alloc: Global,

@@ -6,8 +6,8 @@ ghost use Rattle.uci_store.specs.Refusals.{DoesNotTake};
 ghost use Rattle.uci_store.specs.Staging.{HasStaged};
 ghost use Rattle.uci_store.specs.Batch.{IsOf, HasStagedBatch, DoesNotTakeBatch, HasSameFiles};
 
-/// What is staged change by change is what the same changes come to that are staged at once; and where one of them is refused
-/// behind the others, they are refused at once for the same cause.
+/// What is staged change by change is what the same changes come to that are staged at once; and
+/// where one of them is refused behind the others, they are refused at once for the same cause.
 pub fn staged_one_by_one()
     ensures staged { (old mid new : Store) (holder : ℕ) (name : List ℕ)
         (delta : Delta) (deltas : List Delta) → IsOf name delta → HasSameFiles old mid →

@@ -1,5 +1,6 @@
-//! The store that the command line, web interfaces and agents share: packages as they are committed, what each holder has staged
-//! over them, and an apply that waits for its holder's confirm.
+//! The store that the command line, web interfaces and agents share: packages as they are
+//! committed, what each holder has staged over them, and an apply that waits for its holder's
+//! confirm.
 #![tactic(auto)]
 
 mod applying;

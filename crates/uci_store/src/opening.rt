@@ -1,5 +1,6 @@
 //! How a store is opened.
-ghost use Rattle.std.specs.Prelude.{ℕ, ◌≡◌, ◌≤◌, ◌-◌, ◌+◌, false, drop, take, length, Some, IfOk, IfErr, OnOk, IsTrue, ◌↔◌};
+ghost use Rattle.std.specs.Prelude.{ℕ, ◌≡◌, ◌≤◌, ◌-◌, ◌+◌, false, drop, take, length, Some, IfOk};
+ghost use Rattle.std.specs.Prelude.{IfErr, OnOk, IsTrue, ◌↔◌};
 ghost use Rattle.std.specs.List.{AllByRecursion};
 ghost use Rattle.plane_disk.specs.Files.{Files};
 ghost use Rattle.snap_disk.specs.Images.{LeavesOnly, SameDisk};
@@ -7,7 +8,8 @@ ghost use Rattle.snap_disk.specs.Opening.{OpensGiving, FromImage, OpensFrom};
 ghost use Rattle.uci_text.specs.declared.byte_class.ByteClass.TheVariants.{PackageName};
 ghost use Rattle.uci_text.specs.Table.{IsNameOf};
 ghost use Rattle.uci_staged.specs.Kept.{ReadsOn};
-ghost use Rattle.uci_store.specs.Store.{names_of, files_of, staged_in, has_failed, IsOnFiles, IsOnStaged};
+ghost use Rattle.uci_store.specs.Store.{names_of, files_of, staged_in, has_failed, IsOnFiles};
+ghost use Rattle.uci_store.specs.Store.{IsOnStaged};
 ghost use Rattle.uci_store.specs.Opening.{OpenRefuses, AreOwn};
 
 use crate::{Store, StoreError};
@@ -18,12 +20,14 @@ use std::alloc::Global;
 use uci_staged::{Staged, StagedError};
 
 impl Store {
-    /// Opens the folder of the packages and that of the command line's staged changes, which have the same packages. Each file is
-    /// read once. What a stop left of a commit or of an apply is settled as [`Snap::open`] does.
+    /// Opens the folder of the packages and that of the command line's staged changes, which have
+    /// the same packages. Each file is read once. What a stop left of a commit or of an apply is
+    /// settled as [`Snap::open`] does.
     ///
     /// # Errors
     ///
-    /// Those of [`Snap::open`]; `DiskFailed` only where a disk failed; `Memory`. One that failed may be called again.
+    /// Those of [`Snap::open`]; `DiskFailed` only where a disk failed; `Memory`. One that failed
+    /// may be called again.
     pub fn open<D: Disk, T: Disk>(
         alloc: Global,
         files: &mut D,

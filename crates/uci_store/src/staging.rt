@@ -2,7 +2,8 @@
 ghost use Rattle.std.specs.Prelude.{◌≡◌, ◌≢◌, IfErr, OnOk, OnErr};
 ghost use Rattle.uci_staged.specs.Kept.{Follows};
 ghost use Rattle.uci_store.specs.Store.{names_of, snap_of, staged_in, has_failed, IsOnStaged};
-ghost use Rattle.uci_store.specs.Staging.{HasStaged, HasReverted, ChangesPackage, IsKeptOf, IsWhole};
+ghost use Rattle.uci_store.specs.Staging.{HasStaged, HasReverted, ChangesPackage, IsKeptOf};
+ghost use Rattle.uci_store.specs.Staging.{IsWhole};
 ghost use Rattle.uci_store.specs.Refusals.{StageRefuses, RevertRefuses};
 ghost use Rattle.uci_store.specs.Stops.{UnlessFailed};
 ghost use Rattle.uci_store.specs.StoreError.{IsDiskAnswer};
@@ -20,10 +21,11 @@ impl Store {
     ///
     /// # Errors
     ///
-    /// The store stays as it was, and but for `DiskFailed` the disk is untouched. `Reopen` exactly after a disk failed; `NoPackage`
-    /// exactly where no file has the package's name; `Parse` exactly where the file does not read; those of [`uci_delta::apply`]
-    /// exactly where the view does not take the change; `DiskFailed` only where it does and the disk failed; and `Memory`, of a
-    /// package that has a file.
+    /// The store stays as it was, and but for `DiskFailed` the disk is untouched. `Reopen` exactly
+    /// after a disk failed; `NoPackage` exactly where no file has the package's name; `Parse`
+    /// exactly where the file does not read; those of [`uci_delta::apply`] exactly where the view
+    /// does not take the change; `DiskFailed` only where it does and the disk failed; and `Memory`,
+    /// of a package that has a file.
     #[tactic(auto, using(crate::proofs::StageLemmas::not_taken))]
     pub fn stage<T: Disk>(
         &mut self,
@@ -69,13 +71,15 @@ impl Store {
         }
     }
 
-    /// Drops those changes of the holder that lie under the path: of its package, of a section where it names one, of an option
-    /// where it names one. What a section was renamed to is not followed.
+    /// Drops those changes of the holder that lie under the path: of its package, of a section
+    /// where it names one, of an option where it names one. What a section was renamed to is not
+    /// followed.
     ///
     /// # Errors
     ///
-    /// The store stays as it was, and but for `DiskFailed` the disk is untouched. `Reopen` exactly after a disk failed; `NoPackage`
-    /// exactly where no file has the package's name; of a package that has one, `DiskFailed` only where the disk failed, and `Memory`.
+    /// The store stays as it was, and but for `DiskFailed` the disk is untouched. `Reopen` exactly
+    /// after a disk failed; `NoPackage` exactly where no file has the package's name; of a package
+    /// that has one, `DiskFailed` only where the disk failed, and `Memory`.
     pub fn revert<T: Disk>(
         &mut self,
         alloc: Global,

@@ -1,8 +1,10 @@
-ghost use Rattle.std.specs.Prelude.{ℕ, List, ◌≡◌, ◌≢◌, ◌≤◌, ◌<◌, ◌+◌, [], length, false, IfErr, IfSome, OnOk, bytes_eq, position, slice_index_or};
+ghost use Rattle.std.specs.Prelude.{ℕ, List, ◌≡◌, ◌≢◌, ◌≤◌, ◌<◌, ◌+◌, [], length, false, IfErr};
+ghost use Rattle.std.specs.Prelude.{IfSome, OnOk, bytes_eq, position, slice_index_or};
 ghost use Rattle.snap_disk.specs.Open.{pending_of};
 ghost use Rattle.uci_staged.specs.Change.{deltas_in, forgotten};
 ghost use Rattle.uci_staged.specs.Kept.{AreStagedIn};
-ghost use Rattle.uci_store.specs.Store.{names_of, snap_of, files_of, staged_in, has_failed, file_of, name_of, IsStore};
+ghost use Rattle.uci_store.specs.Store.{names_of, snap_of, files_of, staged_in, has_failed};
+ghost use Rattle.uci_store.specs.Store.{file_of, name_of, IsStore};
 ghost use Rattle.uci_store.specs.Refusals.{IsReopen};
 ghost use Rattle.uci_store.specs.Committing.{IsFree, FreeRefuses};
 
@@ -11,8 +13,9 @@ use plane_io::Text;
 use snap_disk::{Pending, Snap, SnapError};
 use uci_staged::Staged;
 
-/// The packages of a folder, what holders have staged over them, and an apply that waits. Holder 0 is the command line, whose
-/// changes are kept on a disk of their own; the other holders are sessions. It belongs to the disks on which it was opened.
+/// The packages of a folder, what holders have staged over them, and an apply that waits. Holder 0
+/// is the command line, whose changes are kept on a disk of their own; the other holders are
+/// sessions. It belongs to the disks on which it was opened.
 #[derive(Drop)]
 pub struct Store {
     pub(crate) packages: Vec<Text>,

@@ -3,7 +3,10 @@ ghost use Rattle.snap_disk.specs.declared.snap_error.SnapError.TheVariants as sn
 ghost use Rattle.uci_tree.specs.declared.tree_error.TreeError.TheVariants as tree_error;
 ghost use Rattle.uci_delta.specs.declared.delta_error.DeltaError.TheVariants as delta_error;
 ghost use Rattle.uci_store.specs.StoreError.{number_of};
-ghost use Rattle.uci_store.specs.declared.store_error.StoreError.TheVariants.{Memory as NoMemory, Snap as OfSnap, Parse as OfText, Delta as OfDelta};
+ghost use Rattle.uci_store.specs.declared.store_error.StoreError.TheVariants.{Memory as NoMemory};
+ghost use Rattle.uci_store.specs.declared.store_error.StoreError.TheVariants.{Snap as OfSnap};
+ghost use Rattle.uci_store.specs.declared.store_error.StoreError.TheVariants.{Parse as OfText};
+ghost use Rattle.uci_store.specs.declared.store_error.StoreError.TheVariants.{Delta as OfDelta};
 
 use plane_io::Memory;
 use snap_disk::SnapError;
@@ -15,7 +18,8 @@ use uci_tree::TreeError;
 /// Why a call of a store was refused.
 #[derive(Clone, Copy, Debug, Error)]
 pub enum StoreError {
-    /// A disk failed, or has failed before; an apply waits, or none does; or the files passed a limit or have no reading.
+    /// A disk failed, or has failed before; an apply waits, or none does; or the files passed a
+    /// limit or have no reading.
     #[error("{0}")]
     Snap(SnapError),
     /// No file has the package's name.
@@ -42,8 +46,9 @@ pub enum StoreError {
 }
 
 impl StoreError {
-    /// The number of the kind of error: that of what the snapshot or the delta says, 35 for `NoPackage`, 36 for `Parse`, 37 for
-    /// `TooLarge`, 38 for `NotHolder`, 39 for `NothingStaged`, 8 for `Memory`.
+    /// The number of the kind of error: that of what the snapshot or the delta says, 35 for
+    /// `NoPackage`, 36 for `Parse`, 37 for `TooLarge`, 38 for `NotHolder`, 39 for `NothingStaged`,
+    /// 8 for `Memory`.
     pub fn number(&self) -> u8
         ensures { result ≡ number_of self.now }
     {

@@ -2,7 +2,8 @@
 ghost use Rattle.std.specs.Prelude.{◌≡◌, ◌≤◌, ◌<◌, ◌+◌, length, IfOk, IfErr};
 ghost use Rattle.uci_tree.specs.Valid.{IsValid};
 ghost use Rattle.uci_store.specs.Store.{names_of, name_of, IsStore};
-ghost use Rattle.uci_store.specs.Refusals.{ReadsAt, IsSeenAt, FileRefuses, IsCommitted, IsSeen, ReadRefuses, AreChanges, ChangesRefuse};
+ghost use Rattle.uci_store.specs.Refusals.{ReadsAt, IsSeenAt, FileRefuses, IsCommitted, IsSeen};
+ghost use Rattle.uci_store.specs.Refusals.{ReadRefuses, AreChanges, ChangesRefuse};
 
 use crate::{Store, StoreError};
 use plane_io::Items;
@@ -15,8 +16,8 @@ impl Store {
     ///
     /// # Errors
     ///
-    /// `NoPackage` exactly where no file has that name, `Parse` exactly where the file does not read, and `Memory`, of a package that
-    /// has a file.
+    /// `NoPackage` exactly where no file has that name, `Parse` exactly where the file does not
+    /// read, and `Memory`, of a package that has a file.
     pub fn committed(&self, alloc: Global, package: &[u8]) -> Result<Package, StoreError>
         requires { IsStore self.now }
         ensures found { IfOk result (IsCommitted self.now «package».now) }
@@ -29,8 +30,8 @@ impl Store {
         self.read(alloc, package, file)
     }
 
-    /// The package as the holder sees it: what the holder has staged, applied in its order. A change that is refused then is
-    /// passed over, and stays staged.
+    /// The package as the holder sees it: what the holder has staged, applied in its order. A
+    /// change that is refused then is passed over, and stays staged.
     ///
     /// # Errors
     ///

@@ -2,11 +2,13 @@
 ghost use Rattle.std.specs.Prelude.{◌≡◌, ◌≢◌, false, true, Ok, Err, IfOk, IfErr, OnOk, OnErr};
 ghost use Rattle.snap_disk.specs.Images.{SameDisk};
 ghost use Rattle.snap_disk.specs.Open.{is_due};
-ghost use Rattle.uci_store.specs.Store.{names_of, snap_of, files_of, staged_in, has_failed, IsOnFiles};
+ghost use Rattle.uci_store.specs.Store.{names_of, snap_of, files_of, staged_in, has_failed};
+ghost use Rattle.uci_store.specs.Store.{IsOnFiles};
 ghost use Rattle.uci_store.specs.Staging.{IsWhole};
 ghost use Rattle.uci_store.specs.StoreError.{IsAnswer};
 ghost use Rattle.uci_store.specs.Stops.{StopLeaves, UnlessFailed};
-ghost use Rattle.uci_store.specs.Waiting.{IsHolders, ConfirmsTo, RollsBackTo, TicksTo, EndStops, EndRefuses, TickRefuses};
+ghost use Rattle.uci_store.specs.Waiting.{IsHolders, ConfirmsTo, RollsBackTo, TicksTo, EndStops};
+ghost use Rattle.uci_store.specs.Waiting.{EndRefuses, TickRefuses};
 
 use crate::{Store, StoreError};
 use plane_disk::Disk;
@@ -17,9 +19,9 @@ impl Store {
     ///
     /// # Errors
     ///
-    /// The store stays as it was, and but for `DiskFailed` the disk is untouched. `Reopen` exactly after a disk failed;
-    /// `NothingWaits` exactly where no apply waits; `NotHolder` exactly where another holder's does; `DiskFailed` only where the
-    /// disk failed.
+    /// The store stays as it was, and but for `DiskFailed` the disk is untouched. `Reopen` exactly
+    /// after a disk failed; `NothingWaits` exactly where no apply waits; `NotHolder` exactly where
+    /// another holder's does; `DiskFailed` only where the disk failed.
     pub fn confirm<D: Disk>(&mut self, files: &mut D, holder: u128) -> Result<(), StoreError>
         requires { IsOnFiles self.old (D.view files.old) }
         ensures same { SameDisk (D.view files.old) (D.view files.new) }
@@ -69,12 +71,13 @@ impl Store {
         }
     }
 
-    /// Rolls back where the deadline of an apply that waits has come, and answers whether it did. It takes no memory.
+    /// Rolls back where the deadline of an apply that waits has come, and answers whether it did.
+    /// It takes no memory.
     ///
     /// # Errors
     ///
-    /// The store stays as it was, and but for `DiskFailed` the disk is untouched. `Reopen` exactly after a disk failed; `DiskFailed`
-    /// only where the disk failed.
+    /// The store stays as it was, and but for `DiskFailed` the disk is untouched. `Reopen` exactly
+    /// after a disk failed; `DiskFailed` only where the disk failed.
     pub fn tick<D: Disk>(&mut self, files: &mut D, now: u64) -> Result<bool, StoreError>
         requires { IsOnFiles self.old (D.view files.old) }
         ensures same { SameDisk (D.view files.old) (D.view files.new) }

@@ -6,10 +6,12 @@ ghost use Rattle.snap_disk.specs.Open.{ImagesSince, begun};
 ghost use Rattle.snap_disk.specs.Phase.{IsPackageFile, ArePackageFiles};
 ghost use Rattle.uci_staged.specs.Change.{without, forgotten};
 ghost use Rattle.uci_staged.specs.Kept.{Follows, ChangesFile, ChangesPackages};
-ghost use Rattle.uci_store.specs.Store.{names_of, snap_of, files_of, staged_in, has_failed, IsOnFiles, IsOnStaged};
+ghost use Rattle.uci_store.specs.Store.{names_of, snap_of, files_of, staged_in, has_failed};
+ghost use Rattle.uci_store.specs.Store.{IsOnFiles, IsOnStaged};
 ghost use Rattle.uci_store.specs.Staging.{IsWhole};
 ghost use Rattle.uci_store.specs.Stops.{StopLeaves, IsLeft, UnlessFailed};
-ghost use Rattle.uci_store.specs.Committing.{with_file, IsFree, HasWritten, WriteRefuses, PutRefuses, DropRefuses};
+ghost use Rattle.uci_store.specs.Committing.{with_file, IsFree, HasWritten, WriteRefuses};
+ghost use Rattle.uci_store.specs.Committing.{PutRefuses, DropRefuses};
 
 use crate::{Store, StoreError};
 use plane_disk::Disk;

@@ -83,7 +83,8 @@ loose_from (w ∷ words) h = (record { spaces = h.0.spaces; pieces = h.0.is.each
 spaced-append : (words : List Spaced) (word : Spaced) → flat_map spaced_text (words ++ word ∷ []) ≡ flat_map spaced_text words ++ spaced_text word
 spaced-append words word = flat_map-append spaced_text words (word ∷ []) ∙ ap (λ (z : List ℕ). flat_map spaced_text words ++ z) (append-nil (spaced_text word))
 
-pub next_more : (bytes behind spaces next : List ℕ) (words : List (List ℕ)) → CommandSoFar bytes words behind → IsAtEndOr ends_word behind → SplitsBehind Space behind spaces next → BeginsOutside ends_command next → CommandNext bytes words next
+pub next_more : (bytes behind spaces next : List ℕ) (words : List (List ℕ)) → CommandSoFar bytes words behind → IsAtEndOr ends_word behind → SplitsBehind Space behind spaces next → BeginsOutside ends_command next
+    → CommandNext bytes words next
 next_more bytes behind spaces next words r e s b =
     let begins : BeginsOutside ends_word next = word_follows next s.outside b in
     let last : Spaced = record { spaces = spaces; pieces = [] } in
@@ -96,7 +97,8 @@ next_more bytes behind spaces next words r e s b =
       loose = (record { spaces = tt; pieces = r.first_is.each }, each-append IsLoose r.others (last ∷ []) (loose_from r.others r.each) (record { spaces = s.within; pieces = tt }, tt));
     }
   where
-    grown : 0 < length spaces → bytes ≡ word_text r.first ++ (flat_map spaced_text r.others ++ (spaces ++ next)) → (pieces : List Piece) (after : List ℕ) → next ≡ word_text pieces ++ after → IsWord pieces → CommandSoFar bytes (words ++ word_value pieces ∷ []) after
+    grown : 0 < length spaces → bytes ≡ word_text r.first ++ (flat_map spaced_text r.others ++ (spaces ++ next)) → (pieces : List Piece) (after : List ℕ) → next ≡ word_text pieces ++ after → IsWord pieces
+        → CommandSoFar bytes (words ++ word_value pieces ∷ []) after
     grown some whole pieces after w is =
         let word : Spaced = record { spaces = spaces; pieces = pieces } in
         record {
@@ -116,7 +118,8 @@ command_open bytes rest words stop n o =
       open_piece = o.last_is.open_piece;
       is = record {
         front = n.front ++ last ∷ [];
-        whole = n.front_is ∙ ap (λ (z : List ℕ). flat_map spaced_text n.front ++ z) (o.whole ∙ ap (λ (z : List ℕ). word_text o.pieces ++ z) o.last_is.whole) ∙ sym (append_assoc (flat_map spaced_text n.front) (word_text o.pieces) (open_text o.last_is.open_piece)) ∙ ap (λ (z : List ℕ). z ++ open_text o.last_is.open_piece) (sym (spaced-append n.front last));
+        whole = n.front_is ∙ ap (λ (z : List ℕ). flat_map spaced_text n.front ++ z) (o.whole ∙ ap (λ (z : List ℕ). word_text o.pieces ++ z) o.last_is.whole)
+            ∙ sym (append_assoc (flat_map spaced_text n.front) (word_text o.pieces) (open_text o.last_is.open_piece)) ∙ ap (λ (z : List ℕ). z ++ open_text o.last_is.open_piece) (sym (spaced-append n.front last));
         before_is = refl;
         loose = each-append IsLoose n.front (last ∷ []) n.loose (record { spaces = tt; pieces = o.each }, tt);
         open_is = o.last_is.is;

@@ -69,7 +69,8 @@ each-push [] (c ∷ commands) line cmd h i = absurd h
 each-push (l ∷ lines) [] line cmd h i = absurd h
 each-push (l ∷ lines) (c ∷ commands) line cmd h i = (h.0, each-push lines commands line cmd h.1 i)
 
-pub commands_more : (text rest behind : List ℕ) (number next : ℕ) (commands : List Cmd) (line : Line) (cmd : Cmd) → CommandsSoFar text rest number commands → ReadsExtent number rest line behind next → IsCmdOf line cmd → CommandsSoFar text behind next (commands ++ cmd ∷ [])
+pub commands_more : (text rest behind : List ℕ) (number next : ℕ) (commands : List Cmd) (line : Line) (cmd : Cmd) → CommandsSoFar text rest number commands → ReadsExtent number rest line behind next → IsCmdOf line cmd
+    → CommandsSoFar text behind next (commands ++ cmd ∷ [])
 unfolding read_more
 commands_more text rest behind number next commands line cmd r e i = record {
   lines = r.lines ++ line ∷ [];
@@ -82,7 +83,8 @@ commands_more text rest behind number next commands line cmd r e i = record {
 pub commands_all : (text rest : List ℕ) (number : ℕ) (commands : List Cmd) → CommandsSoFar text rest number commands → rest ≡ [] → SpellsCommands text commands
 commands_all text rest number commands r e = record { lines = r.lines; spelled = read_all text rest number r.lines r.so_far e; each = r.each }
 
-refused_at : (text rest bad behind : List ℕ) (number : ℕ) (commands : List Cmd) (error : TextError) → CommandsSoFar text rest number commands → rest ≡ bad ++ behind → IsExtent bad behind → HasCommandFault number bad error → IsFirstCommandFault text error
+refused_at : (text rest bad behind : List ℕ) (number : ℕ) (commands : List Cmd) (error : TextError) → CommandsSoFar text rest number commands → rest ≡ bad ++ behind → IsExtent bad behind → HasCommandFault number bad error
+    → IsFirstCommandFault text error
 refused_at text rest bad behind number commands error c w i f =
     let r = c.so_far in
     let P : ℕ → Type 0 = λ n. HasCommandFault n bad error in
@@ -101,7 +103,8 @@ refused_at text rest bad behind number commands error c w i f =
 pub bytes_refused : (text rest : List ℕ) (number : ℕ) (commands : List Cmd) (error : TextError) → CommandsSoFar text rest number commands → RefusesExtent number rest error → IsFirstCommandFault text error
 bytes_refused text rest number commands error r f = refused_at text rest f.extent f.behind number commands error r f.whole f.is (of_bytes f.fault)
 
-pub words_refused : (text rest behind : List ℕ) (number next : ℕ) (commands : List Cmd) (line : Line) (error : TextError) → CommandsSoFar text rest number commands → ReadsExtent number rest line behind next → HasWordsFault line.line line.words error → IsFirstCommandFault text error
+pub words_refused : (text rest behind : List ℕ) (number next : ℕ) (commands : List Cmd) (line : Line) (error : TextError) → CommandsSoFar text rest number commands → ReadsExtent number rest line behind next
+    → HasWordsFault line.line line.words error → IsFirstCommandFault text error
 words_refused text rest behind number next commands line error r e h =
     let P : ℕ → Type 0 = λ n. HasWordsFault n line.words error in
     refused_at text rest e.extent behind number commands error r e.whole (ended line.words e.spelled) (of_words line.words (command-alone e.extent behind line.words e.spelled) e.clean (subst P e.place h))

@@ -82,7 +82,18 @@ pieces_and_comment = record {
         whole = refl;
         is = record {
           first = is_word (codes "option") (omega arith) refl;
-          others = (is_spaced (codes "a") (omega arith) refl, (record { apart = omega arith; spaces = (refl, tt); is = record { some = omega arith; each = (tested Quotable (codes "b") refl, ((tested DoubleQuotable (codes "c") refl, tt), (tt, ((omega arith, tested Plain (codes "d") refl), tt)))) } }, tt));
+          others = (
+            is_spaced (codes "a") (omega arith) refl,
+            (
+              record {
+                apart = omega arith;
+                spaces = (refl, tt);
+                is =
+                    record { some = omega arith; each = (tested Quotable (codes "b") refl, ((tested DoubleQuotable (codes "c") refl, tt), (tt, ((omega arith, tested Plain (codes "d") refl), tt)))) };
+              },
+              tt,
+            ),
+          );
           last = (refl, tt);
         };
         end = refl;

@@ -24,7 +24,8 @@ zero_found number extent clean [] error s t e =
     absurd (omega arith)
 zero_found number extent clean (b ∷ rest) error s t e = zero_byte clean rest (s.whole ∙ ap (λ (z : ℕ). clean ++ z ∷ rest) (is_zero b s.outside)) s.within e
 
-pub open_fault : (number left line : ℕ) (bytes : List ℕ) → HasNoEnd bytes (Quote left) → AllIn NotZero bytes → ((front end : List ℕ) → bytes ≡ front ++ end → length end ≡ left → line ≡ number + newlines front) → HasFault number bytes (OpenQuote line)
+pub open_fault : (number left line : ℕ) (bytes : List ℕ) → HasNoEnd bytes (Quote left) → AllIn NotZero bytes → ((front end : List ℕ) → bytes ≡ front ++ end → length end ≡ left → line ≡ number + newlines front)
+    → HasFault number bytes (OpenQuote line)
 open_fault number left line bytes h c at = go h.open_piece h.is h.stop_is
   where
     go : (o : Open) → IsOpenCommand bytes h.before o → Quote left ≡ stop_of o → HasFault number bytes (OpenQuote line)
@@ -39,7 +40,8 @@ open_fault number left line bytes h c at = go h.open_piece h.is h.stop_is
         no_end h.before (open_pair b) c i (ap OpenQuote (at h.before (open_text (open_pair b)) i.whole n))
     go last_backslash i e = absurd (let n : Quote left ≡ Backslash = e in cc)
 
-pub backslash_fault : (number line : ℕ) (bytes : List ℕ) → HasNoEnd bytes Backslash → AllIn NotZero bytes → ((front end : List ℕ) → bytes ≡ front ++ end → length end ≡ 1 → line ≡ number + newlines front) → HasFault number bytes (BadWord line)
+pub backslash_fault : (number line : ℕ) (bytes : List ℕ) → HasNoEnd bytes Backslash → AllIn NotZero bytes → ((front end : List ℕ) → bytes ≡ front ++ end → length end ≡ 1 → line ≡ number + newlines front)
+    → HasFault number bytes (BadWord line)
 backslash_fault number line bytes h c at = go h.open_piece h.is h.stop_is
   where
     go : (o : Open) → IsOpenCommand bytes h.before o → Backslash ≡ stop_of o → HasFault number bytes (BadWord line)
@@ -78,7 +80,8 @@ front_fits number bytes extent behind front l w e =
     let b : length front ≡ length extent = ap length e in
     omega arith
 
-pub reads : (number next : ℕ) (bytes behind front : List ℕ) (words : List (List ℕ)) (b : Between bytes words behind) → front ≡ b.extent → AllIn NotZero front → next ≡ number + newlines front → ReadsExtent number bytes (record { line = number; words = words }) behind next
+pub reads : (number next : ℕ) (bytes behind front : List ℕ) (words : List (List ℕ)) (b : Between bytes words behind) → front ≡ b.extent → AllIn NotZero front → next ≡ number + newlines front
+    → ReadsExtent number bytes (record { line = number; words = words }) behind next
 reads number next bytes behind front words b e c n =
     let P : List ℕ → Type 0 = λ z. AllIn NotZero z in
     record {

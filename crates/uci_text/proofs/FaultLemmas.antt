@@ -17,7 +17,8 @@ use Rattle.uci_text.specs.Text.{Spells}
 use Rattle.uci_text.specs.FirstFault.{open_error, HasFault, zero_byte, no_end, IsFreeOf, IsFirstFault}
 use Rattle.uci_text.specs.Found.{BeginsOutside}
 use Rattle.uci_text.proofs.ClassLemmas.{all_in-append, all_in-right}
-use Rattle.uci_text.proofs.RunLemmas.{Mode, in_gap, in_command, Outcome, read, fault, run, add, line_of, finished, blank_runs, gap_runs, command_begins, command_runs, space_step, piece_begins, piece_runs, open_runs, newlines-append, reading_runs}
+use Rattle.uci_text.proofs.RunLemmas.{Mode, in_gap, in_command, Outcome, read, fault, run, add, line_of, finished, blank_runs, gap_runs, command_begins, command_runs, space_step, piece_begins, piece_runs, open_runs, newlines-append}
+use Rattle.uci_text.proofs.RunLemmas.{reading_runs}
 
 -- the machine is between commands or in one
 abbrev pub IsOutside : Mode → Type 0
@@ -232,7 +233,8 @@ first_behind : (good : List (List ℕ)) (bad behind before : List ℕ) (o : Open
 first_behind [] bad behind before o a h = absurd (no_both _ _ (run 0 in_gap bad) (gap_read bad behind a.0) (open_refused 0 bad before o h))
 first_behind (gap ∷ good) bad behind before o a h = open_behind bad behind before o (last_extent good bad behind a.1) h
 
-first_refused : (top : ℕ) (good : List (List ℕ)) (bad before : List ℕ) (o : Open) (error : TextError) → AreFirst (good ++ bad ∷ []) [] → IsOpenCommand bad before o → run top in_gap bad ≡ fault error → run top in_gap (concat good ++ bad) ≡ fault error
+first_refused : (top : ℕ) (good : List (List ℕ)) (bad before : List ℕ) (o : Open) (error : TextError) → AreFirst (good ++ bad ∷ []) [] → IsOpenCommand bad before o → run top in_gap bad ≡ fault error → run top in_gap (concat good ++ bad)
+    ≡ fault error
 first_refused top [] bad before o error a h r = r
 first_refused top (gap ∷ good) bad before o error a h r =
     let P : List ℕ → Type 0 = λ z. IsGap gap z in

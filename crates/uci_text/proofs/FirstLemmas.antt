@@ -72,7 +72,9 @@ number_on n extent rest =
     let e : newlines (extent ++ rest) ≡ newlines extent + newlines rest = newlines-append extent rest in
     omega arith
 
-one_of_extents : (n : ℕ) (good more : List (List ℕ)) (bad worse behind after : List ℕ) (error other : TextError) → AreExtents (good ++ bad ∷ []) behind → AreExtents (more ++ worse ∷ []) after → concat (good ++ bad ∷ []) ++ behind ≡ concat (more ++ worse ∷ []) ++ after → AllByRecursion (λ extent. IsFree extent) good → AllByRecursion (λ extent. IsFree extent) more → HasCommandFault (newlines (concat good) + n) bad error → HasCommandFault (newlines (concat more) + n) worse other → other ≡ error
+one_of_extents : (n : ℕ) (good more : List (List ℕ)) (bad worse behind after : List ℕ) (error other : TextError) → AreExtents (good ++ bad ∷ []) behind → AreExtents (more ++ worse ∷ []) after → concat (good ++ bad ∷ []) ++ behind
+    ≡ concat (more ++ worse ∷ []) ++ after → AllByRecursion (λ extent. IsFree extent) good → AllByRecursion (λ extent. IsFree extent) more → HasCommandFault (newlines (concat good) + n) bad error
+    → HasCommandFault (newlines (concat more) + n) worse other → other ≡ error
 one_of_extents n [] [] bad worse behind after error other p q e f g h i =
     let s : SameSplit bad worse behind after = one_extent bad worse behind after p.0 q.0 (sym (concat-cons bad [] behind) ∙ e ∙ concat-cons worse [] after) in
     one_extent_fault _ bad error other h (has_at _ _ worse bad other refl s.front i)
@@ -83,12 +85,15 @@ one_of_extents n (x ∷ good) [] bad worse behind after error other p q e f g h 
     let s : SameSplit x worse (concat (good ++ bad ∷ []) ++ behind) after = one_extent x worse (concat (good ++ bad ∷ []) ++ behind) after p.0 q.0 (sym (concat-cons x (good ++ bad ∷ []) behind) ∙ e ∙ concat-cons worse [] after) in
     absurd (f.0 _ other (has_at _ _ worse x other refl s.front i))
 one_of_extents n (x ∷ good) (y ∷ more) bad worse behind after error other p q e f g h i =
-    let s : SameSplit x y (concat (good ++ bad ∷ []) ++ behind) (concat (more ++ worse ∷ []) ++ after) = one_extent x y (concat (good ++ bad ∷ []) ++ behind) (concat (more ++ worse ∷ []) ++ after) p.0 q.0 (sym (concat-cons x (good ++ bad ∷ []) behind) ∙ e ∙ concat-cons y (more ++ worse ∷ []) after) in
+    let s : SameSplit x y (concat (good ++ bad ∷ []) ++ behind) (concat (more ++ worse ∷ []) ++ after) =
+    one_extent x y (concat (good ++ bad ∷ []) ++ behind) (concat (more ++ worse ∷ []) ++ after) p.0 q.0 (sym (concat-cons x (good ++ bad ∷ []) behind) ∙ e ∙ concat-cons y (more ++ worse ∷ []) after) in
     one_of_extents (newlines x + n) good more bad worse behind after error other p.1 q.1 (sym s.rest) f.1 g.1
     (has_at _ _ bad bad error (number_on n x (concat good)) refl h)
     (has_at _ _ worse worse other (number_on n y (concat more) ∙ ap (λ (z : List ℕ). newlines (concat more) + (newlines z + n)) s.front) refl i)
 
-one_of_first : (good more : List (List ℕ)) (bad worse behind after : List ℕ) (error other : TextError) → AreFirst (good ++ bad ∷ []) behind → AreFirst (more ++ worse ∷ []) after → concat (good ++ bad ∷ []) ++ behind ≡ concat (more ++ worse ∷ []) ++ after → AllByRecursion (λ extent. IsFree extent) good → AllByRecursion (λ extent. IsFree extent) more → HasCommandFault (newlines (concat good) + 1) bad error → HasCommandFault (newlines (concat more) + 1) worse other → other ≡ error
+one_of_first : (good more : List (List ℕ)) (bad worse behind after : List ℕ) (error other : TextError) → AreFirst (good ++ bad ∷ []) behind → AreFirst (more ++ worse ∷ []) after → concat (good ++ bad ∷ []) ++ behind
+    ≡ concat (more ++ worse ∷ []) ++ after → AllByRecursion (λ extent. IsFree extent) good → AllByRecursion (λ extent. IsFree extent) more → HasCommandFault (newlines (concat good) + 1) bad error
+    → HasCommandFault (newlines (concat more) + 1) worse other → other ≡ error
 one_of_first [] [] bad worse behind after error other p q e f g h i =
     let s : SameSplit bad worse behind after = one_gap bad worse behind after p.0 q.0 (sym (concat-cons bad [] behind) ∙ e ∙ concat-cons worse [] after) in
     one_extent_fault _ bad error other h (has_at _ _ worse bad other refl s.front i)
@@ -99,7 +104,8 @@ one_of_first (x ∷ good) [] bad worse behind after error other p q e f g h i =
     let s : SameSplit x worse (concat (good ++ bad ∷ []) ++ behind) after = one_gap x worse (concat (good ++ bad ∷ []) ++ behind) after p.0 q.0 (sym (concat-cons x (good ++ bad ∷ []) behind) ∙ e ∙ concat-cons worse [] after) in
     absurd (f.0 _ other (has_at _ _ worse x other refl s.front i))
 one_of_first (x ∷ good) (y ∷ more) bad worse behind after error other p q e f g h i =
-    let s : SameSplit x y (concat (good ++ bad ∷ []) ++ behind) (concat (more ++ worse ∷ []) ++ after) = one_gap x y (concat (good ++ bad ∷ []) ++ behind) (concat (more ++ worse ∷ []) ++ after) p.0 q.0 (sym (concat-cons x (good ++ bad ∷ []) behind) ∙ e ∙ concat-cons y (more ++ worse ∷ []) after) in
+    let s : SameSplit x y (concat (good ++ bad ∷ []) ++ behind) (concat (more ++ worse ∷ []) ++ after) =
+    one_gap x y (concat (good ++ bad ∷ []) ++ behind) (concat (more ++ worse ∷ []) ++ after) p.0 q.0 (sym (concat-cons x (good ++ bad ∷ []) behind) ∙ e ∙ concat-cons y (more ++ worse ∷ []) after) in
     one_of_extents (newlines x + 1) good more bad worse behind after error other p.1 q.1 (sym s.rest) f.1 g.1
     (has_at _ _ bad bad error (number_on 1 x (concat good)) refl h)
     (has_at _ _ worse worse other (number_on 1 y (concat more) ∙ ap (λ (z : List ℕ). newlines (concat more) + (newlines z + 1)) s.front) refl i)
@@ -108,7 +114,8 @@ whole_of : (text : List ℕ) (good : List (List ℕ)) (bad behind : List ℕ) �
 whole_of text good bad behind w = w ∙ ap (λ (z : List ℕ). z ++ behind) (sym (concat-push good bad))
 
 pub command_fault_is_one : (text : List ℕ) (error other : TextError) → IsFirstCommandFault text error → IsFirstCommandFault text other → other ≡ error
-command_fault_is_one text error other f g = one_of_first f.good g.good f.bad g.bad f.behind g.behind error other f.extents g.extents (sym (whole_of text f.good f.bad f.behind f.whole) ∙ whole_of text g.good g.bad g.behind g.whole) f.free g.free f.fault g.fault
+command_fault_is_one text error other f g = one_of_first f.good g.good f.bad g.bad f.behind g.behind error other f.extents g.extents (sym (whole_of text f.good f.bad f.behind f.whole) ∙ whole_of text g.good g.bad g.behind g.whole) f.free
+    g.free f.fault g.fault
 
 -- a text with commands has no command with a fault
 none_behind : (extents : List (List ℕ)) (bad behind : List ℕ) → AreExtents (extents ++ bad ∷ []) behind → [] ≡ concat (extents ++ bad ∷ []) ++ behind → ⊥
@@ -124,7 +131,8 @@ none_behind (x ∷ extents) bad behind p e =
     let b : length (x ++ rest) ≡ length x + length rest = length-append x rest in
     omega arith
 
-no_fault_in : (lines : List Line) (commands : List Cmd) (number n : ℕ) (text : List ℕ) (good : List (List ℕ)) (bad behind : List ℕ) (error : TextError) → SpellsLines number text lines → AllZip IsCmdOf lines commands → AllIn NotZero text → AreExtents (good ++ bad ∷ []) behind → text ≡ concat (good ++ bad ∷ []) ++ behind → HasCommandFault n bad error → ⊥
+no_fault_in : (lines : List Line) (commands : List Cmd) (number n : ℕ) (text : List ℕ) (good : List (List ℕ)) (bad behind : List ℕ) (error : TextError) → SpellsLines number text lines → AllZip IsCmdOf lines commands → AllIn NotZero text
+    → AreExtents (good ++ bad ∷ []) behind → text ≡ concat (good ++ bad ∷ []) ++ behind → HasCommandFault n bad error → ⊥
 no_fault_in [] commands number n text good bad behind error s z c p w h = none_behind good bad behind p (sym s ∙ w)
 no_fault_in (line ∷ lines) [] number n text good bad behind error s z c p w h = z
 no_fault_in (line ∷ lines) (cmd ∷ commands) number n text [] bad behind error s z c p w h =
@@ -163,9 +171,11 @@ IsJudged text = ((commands : List Cmd) × SpellsCommands text commands) ⊎ ((er
 commands_at : (fuel : ℕ) (text rest : List ℕ) (number : ℕ) (commands : List Cmd) → length rest ≤ fuel → CommandsSoFar text rest number commands → IsJudged text
 commands_at fuel text [] number commands l r = inl (commands, commands_all text [] number commands r refl)
 commands_at zero text (b ∷ rest) number commands l r = absurd (omega arith)
-commands_at (suc fuel) text (b ∷ rest) number commands l r = go (extent_in number (b ∷ rest) (read_begins text (b ∷ rest) number r.lines r.so_far (length_test (b ∷ rest) (omega arith)))) (λ next n more m k. commands_at fuel text next n more m k)
+commands_at (suc fuel) text (b ∷ rest) number commands l r = go (extent_in number (b ∷ rest) (read_begins text (b ∷ rest) number r.lines r.so_far (length_test (b ∷ rest) (omega arith))))
+    (λ next n more m k. commands_at fuel text next n more m k)
   where
-    word : (line : Line) (behind : List ℕ) (next : ℕ) → ReadsExtent number (b ∷ rest) line behind next → ((cmd : Cmd) × IsCmdOf line cmd) ⊎ ((error : TextError) × HasWordsFault line.line line.words error) → ((after : List ℕ) (n : ℕ) (more : List Cmd) → length after ≤ fuel → CommandsSoFar text after n more → IsJudged text) → IsJudged text
+    word : (line : Line) (behind : List ℕ) (next : ℕ) → ReadsExtent number (b ∷ rest) line behind next → ((cmd : Cmd) × IsCmdOf line cmd) ⊎ ((error : TextError) × HasWordsFault line.line line.words error)
+        → ((after : List ℕ) (n : ℕ) (more : List Cmd) → length after ≤ fuel → CommandsSoFar text after n more → IsJudged text) → IsJudged text
     word line behind next e (inr f) rec = inr (f.0, words_refused text (b ∷ rest) behind number next commands line f.0 r e f.1)
     word line behind next e (inl c) rec =
         let s : length behind < length (b ∷ rest) = extent_shortens number next (b ∷ rest) behind line e in
@@ -177,7 +187,8 @@ commands_at (suc fuel) text (b ∷ rest) number commands l r = go (extent_in num
 
 pub commands_or_fault : (text : List ℕ) → ((commands : List Cmd) × SpellsCommands text commands) ⊎ ((error : TextError) × IsFirstCommandFault text error)
 commands_or_fault text = elim (clean_or_fault 1 g.is.gap) [
-  | inl c ↦ commands_at (length g.behind) text g.behind (newlines g.is.gap + 1) [] (omega arith) (commands_none text g.behind (newlines g.is.gap + 1) [] (record { gap = g.is.gap; whole = g.is.whole; is = g.is.is; clean = c; number_is = refl }) refl)
+  | inl c ↦ commands_at (length g.behind) text g.behind (newlines g.is.gap + 1) [] (omega arith)
+      (commands_none text g.behind (newlines g.is.gap + 1) [] (record { gap = g.is.gap; whole = g.is.whole; is = g.is.is; clean = c; number_is = refl }) refl)
   | inr f ↦ inr (f.0, gap_bytes_refused text f.0 (refuses_gap text g.behind g.is.gap f.0 g.is refl f.1))
 ]
   where

@@ -49,7 +49,8 @@ backslash_at rest after mark o e n =
     let P : List ℕ → Type 0 = λ z. IsAtEndOr (λ b. not (is_in DoubleQuotable b)) z in
     e ∙ ap (λ (b : ℕ). b ∷ after) (is_backslash mark (subst P e o) n)
 
-pub double_pair : (inside rest after next old new grown : List ℕ) (mark byte : ℕ) → DoubleSoFar inside rest old new → IsAtEndOr (λ b. not (is_in DoubleQuotable b)) rest → rest ≡ mark ∷ after → mark ≢ 34 → after ≡ byte ∷ next → grown ≡ new ++ escaped_value byte → DoubleSoFar inside next old grown
+pub double_pair : (inside rest after next old new grown : List ℕ) (mark byte : ℕ) → DoubleSoFar inside rest old new → IsAtEndOr (λ b. not (is_in DoubleQuotable b)) rest → rest ≡ mark ∷ after → mark ≢ 34 → after ≡ byte ∷ next → grown ≡ new
+    ++ escaped_value byte → DoubleSoFar inside next old grown
 double_pair inside rest after next old new grown mark byte r o e n f g =
     let P : List ℕ → Type 0 = λ z. DoubleSoFar inside z old new in
     let Q : List ℕ → Type 0 = λ z. DoubleSoFar inside next old z in
@@ -73,7 +74,8 @@ double_open inside rest old new left r e l =
     let n : left ≡ length (34 ∷ flat_map inner_text r.inner) = omega arith in
     record { open_piece = open_double r.inner; whole = ap (λ (z : List ℕ). 34 ∷ z) w; is = r.each; stop_is = ap Quote n }
 
-pub double_open_pair : (inside rest after old new : List ℕ) (left mark : ℕ) → DoubleSoFar inside rest old new → IsAtEndOr (λ b. not (is_in DoubleQuotable b)) rest → rest ≡ mark ∷ after → mark ≢ 34 → after ≡ [] → left ≡ length inside + 1 → IsOpenPiece (34 ∷ inside) (Quote left)
+pub double_open_pair : (inside rest after old new : List ℕ) (left mark : ℕ) → DoubleSoFar inside rest old new → IsAtEndOr (λ b. not (is_in DoubleQuotable b)) rest → rest ≡ mark ∷ after → mark ≢ 34 → after ≡ [] → left ≡ length inside + 1
+    → IsOpenPiece (34 ∷ inside) (Quote left)
 double_open_pair inside rest after old new left mark r o e n f l =
     let b : rest ≡ 92 ∷ [] = backslash_at rest after mark o e n ∙ ap (λ (z : List ℕ). 92 ∷ z) f in
     let w : inside ≡ flat_map inner_text r.inner ++ 92 ∷ [] = r.whole ∙ ap (λ (z : List ℕ). flat_map inner_text r.inner ++ z) b in
@@ -124,7 +126,8 @@ plain_run bytes [] rest inside mark s e p =
     absurd (let x : false ≡ true = n in cc)
 plain_run bytes (b ∷ run) rest inside mark s e p = omega arith
 
-pub plain_takes : (bytes run rest inside old new : List ℕ) (mark : ℕ) → SplitsBehind Plain bytes run rest → bytes ≡ mark ∷ inside → BeginsOutside ends_word bytes → mark ≢ 39 → mark ≢ 34 → mark ≢ 92 → new ≡ old ++ run → TakesPiece bytes old new rest
+pub plain_takes : (bytes run rest inside old new : List ℕ) (mark : ℕ) → SplitsBehind Plain bytes run rest → bytes ≡ mark ∷ inside → BeginsOutside ends_word bytes → mark ≢ 39 → mark ≢ 34 → mark ≢ 92 → new ≡ old ++ run
+    → TakesPiece bytes old new rest
 plain_takes bytes run rest inside old new mark s e b x y z v =
     let P : List ℕ → Type 0 = λ w. BeginsOutside ends_word w in
     let p : is_in Plain mark ≡ true = plain_begins mark (subst P e b) x y z in

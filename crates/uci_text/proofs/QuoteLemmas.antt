@@ -20,7 +20,8 @@ is_quote : (b : ℕ) → nat_eq b 39 ≡ true → b ≡ 39
 is_quote b e = grind (arith, nat_tests)
 
 -- a single quote behind a run, and the rest of the value
-quote_next : (b : ℕ) (value run : List ℕ) → AllIn Quotable run → nat_eq b 39 ≡ true → SpellsWord (39 ∷ (flat_map quoted_byte value ++ 39 ∷ [])) value → SpellsWord (39 ∷ run ++ ((quoted_byte b ++ flat_map quoted_byte value) ++ 39 ∷ [])) (run ++ b ∷ value)
+quote_next : (b : ℕ) (value run : List ℕ) → AllIn Quotable run → nat_eq b 39 ≡ true → SpellsWord (39 ∷ (flat_map quoted_byte value ++ 39 ∷ [])) value
+    → SpellsWord (39 ∷ run ++ ((quoted_byte b ++ flat_map quoted_byte value) ++ 39 ∷ [])) (run ++ b ∷ value)
 quote_next b value run p e r = record {
   pieces = single run ∷ escaped 39 ∷ r.pieces;
   whole =
@@ -32,7 +33,8 @@ quote_next b value run p e r = record {
 }
 
 -- another byte goes on with the run
-other_next : (b : ℕ) (value run : List ℕ) → nat_eq b 39 ≡ false → SpellsWord (39 ∷ (run ++ b ∷ []) ++ (flat_map quoted_byte value ++ 39 ∷ [])) ((run ++ b ∷ []) ++ value) → SpellsWord (39 ∷ run ++ ((quoted_byte b ++ flat_map quoted_byte value) ++ 39 ∷ [])) (run ++ b ∷ value)
+other_next : (b : ℕ) (value run : List ℕ) → nat_eq b 39 ≡ false → SpellsWord (39 ∷ (run ++ b ∷ []) ++ (flat_map quoted_byte value ++ 39 ∷ [])) ((run ++ b ∷ []) ++ value)
+    → SpellsWord (39 ∷ run ++ ((quoted_byte b ++ flat_map quoted_byte value) ++ 39 ∷ [])) (run ++ b ∷ value)
 other_next b value run e r = record {
   pieces = r.pieces;
   whole =
@@ -53,7 +55,9 @@ quoted_word [] run p = record {
 }
 quoted_word (b ∷ value) run p = go (nat_eq b 39) refl (quoted_word value [] tt) (λ q. quoted_word value (run ++ b ∷ []) q)
   where
-    go : (t : Bool) → nat_eq b 39 ≡ t → SpellsWord (39 ∷ (flat_map quoted_byte value ++ 39 ∷ [])) value → (AllIn Quotable (run ++ b ∷ []) → SpellsWord (39 ∷ (run ++ b ∷ []) ++ (flat_map quoted_byte value ++ 39 ∷ [])) ((run ++ b ∷ []) ++ value)) → SpellsWord (39 ∷ run ++ ((quoted_byte b ++ flat_map quoted_byte value) ++ 39 ∷ [])) (run ++ b ∷ value)
+    go : (t : Bool) → nat_eq b 39 ≡ t → SpellsWord (39 ∷ (flat_map quoted_byte value ++ 39 ∷ [])) value
+        → (AllIn Quotable (run ++ b ∷ []) → SpellsWord (39 ∷ (run ++ b ∷ []) ++ (flat_map quoted_byte value ++ 39 ∷ [])) ((run ++ b ∷ []) ++ value))
+        → SpellsWord (39 ∷ run ++ ((quoted_byte b ++ flat_map quoted_byte value) ++ 39 ∷ [])) (run ++ b ∷ value)
     go true e x y = quote_next b value run p e x
     go false e x y =
         let q : not (nat_eq b 39) ≡ true = ap not e in

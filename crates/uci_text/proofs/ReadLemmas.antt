@@ -92,7 +92,8 @@ read_more text rest behind number next lines line r e =
       begins = e.spelled.gap_is.next;
     }
   where
-    goes_on : concat r.extents ++ rest ≡ concat (r.extents ++ e.extent ∷ []) ++ behind → (more : List Line) → SpellsLines next behind more → SpellsLines (newlines r.gap + 1) (concat (r.extents ++ e.extent ∷ []) ++ behind) ((lines ++ line ∷ []) ++ more)
+    goes_on : concat r.extents ++ rest ≡ concat (r.extents ++ e.extent ∷ []) ++ behind → (more : List Line) → SpellsLines next behind more
+        → SpellsLines (newlines r.gap + 1) (concat (r.extents ++ e.extent ∷ []) ++ behind) ((lines ++ line ∷ []) ++ more)
     goes_on shift more h =
         let P : List ℕ → Type 0 = λ z. SpellsLines (newlines r.gap + 1) z ((lines ++ line ∷ []) ++ more) in
         let Q : List Line → Type 0 = λ z. SpellsLines (newlines r.gap + 1) (concat r.extents ++ rest) z in

@@ -115,11 +115,13 @@ no_backslash b h = grind (arith, nat_tests)
 kept_runs : (top l q : ℕ) (ws : List (List ℕ)) (v bytes rest : List ℕ) → AllIn DoubleQuotable bytes → run top (in_double l ws v q) (bytes ++ rest) ≡ run top (in_double l ws (v ++ bytes) q) rest
 kept_runs top l q ws v [] rest p = ap (λ (z : List ℕ). run top (in_double l ws z q) rest) (sym (append-nil v))
 kept_runs top l q ws v (b ∷ bytes) rest p =
-    ap (λ (m : Mode). run top m (bytes ++ rest)) (if_false (nat_eq b 34) (in_command l ws (Some v)) (if nat_eq b 92 then in_pair l ws v q else in_double l ws (v ++ b ∷ []) q) (no_double b p.0) ∙ if_false (nat_eq b 92) (in_pair l ws v q) (in_double l ws (v ++ b ∷ []) q) (no_backslash b p.0))
+    ap (λ (m : Mode). run top m (bytes ++ rest)) (if_false (nat_eq b 34) (in_command l ws (Some v)) (if nat_eq b 92 then in_pair l ws v q else in_double l ws (v ++ b ∷ []) q) (no_double b p.0)
+    ∙ if_false (nat_eq b 92) (in_pair l ws v q) (in_double l ws (v ++ b ∷ []) q) (no_backslash b p.0))
     ∙ kept_runs top l q ws (v ++ b ∷ []) bytes rest p.1
     ∙ ap (λ (z : List ℕ). run top (in_double l ws z q) rest) (append_assoc v (b ∷ []) bytes)
 
-inner_runs : (top l q : ℕ) (ws : List (List ℕ)) (v : List ℕ) (inner : List Inner) (rest : List ℕ) → AllByRecursion IsInner inner → run top (in_double l ws v q) (flat_map inner_text inner ++ rest) ≡ run top (in_double l ws (v ++ flat_map inner_value inner) q) rest
+inner_runs : (top l q : ℕ) (ws : List (List ℕ)) (v : List ℕ) (inner : List Inner) (rest : List ℕ) → AllByRecursion IsInner inner → run top (in_double l ws v q) (flat_map inner_text inner ++ rest)
+    ≡ run top (in_double l ws (v ++ flat_map inner_value inner) q) rest
 inner_runs top l q ws v [] rest p = ap (λ (z : List ℕ). run top (in_double l ws z q) rest) (sym (append-nil v))
 inner_runs top l q ws v (kept bytes ∷ inner) rest p =
     ap (λ (z : List ℕ). run top (in_double l ws v q) z) (append_assoc bytes (flat_map inner_text inner) rest)
@@ -180,7 +182,8 @@ plain_runs top l ws v (b ∷ bytes) rest p =
     ∙ plain_runs top l ws (v ++ b ∷ []) bytes rest p.1
     ∙ ap (λ (z : List ℕ). run top (in_command l ws (Some z)) rest) (append_assoc v (b ∷ []) bytes)
 
-pub piece_runs : (top l : ℕ) (ws : List (List ℕ)) (o : Option (List ℕ)) (piece : Piece) (rest : List ℕ) → IsPiece piece → run top (in_command l ws o) (piece_text piece ++ rest) ≡ run top (in_command l ws (Some (begun o ++ piece_value piece))) rest
+pub piece_runs : (top l : ℕ) (ws : List (List ℕ)) (o : Option (List ℕ)) (piece : Piece) (rest : List ℕ) → IsPiece piece → run top (in_command l ws o) (piece_text piece ++ rest)
+    ≡ run top (in_command l ws (Some (begun o ++ piece_value piece))) rest
 piece_runs top l ws o (plain []) rest p =
     let n : 0 < length {A = ℕ} [] = p.0 in
     absurd (omega arith)
@@ -196,7 +199,8 @@ piece_runs top l ws o (double inner) rest p =
     ap (λ (z : List ℕ). run top (in_command l ws o) (34 ∷ z)) (append_assoc (flat_map inner_text inner) (34 ∷ []) rest)
     ∙ inner_runs top l (top - newlines (34 ∷ flat_map inner_text inner ++ 34 ∷ rest)) ws (begun o) inner (34 ∷ rest) p
 
-pieces_run : (top l : ℕ) (ws : List (List ℕ)) (v : List ℕ) (pieces : List Piece) (rest : List ℕ) → AllByRecursion IsPiece pieces → run top (in_command l ws (Some v)) (word_text pieces ++ rest) ≡ run top (in_command l ws (Some (v ++ word_value pieces))) rest
+pieces_run : (top l : ℕ) (ws : List (List ℕ)) (v : List ℕ) (pieces : List Piece) (rest : List ℕ) → AllByRecursion IsPiece pieces → run top (in_command l ws (Some v)) (word_text pieces ++ rest)
+    ≡ run top (in_command l ws (Some (v ++ word_value pieces))) rest
 pieces_run top l ws v [] rest p = ap (λ (z : List ℕ). run top (in_command l ws (Some z)) rest) (sym (append-nil v))
 pieces_run top l ws v (piece ∷ pieces) rest p =
     ap (λ (z : List ℕ). run top (in_command l ws (Some v)) z) (append_assoc (piece_text piece) (word_text pieces) rest)
@@ -247,7 +251,8 @@ others_run top l ws v [] rest p = record { words = ws; value = v; same = refl; f
 others_run top l ws v (w ∷ others) rest p =
     let more : List ℕ = flat_map spaced_text others ++ rest in
     let r : InWord top l (ws ++ v ∷ []) (word_value w.pieces) others rest = others_run top l (ws ++ v ∷ []) (word_value w.pieces) others rest p.1 in
-    let cut : ((w.spaces ++ word_text w.pieces) ++ flat_map spaced_text others) ++ rest ≡ w.spaces ++ (word_text w.pieces ++ more) = append_assoc (w.spaces ++ word_text w.pieces) (flat_map spaced_text others) rest ∙ append_assoc w.spaces (word_text w.pieces) more in
+    let cut : ((w.spaces ++ word_text w.pieces) ++ flat_map spaced_text others) ++ rest ≡ w.spaces ++ (word_text w.pieces ++ more) = append_assoc (w.spaces ++ word_text w.pieces) (flat_map spaced_text others) rest
+    ∙ append_assoc w.spaces (word_text w.pieces) more in
     record {
       words = r.words;
       value = r.value;

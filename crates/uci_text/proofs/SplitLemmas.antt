@@ -14,7 +14,8 @@ use Rattle.uci_text.specs.Open.{Open, open_single, open_double, open_pair, last_
 use Rattle.uci_text.specs.Found.{BeginsOutside}
 use Rattle.uci_text.proofs.ClassLemmas.{each-append}
 use Rattle.uci_text.proofs.WordLemmas.{word_length}
-use Rattle.uci_text.proofs.RunLemmas.{Mode, in_gap, in_comment, in_command, in_escape, in_single, in_double, in_pair, Outcome, read, fault, run, add, ended as outcome, line_of, next, begun, finished, word_mode, gap_runs, command_begins, command_runs}
+use Rattle.uci_text.proofs.RunLemmas.{Mode, in_gap, in_comment, in_command, in_escape, in_single, in_double, in_pair, Outcome, read, fault, run, add, ended as outcome, line_of, next, begun, finished, word_mode, gap_runs, command_begins}
+use Rattle.uci_text.proofs.RunLemmas.{command_runs}
 use Rattle.uci_text.proofs.FaultLemmas.{IsOutside, Comes, piece_from, loose_from, command_read, gap_read, bad_length}
 
 -- within a command, the machine reads one or refuses
@@ -94,7 +95,8 @@ closed last_backslash = escaped 0
 closed_text : (o : Open) → open_text o ++ closing o ≡ piece_text (closed o)
 closed_text (open_single bytes) = refl
 closed_text (open_double inner) = refl
-closed_text (open_pair inner) = ap (λ (z : List ℕ). 34 ∷ z) (append_assoc (flat_map inner_text inner) (92 ∷ []) (0 ∷ 34 ∷ []) ∙ sym (append_assoc (flat_map inner_text inner) (92 ∷ 0 ∷ []) (34 ∷ [])) ∙ ap (λ (z : List ℕ). z ++ 34 ∷ []) (sym (flat_map-append inner_text inner (pair 0 ∷ []))))
+closed_text (open_pair inner) = ap (λ (z : List ℕ). 34 ∷ z) (append_assoc (flat_map inner_text inner) (92 ∷ []) (0 ∷ 34 ∷ []) ∙ sym (append_assoc (flat_map inner_text inner) (92 ∷ 0 ∷ []) (34 ∷ []))
+    ∙ ap (λ (z : List ℕ). z ++ 34 ∷ []) (sym (flat_map-append inner_text inner (pair 0 ∷ []))))
 closed_text last_backslash = refl
 
 closed_is : (o : Open) → IsOpen o → IsPiece (closed o)
@@ -161,7 +163,8 @@ no_more extent byte more behind words s (ended others t) =
     let u : SpellsCommand extent (byte ∷ more) words = command-same extent byte (more ++ behind) more words s in
     let l : Line = line_of (0 - newlines (extent ++ byte ∷ more)) words in
     let whole : List ℕ = (extent ++ byte ∷ more) ++ [] in
-    let r : run 0 in_gap (byte ∷ more) ≡ read [] = last_one l (run 0 in_gap (byte ∷ more)) (in_command (0 - newlines whole) others None) tt (sym (command_runs 0 extent (byte ∷ more) words u) ∙ command_read (extent ++ byte ∷ more) behind others t) in
+    let r : run 0 in_gap (byte ∷ more) ≡ read [] = last_one l (run 0 in_gap (byte ∷ more)) (in_command (0 - newlines whole) others None) tt
+    (sym (command_runs 0 extent (byte ∷ more) words u) ∙ command_read (extent ++ byte ∷ more) behind others t) in
     begins_some 0 (byte ∷ more) (not_false (ends_word byte) s.gap_is.next) r
 no_more extent byte more behind words s (unended before o h e) =
     let m : Mended (extent ++ byte ∷ more) = mended (extent ++ byte ∷ more) before o h in

@@ -155,7 +155,8 @@ first_word word = go (begins Package word) (begins Config word) (begins Item wor
 pub cmd_or_fault : (line : ℕ) (words : List (List ℕ)) → ((cmd : Cmd) × IsCmd line words cmd) ⊎ ((error : TextError) × HasWordsFault line words error)
 cmd_or_fault line words = first (first_word (word_at words 0))
   where
-    third : (keyword : Keyword) → Begins keyword (word_at words 0) → IsCount keyword (length words) → Decided (AreNamed keyword (word_at words 1) (word_at words 2)) → ((cmd : Cmd) × IsCmd line words cmd) ⊎ ((error : TextError) × HasWordsFault line words error)
+    third : (keyword : Keyword) → Begins keyword (word_at words 0) → IsCount keyword (length words) → Decided (AreNamed keyword (word_at words 1) (word_at words 2))
+        → ((cmd : Cmd) × IsCmd line words cmd) ⊎ ((error : TextError) × HasWordsFault line words error)
     third k b n (inl h) = inl (cmd_of k line (word_at words 1) (word_at words 2), record { keyword = k; is = record { begins = b; count = n; named = h }; cmd_is = refl })
     third k b n (inr h) = inr (BadName line, of_name k b n h refl)
 

@@ -71,7 +71,8 @@ double_at fuel inside [] old new l r = piece_open (Quote (length inside + 1)) (d
 double_at zero inside (b ∷ rest) old new l r = absurd (omega arith)
 double_at (suc fuel) inside (b ∷ rest) old new l r = go (nat_eq b 34) (nat_eq b 92) refl refl rest l r (λ next grown m s. double_at fuel inside next old grown m s)
   where
-    go : (x y : Bool) → nat_eq b 34 ≡ x → nat_eq b 92 ≡ y → (more : List ℕ) → length (b ∷ more) ≤ suc fuel → DoubleSoFar inside (b ∷ more) old new → ((next grown : List ℕ) → length next ≤ fuel → DoubleSoFar inside next old grown → PieceAt (34 ∷ inside) old) → PieceAt (34 ∷ inside) old
+    go : (x y : Bool) → nat_eq b 34 ≡ x → nat_eq b 92 ≡ y → (more : List ℕ) → length (b ∷ more) ≤ suc fuel → DoubleSoFar inside (b ∷ more) old new
+        → ((next grown : List ℕ) → length next ≤ fuel → DoubleSoFar inside next old grown → PieceAt (34 ∷ inside) old) → PieceAt (34 ∷ inside) old
     go true y e f more k s rec = piece_there new more (double_closes inside (b ∷ more) more old new b s refl (is_byte b 34 e))
     go false true e f [] k s rec = piece_open (Quote (length inside + 1)) (double_open_pair inside (b ∷ []) [] old new (length inside + 1) b s (no_kept b f) refl (is_not_byte b 34 e) refl refl)
     go false true e f (c ∷ more) k s rec = rec more (new ++ escaped_value c) (omega arith) (double_pair inside (b ∷ c ∷ more) (c ∷ more) more old new (new ++ escaped_value c) b c s (no_kept b f) refl (is_not_byte b 34 e) refl refl)
@@ -136,7 +137,8 @@ gap_at (suc fuel) bytes rest l r =
     let m : length s.rest ≤ length rest = split_shortens Blank rest s in
     go s.rest (omega arith) (gap_blank bytes rest s.front s.rest r s.is) s.is.outside (λ next n k. gap_at fuel bytes next n k)
   where
-    sign : (b : ℕ) (next : List ℕ) (t : Bool) → nat_eq b 35 ≡ t → length (b ∷ next) ≤ suc fuel → GapSoFar bytes (b ∷ next) → IsAtEndOr (λ byte. not (is_in Blank byte)) (b ∷ next) → ((more : List ℕ) → length more ≤ fuel → GapSoFar bytes more → GapAt bytes) → GapAt bytes
+    sign : (b : ℕ) (next : List ℕ) (t : Bool) → nat_eq b 35 ≡ t → length (b ∷ next) ≤ suc fuel → GapSoFar bytes (b ∷ next) → IsAtEndOr (λ byte. not (is_in Blank byte)) (b ∷ next)
+        → ((more : List ℕ) → length more ≤ fuel → GapSoFar bytes more → GapAt bytes) → GapAt bytes
     sign b next false e m s o rec = record { behind = b ∷ next; is = gap_done bytes (b ∷ next) next b s o refl (is_not_byte b 35 e) }
     sign b next true e m s o rec =
         let p : Split InLine next = split InLine next in
@@ -228,7 +230,8 @@ lines_at (suc fuel) text (b ∷ rest) number lines l r = go (extent_in number (b
 
 pub reading_or_fault : (text : List ℕ) → ((lines : List Line) × Spells text lines) ⊎ ((error : TextError) × IsFirstFault text error)
 reading_or_fault text = elim (clean_or_fault 1 g.is.gap) [
-  | inl c ↦ lines_at (length g.behind) text g.behind (newlines g.is.gap + 1) [] (omega arith) (read_none text g.behind (newlines g.is.gap + 1) [] (record { gap = g.is.gap; whole = g.is.whole; is = g.is.is; clean = c; number_is = refl }) refl)
+  | inl c ↦ lines_at (length g.behind) text g.behind (newlines g.is.gap + 1) [] (omega arith)
+      (read_none text g.behind (newlines g.is.gap + 1) [] (record { gap = g.is.gap; whole = g.is.whole; is = g.is.is; clean = c; number_is = refl }) refl)
   | inr f ↦ inr (f.0, gap_refused text f.0 (refuses_gap text g.behind g.is.gap f.0 g.is refl f.1))
 ]
   where

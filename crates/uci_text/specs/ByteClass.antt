@@ -3,8 +3,11 @@ use Rattle.std.specs.Prelude.{ℕ, ◌≡◌, List, [], ◌∷◌, ◌++◌, Boo
 use Rattle.std.specs.Char.{is_ascii_alphanumeric, is_ascii_graphic}
 use Rattle.std.specs.List.{AllByRecursion, count_by}
 use Rattle.uci_text.specs.declared.byte_class.ByteClass.{ByteClass}
-use Rattle.uci_text.specs.declared.byte_class.ByteClass.TheVariants.{Space, Blank, InLine, Plain, Quotable, DoubleQuotable, NotZero, Name, PackageName, Printable}
-use Rattle.uci_text.specs.Byte.{nul, tab, newline, vertical_tab, form_feed, carriage_return, space, double_quote, number_sign, single_quote, dash, semicolon, backslash, underscore}
+use Rattle.uci_text.specs.declared.byte_class.ByteClass.TheVariants.{Space, Blank, InLine, Plain, Quotable}
+use Rattle.uci_text.specs.declared.byte_class.ByteClass.TheVariants.{DoubleQuotable, NotZero, Name, PackageName}
+use Rattle.uci_text.specs.declared.byte_class.ByteClass.TheVariants.{Printable}
+use Rattle.uci_text.specs.Byte.{nul, tab, newline, vertical_tab, form_feed, carriage_return, space, double_quote}
+use Rattle.uci_text.specs.Byte.{number_sign, single_quote, dash, semicolon, backslash, underscore}
 
 -- space, tab, CR, VT or FF
 abbrev pub is_space : ℕ → Bool

@@ -21,11 +21,12 @@ pub record SpellsCommands (text : List ℕ) (commands : List Cmd) : Type 0 where
   pub spelled : Spells text lines
   pub each : AllZip IsCmdOf lines commands
 
--- The extent of a command, whose first line has this number, has this fault: that of its bytes, and where they have none,
--- that of its words.
+-- The extent of a command, whose first line has this number, has this fault: that of its bytes, and where they have
+-- none, that of its words.
 pub data HasCommandFault (number : ℕ) (extent : List ℕ) (error : TextError) : Type 0 where
   of_bytes : HasFault number extent error → HasCommandFault number extent error
-  of_words : (words : List (List ℕ)) → SpellsCommand extent [] words → AllIn NotZero extent → HasWordsFault number words error → HasCommandFault number extent error
+  of_words : (words : List (List ℕ)) → SpellsCommand extent [] words → AllIn NotZero extent
+      → HasWordsFault number words error → HasCommandFault number extent error
 
 -- the first fault of the text, of bytes or of words
 abbrev pub IsFirstCommandFault : List ℕ → TextError → Type 0

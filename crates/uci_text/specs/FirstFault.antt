@@ -18,8 +18,10 @@ open_error last_backslash line = BadWord line
 -- The extent of a command, whose first line has this number, has this fault: its first zero byte, and where it has
 -- none, the piece that lacks its end.
 pub data HasFault (number : ℕ) (extent : List ℕ) (error : TextError) : Type 0 where
-  zero_byte : (before behind : List ℕ) → extent ≡ before ++ nul ∷ behind → AllIn NotZero before → error ≡ BadWord (number + newlines before) → HasFault number extent error
-  no_end : (before : List ℕ) (open' : Open) → AllIn NotZero extent → IsOpenCommand extent before open' → error ≡ open_error open' (number + newlines before) → HasFault number extent error
+  zero_byte : (before behind : List ℕ) → extent ≡ before ++ nul ∷ behind → AllIn NotZero before → error
+      ≡ BadWord (number + newlines before) → HasFault number extent error
+  no_end : (before : List ℕ) (open' : Open) → AllIn NotZero extent → IsOpenCommand extent before open' → error
+      ≡ open_error open' (number + newlines before) → HasFault number extent error
 
 -- the extent has no such fault, on whatever line it begins
 abbrev pub IsFreeOf : (ℕ → List ℕ → TextError → Type 0) → List ℕ → Type 0

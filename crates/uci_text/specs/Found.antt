@@ -11,7 +11,8 @@ use Rattle.uci_text.specs.Piece.{Piece, IsPiece, piece_text, piece_value}
 use Rattle.uci_text.specs.Word.{IsWord, word_text, word_value}
 use Rattle.uci_text.specs.Gap.{IsGap}
 use Rattle.uci_text.specs.Command.{Command, IsCommand, SpellsCommand, command_text, command_words}
-use Rattle.uci_text.specs.Open.{Open, open_single, open_double, open_pair, last_backslash, open_text, IsOpen, IsOpenCommand, IsExtent}
+use Rattle.uci_text.specs.Open.{Open, open_single, open_double, open_pair, last_backslash, open_text, IsOpen}
+use Rattle.uci_text.specs.Open.{IsOpenCommand, IsExtent}
 use Rattle.uci_text.specs.FirstFault.{HasFault}
 
 -- there is a byte, and the test is false of the first one
@@ -77,7 +78,8 @@ pub record TakesGap (bytes rest : List ℕ) : Type 0 where
   pub whole : bytes ≡ gap ++ rest
   pub is : IsGap gap rest
 
--- the bytes begin with the extent of a command without a zero byte, whose line is this one, and on line next is the rest
+-- the bytes begin with the extent of a command without a zero byte, whose line is this one, and on line next is the
+-- rest
 pub record ReadsExtent (number : ℕ) (bytes : List ℕ) (line : Line) (behind : List ℕ) (next : ℕ) : Type 0 where
   pub extent : List ℕ
   pub whole : bytes ≡ extent ++ behind

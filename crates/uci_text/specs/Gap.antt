@@ -21,7 +21,8 @@ gap_text fillers = flat_map filler_text fillers
 abbrev pub AreFillers : List Filler → List ℕ → Type 0
 AreFillers [] behind = Unit {0}
 AreFillers (blank bytes ∷ fillers) behind = AllIn Blank bytes × AreFillers fillers behind
-AreFillers (comment bytes ∷ fillers) behind = AllIn InLine bytes × IsAtEndOr (λ byte. nat_eq byte newline) (gap_text fillers ++ behind) × AreFillers fillers behind
+AreFillers (comment bytes ∷ fillers) behind = AllIn InLine bytes
+    × IsAtEndOr (λ byte. nat_eq byte newline) (gap_text fillers ++ behind) × AreFillers fillers behind
 
 -- the gap ends where this follows it: where a command begins, or at the end of the text
 pub record IsGap (gap behind : List ℕ) : Type 0 where

@@ -6,7 +6,8 @@ use Rattle.uci_text.specs.declared.byte_class.ByteClass.TheVariants.{Name, Packa
 use Rattle.uci_text.specs.declared.keyword.Keyword.{Keyword}
 use Rattle.uci_text.specs.declared.keyword.Keyword.TheVariants.{Package, Config, Item, ListItem}
 use Rattle.uci_text.specs.declared.cmd.Cmd.{Cmd}
-use Rattle.uci_text.specs.declared.cmd.Cmd.TheVariants.{Package as PackageCmd, Config as ConfigCmd, Item as ItemCmd, ListItem as ListItemCmd}
+use Rattle.uci_text.specs.declared.cmd.Cmd.TheVariants.{Package as PackageCmd, Config as ConfigCmd, Item as ItemCmd}
+use Rattle.uci_text.specs.declared.cmd.Cmd.TheVariants.{ListItem as ListItemCmd}
 use Rattle.uci_text.specs.declared.text_error.TextError.{TextError}
 use Rattle.uci_text.specs.declared.text_error.TextError.TheVariants.{UnknownCommand, ArgumentCount, BadName}
 use Rattle.uci_text.specs.ByteClass.{AllIn}
@@ -29,8 +30,8 @@ IsCount ListItem count = (count ≡ 2) ⊎ (count ≡ 3)
 abbrev pub IsNameOf : ByteClass → List ℕ → Type 0
 IsNameOf class bytes = (0 < length bytes) × AllIn class bytes
 
--- what the arguments may be: a package's name; a type and a section's name, which may be empty; an option's name and any
--- value
+-- what the arguments may be: a package's name; a type and a section's name, which may be empty; an option's name and
+-- any value
 abbrev pub AreNamed : Keyword → List ℕ → List ℕ → Type 0
 AreNamed Package name more = IsNameOf PackageName name
 AreNamed Config kind name = IsNameOf Printable kind × AllIn Name name
@@ -65,9 +66,13 @@ pub record IsCmd (line : ℕ) (words : List (List ℕ)) (cmd : Cmd) : Type 0 whe
   pub is : IsKind keyword words
   pub cmd_is : cmd ≡ cmd_of keyword line (word_at words 1) (word_at words 2)
 
--- The words on this line are no command, and this is told: of a first word that is of no kind, and else of the number of
--- arguments, and else of an argument that is not what it stands for.
+-- The words on this line are no command, and this is told: of a first word that is of no kind, and else of the number
+-- of arguments, and else of an argument that is not what it stands for.
 pub data HasWordsFault (line : ℕ) (words : List (List ℕ)) (error : TextError) : Type 0 where
-  of_first : ((keyword : Keyword) → Begins keyword (word_at words 0) → ⊥) → error ≡ UnknownCommand line → HasWordsFault line words error
-  of_count : (keyword : Keyword) → Begins keyword (word_at words 0) → (IsCount keyword (length words) → ⊥) → error ≡ ArgumentCount line → HasWordsFault line words error
-  of_name : (keyword : Keyword) → Begins keyword (word_at words 0) → IsCount keyword (length words) → (AreNamed keyword (word_at words 1) (word_at words 2) → ⊥) → error ≡ BadName line → HasWordsFault line words error
+  of_first : ((keyword : Keyword) → Begins keyword (word_at words 0) → ⊥) → error ≡ UnknownCommand line
+      → HasWordsFault line words error
+  of_count : (keyword : Keyword) → Begins keyword (word_at words 0) → (IsCount keyword (length words) → ⊥) → error
+      ≡ ArgumentCount line → HasWordsFault line words error
+  of_name : (keyword : Keyword) → Begins keyword (word_at words 0) → IsCount keyword (length words)
+      → (AreNamed keyword (word_at words 1) (word_at words 2) → ⊥) → error ≡ BadName line
+      → HasWordsFault line words error

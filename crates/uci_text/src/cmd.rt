@@ -8,7 +8,8 @@ pub enum Cmd {
         line: u32,
         name: Text,
     },
-    /// `config TYPE`, `config TYPE NAME` or the same with `c`: a section, whose name may be missing or empty.
+    /// `config TYPE`, `config TYPE NAME` or the same with `c`: a section, whose name may be missing
+    /// or empty.
     Config {
         line: u32,
         kind: Text,

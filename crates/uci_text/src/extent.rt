@@ -1,10 +1,12 @@
-ghost use Rattle.std.specs.Prelude.{◌≡◌, ◌≢◌, ◌<◌, ◌≤◌, ◌+◌, ◌-◌, ◌^◌, ◌++◌, ℕ, List, length, IfOk, Err};
+ghost use Rattle.std.specs.Prelude.{◌≡◌, ◌≢◌, ◌<◌, ◌≤◌, ◌+◌, ◌-◌, ◌^◌, ◌++◌, ℕ, List, length, IfOk};
+ghost use Rattle.std.specs.Prelude.{Err};
 ghost use Rattle.uci_text.specs.declared.byte_class.ByteClass.TheVariants.{NotZero};
 ghost use Rattle.uci_text.specs.declared.text_error.TextError.{TextError};
 ghost use Rattle.uci_text.specs.ByteClass as class;
 ghost use Rattle.uci_text.specs.ByteClass.{AllIn};
 ghost use Rattle.uci_text.specs.FirstFault.{HasFault};
-ghost use Rattle.uci_text.specs.Found.{BeginsOutside, HasNoEnd, ReadsExtent, RefusesExtent, ReadsGap, RefusesGap};
+ghost use Rattle.uci_text.specs.Found.{BeginsOutside, HasNoEnd, ReadsExtent, RefusesExtent};
+ghost use Rattle.uci_text.specs.Found.{ReadsGap, RefusesGap};
 
 use crate::byte_class::ByteClass;
 use crate::command::read_command;
@@ -83,7 +85,8 @@ fn fault_of(number: u32, bytes: &[u8], stop: Stop) -> TextError
     }
 }
 
-/// The line of the command in front, what is behind its extent, and the number of the line that is there.
+/// The line of the command in front, what is behind its extent, and the number of the line that is
+/// there.
 pub fn read_extent(
     alloc: Global,
     number: u32,

@@ -65,8 +65,8 @@ impl Keyword {
     }
 }
 
-/// Whether the bytes are one or more of the class: the name of a section or an option where it is `Name`, of a package where
-/// it is `PackageName`, and a section's type where it is `Printable`.
+/// Whether the bytes are one or more of the class: the name of a section or an option where it is
+/// `Name`, of a package where it is `PackageName`, and a section's type where it is `Printable`.
 pub fn is_name(class: ByteClass, bytes: &[u8]) -> bool
     ensures { IsTrue result ↔ IsNameOf class bytes.now }
 {

@@ -1,4 +1,5 @@
-//! UCI text, the syntax of OpenWrt's configuration files: a text as lines of words, and values as quoted words.
+//! UCI text, the syntax of OpenWrt's configuration files: a text as lines of words, and values as
+//! quoted words.
 #![tactic(auto)]
 
 mod byte_class;

@@ -27,8 +27,8 @@ fn append_quoted(out: &mut Vec<u8>, value: &[u8]) -> Result<(), Memory>
     Ok(())
 }
 
-/// Appends the value in single quotes, and each single quote in it as `'\''`: a word that spells the value, where this has
-/// no zero byte.
+/// Appends the value in single quotes, and each single quote in it as `'\''`: a word that spells
+/// the value, where this has no zero byte.
 ///
 /// # Errors
 ///

@@ -9,7 +9,8 @@ use thiserror::Error;
 /// Why a text was not read: its first fault, or want of memory.
 #[derive(Clone, Copy, Debug, Error)]
 pub enum TextError {
-    /// A zero byte is on this line, or a backslash that is the last byte and stands outside quotes and comments.
+    /// A zero byte is on this line, or a backslash that is the last byte and stands outside quotes
+    /// and comments.
     #[error("bad word in line {line}")]
     BadWord { line: u32 },
     /// The quote that opens on this line is not closed.
@@ -30,8 +31,8 @@ pub enum TextError {
 }
 
 impl TextError {
-    /// The number of the kind of error: 10 for `BadWord`, 11 for `OpenQuote`, 12 for `UnknownCommand`, 13 for
-    /// `ArgumentCount`, 14 for `BadName`, 8 for `Memory`.
+    /// The number of the kind of error: 10 for `BadWord`, 11 for `OpenQuote`, 12 for
+    /// `UnknownCommand`, 13 for `ArgumentCount`, 14 for `BadName`, 8 for `Memory`.
     pub fn number(&self) -> u8
         ensures { result ≡ number_of self.now }
     {

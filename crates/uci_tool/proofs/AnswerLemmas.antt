@@ -21,7 +21,8 @@ stops {A} {B} first (Refused refusal) next is = ap (λ (z : Result A Refusal). i
 stops first DiskFailed next is = absurd is
 stops first Memory next is = tt
 
-pub changes_go_on : {A X : Type 0} (first : Result A Refusal) (value : A) (next : A → Result Folder Refusal) (result : Result X Stop) (old new : Folder) → first ≡ Ok value → Changes result old new (next value) → Changes result old new (if_ok first next)
+pub changes_go_on : {A X : Type 0} (first : Result A Refusal) (value : A) (next : A → Result Folder Refusal) (result : Result X Stop) (old new : Folder) → first ≡ Ok value → Changes result old new (next value)
+    → Changes result old new (if_ok first next)
 changes_go_on {A} {X} first value next result old new is changes = subst (λ (z : Result A Refusal). Changes result old new (if_ok z next)) (sym is) changes
 
 pub changes_stop : {A : Type 0} (first : Result A Refusal) (stop : Stop) (next : A → Result Folder Refusal) (folder : Folder) → Answers {A = A} (Err stop) first → Changes {X = Unit {0}} (Err stop) folder folder (if_ok first next)
@@ -29,7 +30,8 @@ changes_stop {A} first (Refused refusal) next folder is = (ap (λ (z : Result A 
 changes_stop first DiskFailed next folder is = absurd is
 changes_stop first Memory next folder is = refl
 
-pub effects_go_on : {A : Type 0} (first : Result A Refusal) (value : A) (next : A → Result Effect Refusal) (result : Result (List ℕ) Stop) (old new : Folder) → first ≡ Ok value → Effects result old new (next value) → Effects result old new (if_ok first next)
+pub effects_go_on : {A : Type 0} (first : Result A Refusal) (value : A) (next : A → Result Effect Refusal) (result : Result (List ℕ) Stop) (old new : Folder) → first ≡ Ok value → Effects result old new (next value)
+    → Effects result old new (if_ok first next)
 effects_go_on {A} first value next result old new is effects = subst (λ (z : Result A Refusal). Effects result old new (if_ok z next)) (sym is) effects
 
 pub effects_stop : {A : Type 0} (first : Result A Refusal) (stop : Stop) (next : A → Result Effect Refusal) (folder : Folder) → Answers {A = A} (Err stop) first → Effects (Err stop) folder folder (if_ok first next)
@@ -41,7 +43,8 @@ effects_stop first Memory next folder is = refl
 pub effect_of : (first : Result Folder Refusal) (text told : List ℕ) (old new : Folder) → first ≡ Ok new → told ≡ text → Effects (Ok told) old new (if_ok first (λ after. Ok (record { output = text; after = after })))
 effect_of first text told old new is same = effects_go_on first new (λ after. Ok (record { output = text; after = after })) (Ok told) old new is (let both : text ≡ told = sym same in cc)
 
-pub effect_stopped : (first : Result Folder Refusal) (stop : Stop) (text : List ℕ) (old new : Folder) → Changes {X = Unit {0}} (Err stop) old new first → Effects (Err stop) old new (if_ok first (λ after. Ok (record { output = text; after = after })))
+pub effect_stopped : (first : Result Folder Refusal) (stop : Stop) (text : List ℕ) (old new : Folder) → Changes {X = Unit {0}} (Err stop) old new first
+    → Effects (Err stop) old new (if_ok first (λ after. Ok (record { output = text; after = after })))
 effect_stopped first (Refused refusal) text old new is = (ap (λ (z : Result Folder Refusal). if_ok z (λ after. Ok (record { output = text; after = after }))) is.0, is.1)
 effect_stopped first DiskFailed text old new is = tt
 effect_stopped first Memory text old new is = is

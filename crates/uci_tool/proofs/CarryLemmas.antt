@@ -66,7 +66,8 @@ pub commit_one : {X : Type 0} (changed : Result X Stop) (result : Result Report 
     → Carries result (λ report. of_changed (commit_done old (Some name)) ≡ carried_as report new) new (of_commit old (Some name))
 commit_one changed result old new name changes reports = subst (λ (z : Carried). CommitTo old new result z) (changed_same old (commit_package old name)) (change_carries changed result old new (commit_package old name) changes reports)
 
-pub commit_all : (refusal : Option Refusal) (report : Report) (old new : Folder) → commit_each old old.names ≡ record { refusal = refusal; after = new } → report ≡ record { output = []; told = (of_changed (record { refusal = refusal; after = new })).told; refusal = refusal }
+pub commit_all : (refusal : Option Refusal) (report : Report) (old new : Folder) → commit_each old old.names ≡ record { refusal = refusal; after = new } → report
+    ≡ record { output = []; told = (of_changed (record { refusal = refusal; after = new })).told; refusal = refusal }
     → of_changed (commit_done old None) ≡ carried_as report new
 commit_all refusal report old new is told = ap (λ (z : Changed). of_changed z) is ∙ ap (λ (z : Report). carried_as z new) (sym told)
 
@@ -114,11 +115,13 @@ text_memory text_error.Memory = inl refl
 abbrev BatchTo : Options → Folder → Folder → Result Report Stop → Result (List Line) TextError → Type 0
 BatchTo options old new result found = Carries result (λ report. batch_of options old found ≡ carried_as report new) new (batch_passes options old found)
 
-pub batch_goes_on : (options : Options) (old new : Folder) (input : List ℕ) (lines : List Line) (result : Result Report Stop) → Spells input lines → Carries result (λ report. lines_done options old lines ≡ carried_as report new) new (lines_passes options old lines)
+pub batch_goes_on : (options : Options) (old new : Folder) (input : List ℕ) (lines : List Line) (result : Result Report Stop) → Spells input lines
+    → Carries result (λ report. lines_done options old lines ≡ carried_as report new) new (lines_passes options old lines)
     → Carries result (λ report. batch_of options old (lines_in input) ≡ carried_as report new) new (batch_passes options old (lines_in input))
 batch_goes_on options old new input lines result spells h = subst (λ (z : Result (List Line) TextError). BatchTo options old new result z) (sym (lines_are input lines spells)) h
 
-by_fault : (options : Options) (folder : Folder) (fault : Option Fault) (result : Result Report Stop) → (fault ≡ None → ⊥) → ReportsChange {X = Unit {0}} (Err (stop_of_fault fault)) result → Carries result (λ report. refused folder (refusal_of fault) ≡ carried_as report folder) folder (folder ∷ [])
+by_fault : (options : Options) (folder : Folder) (fault : Option Fault) (result : Result Report Stop) → (fault ≡ None → ⊥) → ReportsChange {X = Unit {0}} (Err (stop_of_fault fault)) result
+    → Carries result (λ report. refused folder (refusal_of fault) ≡ carried_as report folder) folder (folder ∷ [])
 by_fault options folder None result no' reports = absurd (no' refl)
 by_fault options folder (Some fault) (Ok report) no' reports = ap (λ (z : Report). carried_as z folder) (sym reports)
 by_fault options folder (Some fault) (Err (Refused refusal)) no' reports = reports
@@ -163,7 +166,8 @@ batch_front options folder (Ok lines) = lines_front options folder lines
 batch_front options folder (Err error) = inl refl
 
 -- an input that has no lines
-pub batch_stops : (options : Options) (folder : Folder) (input : List ℕ) (error : TextError) (result : Result Report Stop) → (error ≢ text_error.Memory → IsFirstFault input error) → ReportsChange {X = Unit {0}} (Err (stop_of_text error)) result
+pub batch_stops : (options : Options) (folder : Folder) (input : List ℕ) (error : TextError) (result : Result Report Stop) → (error ≢ text_error.Memory → IsFirstFault input error)
+    → ReportsChange {X = Unit {0}} (Err (stop_of_text error)) result
     → Carries result (λ report. batch_of options folder (lines_in input) ≡ carried_as report folder) folder (batch_passes options folder (lines_in input))
 batch_stops options folder input error result has reports = go (text_memory error)
   where

@@ -156,7 +156,8 @@ fits_once words left fits is more = over left (fits is).0 (fits is).1 (fits is).
     over (Some l) text told within more = let same : l ≡ text = cc told in let size = ap length same in omega arith
 
 -- the run of a command over the folder that was found
-module _ (words : List (List ℕ)) (told : Option (ℕ → ℕ)) (streams : Streams) (files files_now staged staged_now : View) (some : asks words ≡ true) (now : ℕ) (moment : IsMoment told now) (before after : Folder) (found : IsFound files staged now before) where
+module _ (words : List (List ℕ)) (told : Option (ℕ → ℕ)) (streams : Streams) (files files_now staged staged_now : View) (some : asks words ≡ true) (now : ℕ) (moment : IsMoment told now) (before after : Folder)
+    (found : IsFound files staged now before) where
   found_at : (other : ℕ) (read : Files) → IsAsked words told files other read → HasReading files.names read other
   found_at other read asked = record {
     state = before.files;
@@ -216,8 +217,10 @@ module _ (words : List (List ℕ)) (told : Option (ℕ → ℕ)) (streams : Stre
       let by : status ≡ 8 = same ∙ ap (λ (e : UciEnd). e.status) ends in
       ran_comes status (λ calm failed. no_failure_of status 8 by (omega arith) failed) (λ text calm reads left over. inr by) (λ calm fits. inr by)
 
-pub run_comes : (words : List (List ℕ)) (told : Option (ℕ → ℕ)) (streams : Streams) (files files_now staged staged_now : View) (status : ℕ) → RunEnds words told streams files files_now staged staged_now status → RunComes words told streams files files_now staged staged_now status
+pub run_comes : (words : List (List ℕ)) (told : Option (ℕ → ℕ)) (streams : Streams) (files files_now staged staged_now : View) (status : ℕ) → RunEnds words told streams files files_now staged staged_now status
+    → RunComes words told streams files files_now staged staged_now status
 run_comes words told streams files files_now staged staged_now status (no_command none is out text) = usage_comes words told streams files files_now staged staged_now status none is
 run_comes words told streams files files_now staged staged_now status (not_opened some now moment shut why is out text stops) = shut_comes words told streams files files_now staged staged_now status some now moment shut why is
-run_comes words told streams files files_now staged staged_now status (opened some now moment before after found end ends is held stops) = opened_comes words told streams files files_now staged staged_now some now moment before after found end status ends is
+run_comes words told streams files files_now staged staged_now status (opened some now moment before after found end ends is held stops) =
+    opened_comes words told streams files files_now staged staged_now some now moment before after found end status ends is
 run_comes words told streams files files_now staged staged_now status (words_unread is out text files_stay staged_stay) = memory_comes words told streams files files_now staged staged_now status is

@@ -107,10 +107,14 @@ committed_is old new name names (inr h) = printed_is old new name names h
 
 -- ---- refused
 
-pub commit_stopped : (old new : Store) (name : List ℕ) (error : StoreError) → folder_of new ≡ folder_of old → CommitStops old 0 name error → Changes {X = Unit {0}} (Err (stop_of error)) (folder_of old) (folder_of new) (commit_package (folder_of old) name)
+pub commit_stopped : (old new : Store) (name : List ℕ) (error : StoreError) → folder_of new ≡ folder_of old → CommitStops old 0 name error
+    → Changes {X = Unit {0}} (Err (stop_of error)) (folder_of old) (folder_of new) (commit_package (folder_of old) name)
 commit_stopped old new name store_error.NoPackage kept h = (no_file (folder_of old) name (λ found. where_free (folder_of old) (committed_file (folder_of old) found)) h.1, kept)
-commit_stopped old new name (store_error.Snap (snap_error.Waiting deadline)) kept h = (at_file (folder_of old) name h.file (λ found. where_free (folder_of old) (committed_file (folder_of old) found)) h.number ∙ waiting_there (folder_of old) (committed_file (folder_of old) h.file) deadline h.waits.1, kept)
-commit_stopped old new name (store_error.Parse error) kept h = by_fault (fault_of error) (folder_of old) (folder_of new) (commit_package (folder_of old) name) kept (at_free (folder_of old) name h.file h.number h.free.rests ∙ some_there (folder_of old) h.file h.some ∙ unread_there old h.file error (printed_at (folder_of old) h.file) h.because)
+commit_stopped old new name (store_error.Snap (snap_error.Waiting deadline)) kept h =
+    (at_file (folder_of old) name h.file (λ found. where_free (folder_of old) (committed_file (folder_of old) found)) h.number ∙ waiting_there (folder_of old) (committed_file (folder_of old) h.file) deadline h.waits.1, kept)
+commit_stopped old new name (store_error.Parse error) kept h =
+    by_fault (fault_of error) (folder_of old) (folder_of new) (commit_package (folder_of old) name) kept
+    (at_free (folder_of old) name h.file h.number h.free.rests ∙ some_there (folder_of old) h.file h.some ∙ unread_there old h.file error (printed_at (folder_of old) h.file) h.because)
 commit_stopped old new name (store_error.TooLarge bytes) kept h = (
   at_free (folder_of old) name h.file h.number h.free.rests
       ∙ some_there (folder_of old) h.file h.some
@@ -156,10 +160,12 @@ is_disk (store_error.NotHolder holder) = inr (λ e. cc)
 is_disk store_error.NothingStaged = inr (λ e. cc)
 is_disk store_error.Memory = inr (λ e. cc)
 
-pub commit_refused : (old new : Store) (name : List ℕ) (Untouched : Type 0) (error : StoreError) (a b c d : View) → names_of new ≡ names_of old → IsLeft old new (CommitsTo old 0 name) Untouched error → CommitRefuses old 0 name a b c d error → Changes {X = Unit {0}} (Err (stop_of error)) (folder_of old) (folder_of new) (commit_package (folder_of old) name)
+pub commit_refused : (old new : Store) (name : List ℕ) (Untouched : Type 0) (error : StoreError) (a b c d : View) → names_of new ≡ names_of old → IsLeft old new (CommitsTo old 0 name) Untouched error → CommitRefuses old 0 name a b c d error
+    → Changes {X = Unit {0}} (Err (stop_of error)) (folder_of old) (folder_of new) (commit_package (folder_of old) name)
 commit_refused old new name Untouched error a b c d names left h = go (is_disk error) h
   where
-    go : (error ≡ store_error.Snap snap_error.DiskFailed) ⊎ (error ≢ store_error.Snap snap_error.DiskFailed) → CommitRefuses old 0 name a b c d error → Changes {X = Unit {0}} (Err (stop_of error)) (folder_of old) (folder_of new) (commit_package (folder_of old) name)
+    go : (error ≡ store_error.Snap snap_error.DiskFailed) ⊎ (error ≢ store_error.Snap snap_error.DiskFailed) → CommitRefuses old 0 name a b c d error
+        → Changes {X = Unit {0}} (Err (stop_of error)) (folder_of old) (folder_of new) (commit_package (folder_of old) name)
     go (inl e) r = disk_failed error (folder_of old) (folder_of new) (commit_package (folder_of old) name) e
     go (inr no') (inl r) = commit_stopped old new name error (same_all old new (files_of old) (staged_in old) names (left_files old new (CommitsTo old 0 name) Untouched error no' left) left.staged) r
     go (inr no') (inr r) = absurd (no' r.0)
@@ -204,7 +210,8 @@ at_front folder (name ∷ names) = go (commit_package folder name) refl
     go (Err refusal) e = inl refl
 
 -- and so is the one that is left
-end_step : (folder : Folder) (names : List (List ℕ)) (answer : Result Folder Refusal) → ((after : Folder) → IsAmong (commit_each after names).after (commit_passes after names)) → IsAmong (by_answer folder names answer).after (passes_by folder names answer)
+end_step : (folder : Folder) (names : List (List ℕ)) (answer : Result Folder Refusal) → ((after : Folder) → IsAmong (commit_each after names).after (commit_passes after names))
+    → IsAmong (by_answer folder names answer).after (passes_by folder names answer)
 unfolding by_answer passes_by
 end_step folder names (Ok after) next = inr (next after)
 end_step folder names (Err refusal) next = inl refl

@@ -73,7 +73,8 @@ ends_before words before after streams files files_mid files_now staged staged_m
 ends_before words before after streams files files_mid files_now staged staged_mid staged_now end later later' (input_too_long asks more ends out told left) = input_too_long asks more ends out told left
 ends_before words before after streams files files_mid files_now staged staged_mid staged_now end later later' (read_failed rose ends out told left) = read_failed rose ends out told left
 ends_before words before after streams files files_mid files_now staged staged_mid staged_now end later later' (write_failed input is rose ends out told left) = write_failed input is rose ends out told left
-ends_before words before after streams files files_mid files_now staged staged_mid staged_now end later later' (disk_failed rose ends out told) = disk_failed (rose_either files.faults files_mid.faults files_now.faults staged.faults staged_mid.faults staged_now.faults later later' rose) ends out told
+ends_before words before after streams files files_mid files_now staged staged_mid staged_now end later later' (disk_failed rose ends out told) =
+    disk_failed (rose_either files.faults files_mid.faults files_now.faults staged.faults staged_mid.faults staged_now.faults later later' rose) ends out told
 ends_before words before after streams files files_mid files_now staged staged_mid staged_now end later later' (no_memory ends out told passed) = no_memory ends out told passed
 
 -- what a disk of staged changes held, it held before it was read

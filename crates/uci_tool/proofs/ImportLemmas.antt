@@ -28,12 +28,14 @@ use Rattle.uci_tool.proofs.AnswerLemmas.{changes_go_on}
 
 -- ---- `import`
 
-pub import_merges : {X : Type 0} (options : Options) (old new : Folder) (name input : List ℕ) (tree : Package) (result : Result X Stop) → Reads name input tree → options.merge ≡ true → Changes result old new (merge_done old name input) → Changes result old new (import_done options old name input)
+pub import_merges : {X : Type 0} (options : Options) (old new : Folder) (name input : List ℕ) (tree : Package) (result : Result X Stop) → Reads name input tree → options.merge ≡ true → Changes result old new (merge_done old name input)
+    → Changes result old new (import_done options old name input)
 import_merges options old new name input tree result reads merges changes =
     changes_go_on (parsed (package_in name input)) tree (λ found. cond options.merge (merge_done old name input) (replaced old found)) result old new (ap parsed (package_is name input tree reads))
     (subst (λ (z : Bool). Changes result old new (cond z (merge_done old name input) (replaced old tree))) (sym merges) changes)
 
-pub import_replaces : {X : Type 0} (options : Options) (old new : Folder) (name input : List ℕ) (tree : Package) (result : Result X Stop) → Reads name input tree → options.merge ≡ false → Changes result old new (replaced old tree) → Changes result old new (import_done options old name input)
+pub import_replaces : {X : Type 0} (options : Options) (old new : Folder) (name input : List ℕ) (tree : Package) (result : Result X Stop) → Reads name input tree → options.merge ≡ false → Changes result old new (replaced old tree)
+    → Changes result old new (import_done options old name input)
 import_replaces options old new name input tree result reads merges changes =
     changes_go_on (parsed (package_in name input)) tree (λ found. cond options.merge (merge_done old name input) (replaced old found)) result old new (ap parsed (package_is name input tree reads))
     (subst (λ (z : Bool). Changes result old new (cond z (merge_done old name input) (replaced old tree))) (sym merges) changes)
@@ -43,7 +45,8 @@ is_memory (tree_error.Text error) = inr (λ e. cc)
 is_memory (tree_error.NoSection line) = inr (λ e. cc)
 is_memory tree_error.Memory = inl refl
 
-pub import_refused : (options : Options) (folder : Folder) (name input : List ℕ) (error : TreeError) → (error ≢ tree_error.Memory → HasTreeFault input error) → Changes {X = Unit {0}} (Err (stop_of_tree error)) folder folder (import_done options folder name input)
+pub import_refused : (options : Options) (folder : Folder) (name input : List ℕ) (error : TreeError) → (error ≢ tree_error.Memory → HasTreeFault input error)
+    → Changes {X = Unit {0}} (Err (stop_of_tree error)) folder folder (import_done options folder name input)
 import_refused options folder name input error has = go (is_memory error)
   where
     next : Package → Result Folder Refusal

@@ -150,8 +150,10 @@ lines_none options store files staged lines open' = record { writes = writes_non
 line_here : (lines : List Line) (place : ℕ) (line : Line) → place < length lines → line ≡ slice_index_or lines place line → drop place lines ≡ line ∷ drop (place + 1) lines
 line_here lines place line inside is = rw add-one (drop-cons lines place line inside ∙ ap (λ y. y ∷ drop (suc place) lines) (sym is))
 
-behind_line : (options : Options) (folder next found : Folder) (line : Line) (rest : List Line) → (line_done options folder line.words).after ≡ next → IsAmong found (lines_passes options next rest) → IsAmong found (lines_passes options folder (line ∷ rest))
-behind_line options folder next found line rest is h = among_behind found (line_passes options folder line.words) (lines_passes options (line_done options folder line.words).after rest) (subst (λ (z : Folder). IsAmong found (lines_passes options z rest)) (sym is) h)
+behind_line : (options : Options) (folder next found : Folder) (line : Line) (rest : List Line) → (line_done options folder line.words).after ≡ next → IsAmong found (lines_passes options next rest)
+    → IsAmong found (lines_passes options folder (line ∷ rest))
+behind_line options folder next found line rest is h = among_behind found (line_passes options folder line.words) (lines_passes options (line_done options folder line.words).after rest)
+    (subst (λ (z : Folder). IsAmong found (lines_passes options z rest)) (sym is) h)
 
 -- the next line is carried out
 pub lines_more : (options : Options) (old now next : Store) (a b e c d f : View) (lines : List Line) (place : ℕ) (line : Line) (report : Report) (output told more_output more_told : List ℕ) (refusal other : Option Refusal)
@@ -167,7 +169,8 @@ lines_more options old now next a b e c d f lines place line report output told 
       ∙ line_step options (carried_from output told refusal (folder_of now)) (carried_as report (folder_of next)) (folder_of now) line rest done
       ∙ ap (λ (z : List Line). then_done (carried_from output told refusal (folder_of now)) (lines_done options (folder_of now) z)) (sym here)
       ∙ so.left;
-  among = λ found h. so.among found (subst (λ (z : List Line). IsAmong found (lines_passes options (folder_of now) z)) (sym here) (behind_line options (folder_of now) (folder_of next) found line rest (ap (λ (z : Carried). z.after) done) h));
+  among = λ found h. so.among found (subst (λ (z : List Line). IsAmong found (lines_passes options (folder_of now) z)) (sym here)
+      (behind_line options (folder_of now) (folder_of next) found line rest (ap (λ (z : Carried). z.after) done) h));
 }
   where
     rest : List Line
@@ -181,15 +184,19 @@ lines_more options old now next a b e c d f lines place line report output told 
 
 -- a folder that a line passes through
 pub lines_among : (options : Options) (old now : Store) (a b c d : View) (lines : List Line) (place : ℕ) (line : Line) (output told : List ℕ) (refusal : Option Refusal) (found : Folder)
-    → LinesSoFar options old now a b c d lines place output told refusal → place < length lines → line ≡ slice_index_or lines place line → IsAmong found (line_passes options (folder_of now) line.words) → IsAmong found (lines_passes options (folder_of old) lines)
+    → LinesSoFar options old now a b c d lines place output told refusal → place < length lines → line ≡ slice_index_or lines place line → IsAmong found (line_passes options (folder_of now) line.words)
+    → IsAmong found (lines_passes options (folder_of old) lines)
 lines_among options old now a b c d lines place line output told refusal found so inside is h =
-    so.among found (subst (λ (z : List Line). IsAmong found (lines_passes options (folder_of now) z)) (sym (line_here lines place line inside is)) (among_front found (line_passes options (folder_of now) line.words) (lines_passes options (line_done options (folder_of now) line.words).after (drop (place + 1) lines)) h))
+    so.among found (subst (λ (z : List Line). IsAmong found (lines_passes options (folder_of now) z)) (sym (line_here lines place line inside is))
+    (among_front found (line_passes options (folder_of now) line.words) (lines_passes options (line_done options (folder_of now) line.words).after (drop (place + 1) lines)) h))
 
 -- the one that it leaves
 pub lines_left : (options : Options) (old now next : Store) (a b c d : View) (lines : List Line) (place : ℕ) (line : Line) (report : Report) (output told : List ℕ) (refusal : Option Refusal)
-    → LinesSoFar options old now a b c d lines place output told refusal → place < length lines → line ≡ slice_index_or lines place line → line_done options (folder_of now) line.words ≡ carried_as report (folder_of next) → IsAmong (folder_of next) (lines_passes options (folder_of old) lines)
+    → LinesSoFar options old now a b c d lines place output told refusal → place < length lines → line ≡ slice_index_or lines place line → line_done options (folder_of now) line.words ≡ carried_as report (folder_of next)
+    → IsAmong (folder_of next) (lines_passes options (folder_of old) lines)
 lines_left options old now next a b c d lines place line report output told refusal so inside is done =
-    lines_among options old now a b c d lines place line output told refusal (folder_of next) so inside is (subst (λ (z : Folder). IsAmong z (line_passes options (folder_of now) line.words)) (ap (λ (z : Carried). z.after) done) (line_end options (folder_of now) line.words))
+    lines_among options old now a b c d lines place line output told refusal (folder_of next) so inside is
+    (subst (λ (z : Folder). IsAmong z (line_passes options (folder_of now) line.words)) (ap (λ (z : Carried). z.after) done) (line_end options (folder_of now) line.words))
 
 -- and where the line was cut short, so are the lines
 pub lines_stop : (options : Options) (old now next : Store) (a b c d : View) (lines : List Line) (place : ℕ) (line : Line) (end : Stop) (output told : List ℕ) (refusal : Option Refusal)
@@ -206,7 +213,8 @@ first_alone (Some refusal) = refl
 
 -- all were carried out
 pub lines_all : (options : Options) (old now : Store) (a b c d : View) (lines : List Line) (place : ℕ) (output told : List ℕ) (refusal : Option Refusal) (report : Report)
-    → LinesSoFar options old now a b c d lines place output told refusal → length lines ≤ place → report ≡ record { output = output; told = told; refusal = refusal } → lines_done options (folder_of old) lines ≡ carried_as report (folder_of now)
+    → LinesSoFar options old now a b c d lines place output told refusal → length lines ≤ place → report ≡ record { output = output; told = told; refusal = refusal } → lines_done options (folder_of old) lines
+    ≡ carried_as report (folder_of now)
 unfolding carried_from
 lines_all options old now a b c d lines place output told refusal report so end is =
     sym so.left

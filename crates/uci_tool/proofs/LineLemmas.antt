@@ -23,7 +23,8 @@ then_assoc a b c =
     ∙ ap (λ (z : Option Refusal). carried_from (a.output ++ (b.output ++ c.output)) (a.told ++ (b.told ++ c.told)) z c.after) (first_of_three a.refusal b.refusal c.refusal)
 
 -- the next line goes to those that were carried out
-pub line_step : (options : Options) (front one : Carried) (folder : Folder) (line : Line) (lines : List Line) → line_done options folder line.words ≡ one → then_done (then_done front one) (lines_done options one.after lines) ≡ then_done front (lines_done options folder (line ∷ lines))
+pub line_step : (options : Options) (front one : Carried) (folder : Folder) (line : Line) (lines : List Line) → line_done options folder line.words ≡ one → then_done (then_done front one) (lines_done options one.after lines)
+    ≡ then_done front (lines_done options folder (line ∷ lines))
 line_step options front one folder line lines e =
     then_assoc front one (lines_done options one.after lines)
     ∙ ap (λ (z : Carried). then_done front (then_done z (lines_done options z.after lines))) (sym e)

@@ -20,12 +20,15 @@ draft_changed sections place made change old new current within is becomes =
 section_from : Section → List Opt → Section
 section_from section options = record section { options = options }
 
-pub options_made : (sections : List Section) (place line made : ℕ) (change : List Opt → List Opt) (old : Section) (options : List Opt) (current : Option ℕ) → current ≡ Some place → place < length sections → old ≡ get_or sections place old → options ≡ change old.options
-    → let d : Draft = record { sections = sections; made = made; current = current } in let e : Draft = record { sections = set sections place (record old { options = options }); made = made; current = current } in with_options d line change ≡ Ok e
+pub options_made : (sections : List Section) (place line made : ℕ) (change : List Opt → List Opt) (old : Section) (options : List Opt) (current : Option ℕ) → current ≡ Some place → place < length sections → old ≡ get_or sections place old
+    → options ≡ change old.options
+    → let d : Draft = record { sections = sections; made = made; current = current } in let e : Draft = record { sections = set sections place (record old { options = options }); made = made; current = current } in
+    with_options d line change ≡ Ok e
 unfolding draft_from section_from
 options_made sections place line made change old options current there within is becomes =
     ap (λ (z : Option ℕ). with_options_at (draft_from sections made current) line change z) there
-    ∙ ap (λ (z : Draft). Ok z) (sym (draft_changed sections place made (λ (section : Section). record section { options = change section.options }) old (record old { options = options }) current within is (ap (λ (z : List Opt). section_from old z) becomes)))
+    ∙ ap (λ (z : Draft). Ok z) (sym (draft_changed sections place made (λ (section : Section). record section { options = change section.options }) old (record old { options = options }) current within is
+    (ap (λ (z : List Opt). section_from old z) becomes)))
 
 -- an option is given a value, or an empty one
 pub option_given : (name value : List ℕ) (options new : List Opt) → value ≢ [] → new ≡ put name (λ before. One value) options → new ≡ with_option name value options

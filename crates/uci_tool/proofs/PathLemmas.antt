@@ -45,7 +45,8 @@ not_both t e f = let g : true ≡ false = sym e ∙ f in cc
 
 -- ---- cuts
 
-cut_step : (byte x : ℕ) (rest : List ℕ) (o : Option (List ℕ × List ℕ)) → nat_eq x byte ≡ false → MatchOption o (HasNone byte rest) (λ parts. CutsAtFirst byte rest parts.0 parts.1) → MatchOption {T = List ℕ × List ℕ} (option_map (λ (parts : List ℕ × List ℕ). (x ∷ parts.0, parts.1)) o) (HasNone byte (x ∷ rest)) (λ parts. CutsAtFirst byte (x ∷ rest) parts.0 parts.1)
+cut_step : (byte x : ℕ) (rest : List ℕ) (o : Option (List ℕ × List ℕ)) → nat_eq x byte ≡ false → MatchOption o (HasNone byte rest) (λ parts. CutsAtFirst byte rest parts.0 parts.1)
+    → MatchOption {T = List ℕ × List ℕ} (option_map (λ (parts : List ℕ × List ℕ). (x ∷ parts.0, parts.1)) o) (HasNone byte (x ∷ rest)) (λ parts. CutsAtFirst byte (x ∷ rest) parts.0 parts.1)
 cut_step byte x rest None e h = (apart x byte e, h)
 cut_step byte x rest (Some parts) e h = record { whole = ap (λ (z : List ℕ). x ∷ z) h.whole; first = (apart x byte e, h.first) }
 
@@ -55,7 +56,8 @@ cut_right byte (x ∷ rest) = choose (nat_eq x byte) (Some ([], rest)) (option_m
     (λ e. record { whole = ap (λ (z : ℕ). z ∷ rest) (same x byte e); first = tt })
     (λ e. cut_step byte x rest (cut byte rest) e (cut_right byte rest))
 
-end_step : (byte x : ℕ) (rest : List ℕ) (o : Option (List ℕ × List ℕ)) → MatchOption o (HasNone byte rest) (λ parts. CutsAtLast byte rest parts.0 parts.1) → MatchOption (cut_end_at byte x rest o) (HasNone byte (x ∷ rest)) (λ parts. CutsAtLast byte (x ∷ rest) parts.0 parts.1)
+end_step : (byte x : ℕ) (rest : List ℕ) (o : Option (List ℕ × List ℕ)) → MatchOption o (HasNone byte rest) (λ parts. CutsAtLast byte rest parts.0 parts.1)
+    → MatchOption (cut_end_at byte x rest o) (HasNone byte (x ∷ rest)) (λ parts. CutsAtLast byte (x ∷ rest) parts.0 parts.1)
 end_step byte x rest (Some parts) h = record { whole = ap (λ (z : List ℕ). x ∷ z) h.whole; last = h.last }
 end_step byte x rest None h = choose (nat_eq x byte) (Some ([], rest)) None (HasNone byte (x ∷ rest)) (λ parts. CutsAtLast byte (x ∷ rest) parts.0 parts.1)
     (λ e. record { whole = ap (λ (z : ℕ). z ∷ rest) (same x byte e); last = h })
@@ -100,13 +102,19 @@ digits_pass (b ∷ text) h = both (nat_lt (digit_value b) 10) (list_all (λ byte
 
 digits_from : (text : List ℕ) → list_all (λ byte. nat_lt (digit_value byte) 10) text ≡ true → AllDigits 10 text
 digits_from [] e = tt
-digits_from (b ∷ text) e = (let d : nat_lt (digit_value b) 10 ≡ true = first_true (nat_lt (digit_value b) 10) (list_all (λ byte. nat_lt (digit_value byte) 10) text) e in grind (arith, nat_tests), digits_from text (second_true (nat_lt (digit_value b) 10) (list_all (λ byte. nat_lt (digit_value byte) 10) text) e))
+digits_from (b ∷ text) e = (
+  let d : nat_lt (digit_value b) 10 ≡ true = first_true (nat_lt (digit_value b) 10) (list_all (λ byte. nat_lt (digit_value byte) 10) text) e in grind (arith, nat_tests),
+  digits_from text (second_true (nat_lt (digit_value b) 10) (list_all (λ byte. nat_lt (digit_value byte) 10) text) e),
+)
 
 numeral_passes : (text : List ℕ) → IsNumeral 10 text → are_digits text ≡ true
 numeral_passes text h = both (not (nat_eq (length text) 0)) (list_all (λ byte. nat_lt (digit_value byte) 10) text) (not_empty text h.0) (digits_pass text h.1)
 
 numeral_from : (text : List ℕ) → are_digits text ≡ true → IsNumeral 10 text
-numeral_from text e = (some_from text (first_true (not (nat_eq (length text) 0)) (list_all (λ byte. nat_lt (digit_value byte) 10) text) e), digits_from text (second_true (not (nat_eq (length text) 0)) (list_all (λ byte. nat_lt (digit_value byte) 10) text) e))
+numeral_from text e = (
+  some_from text (first_true (not (nat_eq (length text) 0)) (list_all (λ byte. nat_lt (digit_value byte) 10) text) e),
+  digits_from text (second_true (not (nat_eq (length text) 0)) (list_all (λ byte. nat_lt (digit_value byte) 10) text) e),
+)
 
 below_passes : (n : ℕ) → n < 2 ^ 31 → nat_lt n (2 ^ 31) ≡ true
 below_passes n h = grind (arith, nat_tests)
@@ -139,12 +147,14 @@ no_backwards rest index e (backwards digits n w h s f) =
 
 forwards_right : (text : List ℕ) → ((digits : List ℕ) → text ≡ 45 ∷ digits → ⊥) → MatchOption (forwards_in text) ((index : ℤ) → SpellsIndex text index → ⊥) (SpellsIndex text)
 forwards_right text plain = choose (are_digits text && nat_lt (digits_value 10 text) (2 ^ 31)) (Some (pos (digits_value 10 text))) None ((index : ℤ) → SpellsIndex text index → ⊥) (SpellsIndex text)
-    (λ e. forwards (digits_value 10 text) (numeral_from text (first_true (are_digits text) (nat_lt (digits_value 10 text) (2 ^ 31)) e), refl) (below_from (digits_value 10 text) (second_true (are_digits text) (nat_lt (digits_value 10 text) (2 ^ 31)) e)) refl)
+    (λ e. forwards (digits_value 10 text) (numeral_from text (first_true (are_digits text) (nat_lt (digits_value 10 text) (2 ^ 31)) e), refl)
+    (below_from (digits_value 10 text) (second_true (are_digits text) (nat_lt (digits_value 10 text) (2 ^ 31)) e)) refl)
     (λ e index s. no_forwards text index e plain s)
 
 backwards_right : (rest : List ℕ) → MatchOption (backwards_in rest) ((index : ℤ) → SpellsIndex (45 ∷ rest) index → ⊥) (SpellsIndex (45 ∷ rest))
 backwards_right rest = choose (are_digits rest && nat_le (digits_value 10 rest) (2 ^ 31)) (Some (neg_ℤ (pos (digits_value 10 rest)))) None ((index : ℤ) → SpellsIndex (45 ∷ rest) index → ⊥) (SpellsIndex (45 ∷ rest))
-    (λ e. backwards rest (digits_value 10 rest) refl (numeral_from rest (first_true (are_digits rest) (nat_le (digits_value 10 rest) (2 ^ 31)) e), refl) (within_from (digits_value 10 rest) (second_true (are_digits rest) (nat_le (digits_value 10 rest) (2 ^ 31)) e)) refl)
+    (λ e. backwards rest (digits_value 10 rest) refl (numeral_from rest (first_true (are_digits rest) (nat_le (digits_value 10 rest) (2 ^ 31)) e), refl)
+    (within_from (digits_value 10 rest) (second_true (are_digits rest) (nat_le (digits_value 10 rest) (2 ^ 31)) e)) refl)
     (λ e index s. no_backwards rest index e s)
 
 no_empty_index : (index : ℤ) → SpellsIndex [] index → ⊥
@@ -197,7 +207,8 @@ module _ (rest : List ℕ) where
   at_end inner (b ∷ end) c = λ reference s. let e : b ∷ end ≡ [] = (paths.parts rest inner (b ∷ end) reference c s).at_end in cc
 
   place_right : MatchOption (place_in rest) Never (SpellsRef (64 ∷ rest))
-  place_right = behind (cut_end 93 rest) (λ (parts : List ℕ × List ℕ). place_before parts.0 parts.1) Never (λ parts. CutsAtLast 93 rest parts.0 parts.1) (SpellsRef (64 ∷ rest)) (lacking (cut_end 93 rest) (end_right 93 rest)) (λ parts c. at_end parts.0 parts.1 c)
+  place_right = behind (cut_end 93 rest) (λ (parts : List ℕ × List ℕ). place_before parts.0 parts.1) Never (λ parts. CutsAtLast 93 rest parts.0 parts.1) (SpellsRef (64 ∷ rest)) (lacking (cut_end 93 rest) (end_right 93 rest))
+      (λ parts c. at_end parts.0 parts.1 c)
     where
       lacking : (o : Option (List ℕ × List ℕ)) → MatchOption o (HasNone 93 rest) (λ parts. CutsAtLast 93 rest parts.0 parts.1) → MatchOption o Never (λ parts. CutsAtLast 93 rest parts.0 parts.1)
       lacking None h = λ reference s. paths.no_bracket rest reference h s
@@ -220,14 +231,16 @@ module _ (text : List ℕ) where
       (λ e. record { behind = []; whole = sym (append-nil text); named = name_from PackageName text e; place = refl })
       (λ e path s. paths.not_a_package text path h (λ m. not_both (is_name_of PackageName text) (name_passes PackageName text m) e) s)
 
-  with_section : (parts : List ℕ × List ℕ) (place : List ℕ × Option (List ℕ)) → CutsAtFirst 46 text parts.0 parts.1 → IsNameOf PackageName parts.0 → CutsOption parts.1 place.0 place.1 → (o : Option SectionRef) → MatchOption o ((reference : SectionRef) → SpellsRef place.0 reference → ⊥) (SpellsRef place.0)
+  with_section : (parts : List ℕ × List ℕ) (place : List ℕ × Option (List ℕ)) → CutsAtFirst 46 text parts.0 parts.1 → IsNameOf PackageName parts.0 → CutsOption parts.1 place.0 place.1 → (o : Option SectionRef)
+      → MatchOption o ((reference : SectionRef) → SpellsRef place.0 reference → ⊥) (SpellsRef place.0)
       → MatchOption (option_map (λ section. record { «package» = parts.0; section = Some section; option = place.1 }) o) NoPath (SpellsPath text)
   with_section parts place c n d None h = λ path s. paths.not_a_ref text parts.0 parts.1 place.0 place.1 path c d h s
   with_section parts place c n d (Some reference) h = paths.path_found text parts.0 parts.1 place.0 reference place.1 c n d h
 
   cut_there : (parts : List ℕ × List ℕ) → CutsAtFirst 46 text parts.0 parts.1 → MatchOption (path_behind text (Some parts)) NoPath (SpellsPath text)
   cut_there parts c = choose (is_name_of PackageName parts.0) (path_with parts.0 (with_option parts.1 (cut_end 46 parts.1))) None NoPath (SpellsPath text)
-      (λ e. with_section parts (with_option parts.1 (cut_end 46 parts.1)) c (name_from PackageName parts.0 e) (with_option_right parts.1 (cut_end 46 parts.1) (end_right 46 parts.1)) (section_in (with_option parts.1 (cut_end 46 parts.1)).0) (section_right (with_option parts.1 (cut_end 46 parts.1)).0))
+      (λ e. with_section parts (with_option parts.1 (cut_end 46 parts.1)) c (name_from PackageName parts.0 e) (with_option_right parts.1 (cut_end 46 parts.1) (end_right 46 parts.1)) (section_in (with_option parts.1 (cut_end 46 parts.1)).0)
+      (section_right (with_option parts.1 (cut_end 46 parts.1)).0))
       (λ e path s. paths.not_named text parts.0 parts.1 path c (λ m. not_both (is_name_of PackageName parts.0) (name_passes PackageName parts.0 m) e) s)
 
   pub path_right : MatchOption (path_in text) NoPath (SpellsPath text)

@@ -22,7 +22,8 @@ pub package_is : (name text : List ℕ) (tree : Package) → Reads name text tre
 unfolding package_in
 package_is name text tree reads = go (package_or_fault name text)
   where
-    go : (d : ((other : Package) × Reads name text other) ⊎ ((error : TreeError) × HasTreeFault text error)) → ◌≡◌ {A = Result Package TreeError} (elim d as (λ _. Result Package TreeError) [ inl found ↦ Ok found.0 | inr fault ↦ Err fault.0 ]) (Ok tree)
+    go : (d : ((other : Package) × Reads name text other) ⊎ ((error : TreeError) × HasTreeFault text error))
+        → ◌≡◌ {A = Result Package TreeError} (elim d as (λ _. Result Package TreeError) [ inl found ↦ Ok found.0 | inr fault ↦ Err fault.0 ]) (Ok tree)
     go (inl found) = let same : found.0 ≡ tree = one_tree name text tree found.0 reads found.1 in cc
     go (inr fault) = absurd (no_package name text fault.0 tree fault.1 reads)
 
@@ -31,7 +32,8 @@ pub fault_is : (name text : List ℕ) (error : TreeError) → HasTreeFault text 
 unfolding package_in
 fault_is name text error has = go (package_or_fault name text)
   where
-    go : (d : ((other : Package) × Reads name text other) ⊎ ((other : TreeError) × HasTreeFault text other)) → ◌≡◌ {A = Result Package TreeError} (elim d as (λ _. Result Package TreeError) [ inl found ↦ Ok found.0 | inr fault ↦ Err fault.0 ]) (Err error)
+    go : (d : ((other : Package) × Reads name text other) ⊎ ((other : TreeError) × HasTreeFault text other))
+        → ◌≡◌ {A = Result Package TreeError} (elim d as (λ _. Result Package TreeError) [ inl found ↦ Ok found.0 | inr fault ↦ Err fault.0 ]) (Err error)
     go (inl found) = absurd (no_package name text error found.0 has found.1)
     go (inr fault) = let same : fault.0 ≡ error = tree_fault_is_one text error fault.0 has fault.1 in cc
 
@@ -40,7 +42,8 @@ pub lines_are : (text : List ℕ) (lines : List Line) → Spells text lines → 
 unfolding lines_in
 lines_are text lines spells = go (reading_or_fault text)
   where
-    go : (d : ((others : List Line) × Spells text others) ⊎ ((error : TextError) × IsFirstFault text error)) → ◌≡◌ {A = Result (List Line) TextError} (elim d as (λ _. Result (List Line) TextError) [ inl found ↦ Ok found.0 | inr fault ↦ Err fault.0 ]) (Ok lines)
+    go : (d : ((others : List Line) × Spells text others) ⊎ ((error : TextError) × IsFirstFault text error))
+        → ◌≡◌ {A = Result (List Line) TextError} (elim d as (λ _. Result (List Line) TextError) [ inl found ↦ Ok found.0 | inr fault ↦ Err fault.0 ]) (Ok lines)
     go (inl found) = let same : found.0 ≡ lines = reading_is_one text lines found.0 spells found.1 in cc
     go (inr fault) = absurd (no_reading text fault.0 lines fault.1 spells)
 
@@ -48,7 +51,8 @@ pub line_fault_is : (text : List ℕ) (error : TextError) → IsFirstFault text 
 unfolding lines_in
 line_fault_is text error has = go (reading_or_fault text)
   where
-    go : (d : ((others : List Line) × Spells text others) ⊎ ((other : TextError) × IsFirstFault text other)) → ◌≡◌ {A = Result (List Line) TextError} (elim d as (λ _. Result (List Line) TextError) [ inl found ↦ Ok found.0 | inr fault ↦ Err fault.0 ]) (Err error)
+    go : (d : ((others : List Line) × Spells text others) ⊎ ((other : TextError) × IsFirstFault text other))
+        → ◌≡◌ {A = Result (List Line) TextError} (elim d as (λ _. Result (List Line) TextError) [ inl found ↦ Ok found.0 | inr fault ↦ Err fault.0 ]) (Err error)
     go (inl found) = absurd (no_reading text error found.0 has found.1)
     go (inr fault) = let same : fault.0 ≡ error = fault_is_one text error fault.0 has fault.1 in cc
 
@@ -57,7 +61,8 @@ pub commands_are : (text : List ℕ) (commands : List Cmd) → SpellsCommands te
 unfolding commands_in
 commands_are text commands spells = go (commands_or_fault text)
   where
-    go : (d : ((others : List Cmd) × SpellsCommands text others) ⊎ ((error : TextError) × IsFirstCommandFault text error)) → ◌≡◌ {A = Result (List Cmd) TextError} (elim d as (λ _. Result (List Cmd) TextError) [ inl found ↦ Ok found.0 | inr fault ↦ Err fault.0 ]) (Ok commands)
+    go : (d : ((others : List Cmd) × SpellsCommands text others) ⊎ ((error : TextError) × IsFirstCommandFault text error))
+        → ◌≡◌ {A = Result (List Cmd) TextError} (elim d as (λ _. Result (List Cmd) TextError) [ inl found ↦ Ok found.0 | inr fault ↦ Err fault.0 ]) (Ok commands)
     go (inl found) = let same : found.0 ≡ commands = commands_are_one text commands found.0 spells found.1 in cc
     go (inr fault) = absurd (no_commands text fault.0 commands fault.1 spells)
 
@@ -65,6 +70,7 @@ pub command_fault_is : (text : List ℕ) (error : TextError) → IsFirstCommandF
 unfolding commands_in
 command_fault_is text error has = go (commands_or_fault text)
   where
-    go : (d : ((others : List Cmd) × SpellsCommands text others) ⊎ ((other : TextError) × IsFirstCommandFault text other)) → ◌≡◌ {A = Result (List Cmd) TextError} (elim d as (λ _. Result (List Cmd) TextError) [ inl found ↦ Ok found.0 | inr fault ↦ Err fault.0 ]) (Err error)
+    go : (d : ((others : List Cmd) × SpellsCommands text others) ⊎ ((other : TextError) × IsFirstCommandFault text other))
+        → ◌≡◌ {A = Result (List Cmd) TextError} (elim d as (λ _. Result (List Cmd) TextError) [ inl found ↦ Ok found.0 | inr fault ↦ Err fault.0 ]) (Err error)
     go (inl found) = absurd (no_commands text error found.0 has found.1)
     go (inr fault) = let same : fault.0 ≡ error = command_fault_is_one text error fault.0 has fault.1 in cc

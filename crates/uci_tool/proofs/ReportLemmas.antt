@@ -31,7 +31,8 @@ text_prints (Err (Refused refusal)) result expected is reports = subst (λ (z : 
 text_prints (Err DiskFailed) result expected is reports = absurd is
 text_prints (Err Memory) result expected is reports = subst (λ (z : Result Report Stop). Prints z (alone expected)) (sym reports) tt
 
-refused_carries : (result : Result Report Stop) (refusal : Refusal) (folder after : Folder) → Prints result (refusal_alone refusal) → Carries result (λ report. refused folder refusal ≡ carried_as report folder) folder (one_step folder after)
+refused_carries : (result : Result Report Stop) (refusal : Refusal) (folder after : Folder) → Prints result (refusal_alone refusal)
+    → Carries result (λ report. refused folder refusal ≡ carried_as report folder) folder (one_step folder after)
 refused_carries (Ok report) refusal folder after is = ap (λ (z : Report). carried_as z folder) (sym is)
 refused_carries (Err (Refused other)) refusal folder after is = is
 refused_carries (Err DiskFailed) refusal folder after is = tt
@@ -41,7 +42,8 @@ abbrev pub ChangesTo : Result Report Stop → Folder → Folder → Result Folde
 ChangesTo result old new expected = Carries result (λ report. of_folder old expected ≡ carried_as report new) new (one_step old (of_folder old expected).after)
 
 -- a command that changes a folder as a whole or not at all
-pub change_carries : {X : Type 0} (changed : Result X Stop) (result : Result Report Stop) (old new : Folder) (expected : Result Folder Refusal) → Changes changed old new expected → ReportsChange changed result → ChangesTo result old new expected
+pub change_carries : {X : Type 0} (changed : Result X Stop) (result : Result Report Stop) (old new : Folder) (expected : Result Folder Refusal) → Changes changed old new expected → ReportsChange changed result
+    → ChangesTo result old new expected
 change_carries (Ok value) result old new expected is reports =
     subst (λ (z : Result Folder Refusal). ChangesTo result old new z) (sym is) (subst (λ (z : Result Report Stop). ChangesTo z old new (Ok new)) (sym reports) refl)
 change_carries (Err (Refused refusal)) result old new expected is reports =

@@ -40,13 +40,15 @@ told_nothing stream is = let grows : Grows stream.old stream.new [] = grows_noth
 not_both : (before now : ℕ) → Rose before now → DidNotRise before now → ⊥
 not_both before now rose not = absurd (omega arith)
 
-pub told_text : {X E : Type 0} (result : Result X E) (text : List ℕ) (stream : Stream) → OnOk result (Grows stream.old stream.new text) → OnErr result (GrowsByFront stream.old stream.new text) → HasCause stream.faults stream.faults_now result → IsTold text stream
+pub told_text : {X E : Type 0} (result : Result X E) (text : List ℕ) (stream : Stream) → OnOk result (Grows stream.old stream.new text) → OnErr result (GrowsByFront stream.old stream.new text)
+    → HasCause stream.faults stream.faults_now result → IsTold text stream
 told_text (Ok value) text stream ok err cause = record { front = front_all stream.old stream.new text ok; whole = λ h. ok }
 told_text (Err error) text stream ok err cause = record { front = err; whole = λ h. absurd (not_both stream.faults stream.faults_now cause.failed h) }
 
 -- ---- the words and what they ask for
 
-pub by_words : (words : List (List ℕ)) (asked : Asked) (command : Command) (stream : Stream) (input : List ℕ) → asked ≡ asked_of words → asked.command ≡ Some command → IsInputBy (reads_input command) stream input → IsInput words stream input
+pub by_words : (words : List (List ℕ)) (asked : Asked) (command : Command) (stream : Stream) (input : List ℕ) → asked ≡ asked_of words → asked.command ≡ Some command → IsInputBy (reads_input command) stream input
+    → IsInput words stream input
 by_words words asked command stream input is some read =
     subst (λ (z : Asked). IsInputBy (asks_input z.command) stream input) is (subst (λ (z : Option Command). IsInputBy (asks_input z) stream input) (sym some) read)
 
@@ -113,22 +115,26 @@ carried_ends words asked command before after streams a b c d report end is some
         (tells_by words asked texts.DISK_FAILED.now streams.err is told)
         (subst (λ (z : UciDone). after ≡ z.after) (sym whole) refl)
 
-among_passed : (words : List (List ℕ)) (asked : Asked) (command : Command) (before after : Folder) (input : List ℕ) → asked ≡ asked_of words → asked.command ≡ Some command → IsAmong after (passes asked.options before command input) → IsAmong after (uci_passes words before input)
+among_passed : (words : List (List ℕ)) (asked : Asked) (command : Command) (before after : Folder) (input : List ℕ) → asked ≡ asked_of words → asked.command ≡ Some command → IsAmong after (passes asked.options before command input)
+    → IsAmong after (uci_passes words before input)
 among_passed words asked command before after input is some among =
     subst (λ (z : Asked). IsAmong after (asked_folders z.options before z.command input)) is (subst (λ (z : Option Command). IsAmong after (asked_folders asked.options before z input)) (sym some) among)
 
-passed_by : (words : List (List ℕ)) (asked : Asked) (command : Command) (before after : Folder) (stream : Stream) → asked ≡ asked_of words → asked.command ≡ Some command → (after ≡ before) ⊎ IsCommandPassed asked.options command before stream after → IsPassed words before after stream
+passed_by : (words : List (List ℕ)) (asked : Asked) (command : Command) (before after : Folder) (stream : Stream) → asked ≡ asked_of words → asked.command ≡ Some command
+    → (after ≡ before) ⊎ IsCommandPassed asked.options command before stream after → IsPassed words before after stream
 passed_by words asked command before after stream is some (inl same) = inl same
 passed_by words asked command before after stream is some (inr h) = inr (h.text, by_words words asked command stream h.text is some h.read, among_passed words asked command before after h.text is some h.among)
 
 pub cut_ends : (words : List (List ℕ)) (asked : Asked) (command : Command) (before after : Folder) (streams : Streams) (a b c d : View) (short : Cut) (end : UciEnd) → asked ≡ asked_of words → asked.command ≡ Some command
     → Runs (Err short) asked.options command before after streams.input → (◌≡◌ {A = Result Report Cut} (Err short) (Err cut.DiskFailed) → Rose a.faults b.faults ⊎ Rose c.faults d.faults)
     → streams.out.new ≡ streams.out.old → end ≡ end_of (cut_status short) 0 → IsTold (told_unless asked.options.quiet (cut_text short)) streams.err → Ends words before after streams a b c d end
-cut_ends words asked command before after streams a b c d cut.TooLong end is some runs cause silent ends told = input_too_long (reads_by words asked command is some ∙ runs.0) runs.1 ends silent (tells_by words asked texts.TOO_LARGE.now streams.err is told) runs.2
+cut_ends words asked command before after streams a b c d cut.TooLong end is some runs cause silent ends told =
+    input_too_long (reads_by words asked command is some ∙ runs.0) runs.1 ends silent (tells_by words asked texts.TOO_LARGE.now streams.err is told) runs.2
 cut_ends words asked command before after streams a b c d cut.ReadFailed end is some runs cause silent ends told = read_failed runs.0 ends silent (tells_by words asked texts.DISK_FAILED.now streams.err is told) runs.1
 cut_ends words asked command before after streams a b c d cut.WriteFailed end is some runs cause silent ends told = absurd runs
 cut_ends words asked command before after streams a b c d cut.DiskFailed end is some runs cause silent ends told = disk_failed (cause refl) ends silent (tells_by words asked texts.DISK_FAILED.now streams.err is told)
-cut_ends words asked command before after streams a b c d cut.Memory end is some runs cause silent ends told = no_memory ends silent (inl (tells_by words asked texts.OUT_OF_MEMORY.now streams.err is told)) (passed_by words asked command before after streams.input is some runs)
+cut_ends words asked command before after streams a b c d cut.Memory end is some runs cause silent ends told =
+    no_memory ends silent (inl (tells_by words asked texts.OUT_OF_MEMORY.now streams.err is told)) (passed_by words asked command before after streams.input is some runs)
 
 -- a run that a cut did not end by a disk leaves a store that goes on
 pub ready_by : (short : Cut) (status : ℕ) (failed : Bool) → status ≡ cut_status short → (◌≢◌ {A = Result Report Cut} (Err short) (Err cut.DiskFailed) → failed ≡ false) → status ≢ 5 → failed ≡ false

@@ -42,7 +42,8 @@ seen_is store name view s = at_file (folder_of store) name s.file (seen_at (fold
 
 -- a file that does not read stops what would be seen of it
 pub unread_there : {A : Type 0} (store : Store) (file : ℕ) (error : TreeError) (next : Package → Result A Refusal) → LacksReading store file error → if_ok (seen_at (folder_of store) file) next ≡ Err (refusal_of (fault_of error))
-unread_there {A} store file error next lacks = ap (λ (z : Result Package TreeError). if_ok (if_ok (parsed z) (λ tree. Ok (all_applied tree (deltas_in 0 file (staged_in store))))) next) (fault_is (name_of (names_of store) file) (text_of (files_of store) file) error lacks)
+unread_there {A} store file error next lacks = ap (λ (z : Result Package TreeError). if_ok (if_ok (parsed z) (λ tree. Ok (all_applied tree (deltas_in 0 file (staged_in store))))) next)
+    (fault_is (name_of (names_of store) file) (text_of (files_of store) file) error lacks)
 
 -- and is told as such, where it has a line and a reason
 pub fault_answers : {A : Type 0} (fault : Option Fault) (expected : Result A Refusal) → expected ≡ Err (refusal_of fault) → Answers {A = A} (Err (stop_of_fault fault)) expected
@@ -58,7 +59,8 @@ seen_itself folder file = go (seen_at folder file)
 
 pub read_refused : (store : Store) (name : List ℕ) (error : StoreError) → ReadRefuses store name error → Answers {A = Package} (Err (stop_of error)) (seen (folder_of store) name)
 read_refused store name store_error.NoPackage none = no_file (folder_of store) name (seen_at (folder_of store)) none
-read_refused store name (store_error.Parse error) lacks = fault_answers (fault_of error) (seen (folder_of store) name) (at_file (folder_of store) name lacks.file (seen_at (folder_of store)) lacks.number ∙ seen_itself (folder_of store) lacks.file ∙ unread_there store lacks.file error (λ view. Ok view) lacks.fault)
+read_refused store name (store_error.Parse error) lacks = fault_answers (fault_of error) (seen (folder_of store) name)
+    (at_file (folder_of store) name lacks.file (seen_at (folder_of store)) lacks.number ∙ seen_itself (folder_of store) lacks.file ∙ unread_there store lacks.file error (λ view. Ok view) lacks.fault)
 read_refused store name store_error.Memory h = tt
 read_refused store name (store_error.Snap error) h = absurd h
 read_refused store name (store_error.Delta error) h = absurd h
@@ -67,14 +69,17 @@ read_refused store name (store_error.NotHolder holder) h = absurd h
 read_refused store name store_error.NothingStaged h = absurd h
 
 -- what is staged of a package
-pub changes_are : (store : Store) (name : List ℕ) (deltas : List Delta) (result : Result (List ℕ) Stop) → AreChanges store 0 name deltas → Answers result (Ok (change_lines deltas)) → Answers result (if_ok (file_in (folder_of store) name) (λ file. Ok (change_lines (deltas_in 0 file (staged_in store)))))
+pub changes_are : (store : Store) (name : List ℕ) (deltas : List Delta) (result : Result (List ℕ) Stop) → AreChanges store 0 name deltas → Answers result (Ok (change_lines deltas))
+    → Answers result (if_ok (file_in (folder_of store) name) (λ file. Ok (change_lines (deltas_in 0 file (staged_in store)))))
 changes_are store name deltas result are answers =
-    let at : if_ok (file_in (folder_of store) name) (λ file. Ok (change_lines (deltas_in 0 file (staged_in store)))) ≡ Ok (change_lines (deltas_in 0 are.file (staged_in store))) = at_file (folder_of store) name are.file (λ file. Ok (change_lines (deltas_in 0 file (staged_in store)))) are.number in
+    let at : if_ok (file_in (folder_of store) name) (λ file. Ok (change_lines (deltas_in 0 file (staged_in store)))) ≡ Ok (change_lines (deltas_in 0 are.file (staged_in store))) =
+    at_file (folder_of store) name are.file (λ file. Ok (change_lines (deltas_in 0 file (staged_in store)))) are.number in
     let same : change_lines (deltas_in 0 are.file (staged_in store)) ≡ change_lines deltas = ap change_lines (sym are.are) in
     let whole : if_ok (file_in (folder_of store) name) (λ file. Ok (change_lines (deltas_in 0 file (staged_in store)))) ≡ Ok (change_lines deltas) = cc in
     subst (λ (z : Result (List ℕ) Refusal). Answers result z) (sym whole) answers
 
-pub changes_refused : (store : Store) (name : List ℕ) (error : StoreError) → ChangesRefuse store name error → Answers {A = List ℕ} (Err (stop_of error)) (if_ok (file_in (folder_of store) name) (λ file. Ok (change_lines (deltas_in 0 file (staged_in store)))))
+pub changes_refused : (store : Store) (name : List ℕ) (error : StoreError) → ChangesRefuse store name error
+    → Answers {A = List ℕ} (Err (stop_of error)) (if_ok (file_in (folder_of store) name) (λ file. Ok (change_lines (deltas_in 0 file (staged_in store)))))
 changes_refused store name store_error.NoPackage none = no_file (folder_of store) name (λ file. Ok (change_lines (deltas_in 0 file (staged_in store)))) none
 changes_refused store name store_error.Memory h = tt
 changes_refused store name (store_error.Parse error) h = absurd h
@@ -85,7 +90,8 @@ changes_refused store name (store_error.NotHolder holder) h = absurd h
 changes_refused store name store_error.NothingStaged h = absurd h
 
 -- what is staged of a package has a shape each
-shape_step : (t : Bool) (change : StagedChange) (rest : List StagedChange) → HasShape change.delta → HaveShape (map (λ (one : StagedChange). one.delta) rest) → HaveShape (map (λ (one : StagedChange). one.delta) (cond t (change ∷ rest) rest))
+shape_step : (t : Bool) (change : StagedChange) (rest : List StagedChange) → HasShape change.delta → HaveShape (map (λ (one : StagedChange). one.delta) rest)
+    → HaveShape (map (λ (one : StagedChange). one.delta) (cond t (change ∷ rest) rest))
 shape_step true change rest one others = (one, others)
 shape_step false change rest one others = others
 

@@ -60,7 +60,8 @@ staged_is old new delta h names snap =
     ∙ staged_there old delta h.file h.view h.taken (seen_there old h.file h.view h.seen) h.takes
     ∙ ap (λ (z : Folder). Ok z) now
 
-refused_there : (old : Store) (delta : Delta) (file : ℕ) (view : Package) (error : DeltaError) → seen_at (folder_of old) file ≡ Ok view → applied view delta ≡ Err error → staged_at (folder_of old) delta file ≡ if_ok (taken {A = Package} (Err error)) (λ other. Ok (with_change (folder_of old) file delta))
+refused_there : (old : Store) (delta : Delta) (file : ℕ) (view : Package) (error : DeltaError) → seen_at (folder_of old) file ≡ Ok view → applied view delta ≡ Err error → staged_at (folder_of old) delta file
+    ≡ if_ok (taken {A = Package} (Err error)) (λ other. Ok (with_change (folder_of old) file delta))
 refused_there old delta file view error seen refused =
     ap (λ (z : Result Package Refusal). if_ok z (λ found. if_ok (taken (applied found delta)) (λ other. Ok (with_change (folder_of old) file delta)))) seen
     ∙ ap (λ (z : Result Package DeltaError). if_ok (taken z) (λ other. Ok (with_change (folder_of old) file delta))) refused
@@ -70,17 +71,23 @@ by_fault None old new expected kept is = kept
 by_fault (Some fault) old new expected kept is = (is, kept)
 
 by_delta : (old : Store) (new : Folder) (delta : Delta) (error : DeltaError) → DoesNotTake old 0 delta error → new ≡ folder_of old → Changes {X = Unit {0}} (Err (stop_of_delta error)) (folder_of old) new (staged_with (folder_of old) delta)
-by_delta old new delta error h kept = go error (at_file (folder_of old) delta.«package» h.seen.file (staged_at (folder_of old) delta) h.seen.number ∙ refused_there old delta h.seen.file h.view error (seen_there old h.seen.file h.view h.seen.seen) h.refused)
+by_delta old new delta error h kept = go error (at_file (folder_of old) delta.«package» h.seen.file (staged_at (folder_of old) delta) h.seen.number
+    ∙ refused_there old delta h.seen.file h.view error (seen_there old h.seen.file h.view h.seen.seen) h.refused)
   where
-    go : (e : DeltaError) → staged_with (folder_of old) delta ≡ if_ok (taken {A = Package} (Err e)) (λ other. Ok (with_change (folder_of old) h.seen.file delta)) → Changes {X = Unit {0}} (Err (stop_of_delta e)) (folder_of old) new (staged_with (folder_of old) delta)
+    go : (e : DeltaError) → staged_with (folder_of old) delta ≡ if_ok (taken {A = Package} (Err e)) (λ other. Ok (with_change (folder_of old) h.seen.file delta))
+        → Changes {X = Unit {0}} (Err (stop_of_delta e)) (folder_of old) new (staged_with (folder_of old) delta)
     go delta_error.NotFound is = (is, kept)
     go delta_error.Invalid is = (is, kept)
     go delta_error.Duplicate is = (is, kept)
     go delta_error.Memory is = kept
 
-pub stage_refused : (old new : Store) (delta : Delta) (error : StoreError) (before after : View) → folder_of new ≡ folder_of old → StageRefuses old 0 delta before after error → Changes {X = Unit {0}} (Err (stop_of error)) (folder_of old) (folder_of new) (staged_with (folder_of old) delta)
+pub stage_refused : (old new : Store) (delta : Delta) (error : StoreError) (before after : View) → folder_of new ≡ folder_of old → StageRefuses old 0 delta before after error
+    → Changes {X = Unit {0}} (Err (stop_of error)) (folder_of old) (folder_of new) (staged_with (folder_of old) delta)
 stage_refused old new delta store_error.NoPackage before after kept h = (no_file (folder_of old) delta.«package» (staged_at (folder_of old) delta) h.1, kept)
-stage_refused old new delta (store_error.Parse error) before after kept h = by_fault (fault_of error) (folder_of old) (folder_of new) (staged_with (folder_of old) delta) kept (at_file (folder_of old) delta.«package» h.1.file (staged_at (folder_of old) delta) h.1.number ∙ unread_there old h.1.file error (λ view. if_ok (taken (applied view delta)) (λ tree. Ok (with_change (folder_of old) h.1.file delta))) h.1.fault)
+stage_refused old new delta (store_error.Parse error) before after kept h =
+    by_fault (fault_of error) (folder_of old) (folder_of new) (staged_with (folder_of old) delta) kept
+    (at_file (folder_of old) delta.«package» h.1.file (staged_at (folder_of old) delta) h.1.number
+    ∙ unread_there old h.1.file error (λ view. if_ok (taken (applied view delta)) (λ tree. Ok (with_change (folder_of old) h.1.file delta))) h.1.fault)
 stage_refused old new delta (store_error.Delta error) before after kept h = by_delta old (folder_of new) delta error h.1 kept
 stage_refused old new delta store_error.Memory before after kept h = kept
 stage_refused old new delta (store_error.Snap snap_error.DiskFailed) before after kept h = tt
@@ -101,7 +108,8 @@ reverted_is old new path h names snap =
     at_file (folder_of old) path.«package» h.file (λ file. Ok (reverted_at (folder_of old) path file)) h.number
     ∙ ap (λ (z : Folder). Ok z) (sym (same_folder old new (reverted 0 h.file path (staged_in old)) names snap h.staged))
 
-pub revert_refused : (old new : Store) (path : Path) (error : StoreError) (before after : View) → folder_of new ≡ folder_of old → RevertRefuses old 0 path.«package» before after error → Changes {X = Unit {0}} (Err (stop_of error)) (folder_of old) (folder_of new) (revert_path (folder_of old) path)
+pub revert_refused : (old new : Store) (path : Path) (error : StoreError) (before after : View) → folder_of new ≡ folder_of old → RevertRefuses old 0 path.«package» before after error
+    → Changes {X = Unit {0}} (Err (stop_of error)) (folder_of old) (folder_of new) (revert_path (folder_of old) path)
 revert_refused old new path store_error.NoPackage before after kept h = (no_file (folder_of old) path.«package» (λ file. Ok (reverted_at (folder_of old) path file)) h.1, kept)
 revert_refused old new path store_error.Memory before after kept h = kept
 revert_refused old new path (store_error.Snap snap_error.DiskFailed) before after kept h = tt

@@ -110,18 +110,22 @@ images_behind view value store mid a b c s t all second writes behind one two =
 
 -- ---- commits
 
-step_within : (folder found : Folder) (name : List ℕ) (names : List (List ℕ)) (answer : Result Folder Refusal) → commit_package folder name ≡ answer → IsAmong found (step_to folder answer) → IsAmong found (commit_passes folder (name ∷ names))
+step_within : (folder found : Folder) (name : List ℕ) (names : List (List ℕ)) (answer : Result Folder Refusal) → commit_package folder name ≡ answer → IsAmong found (step_to folder answer)
+    → IsAmong found (commit_passes folder (name ∷ names))
 step_within folder found name names answer is (inl e) = subst (λ (z : Folder). IsAmong z (commit_passes folder (name ∷ names))) (sym e) (at_front folder (name ∷ names))
 step_within folder found name names (Ok after) is (inr (inl e)) = among_step folder after found name names is (subst (λ (z : Folder). IsAmong z (commit_passes after names)) (sym e) (at_front after names))
 step_within folder found name names (Err refusal) is (inr (inl e)) = subst (λ (z : Folder). IsAmong z (commit_passes folder (name ∷ names))) (sym e) (at_front folder (name ∷ names))
 step_within folder found name names answer is (inr (inr h)) = absurd h
 
 -- what the loop over packages left of the files, and does with the next package
-pub commits_images : {D : Type 0} (view : D → View) (old now : Store) (a b e : D) (s t : View) (place : ℕ) (name : List ℕ) → CommitsSoFar old now (view a) (view b) s t place → place < length (names_of old) → name ≡ slice_index_or (names_of old) place name
-    → StaysOrStops old view a b (commit_passes (folder_of old) (names_of old)) → StaysOrStops now view b e (step_to (folder_of now) (commit_package (folder_of now) name)) → StaysOrStops old view a e (commit_passes (folder_of old) (names_of old))
+pub commits_images : {D : Type 0} (view : D → View) (old now : Store) (a b e : D) (s t : View) (place : ℕ) (name : List ℕ) → CommitsSoFar old now (view a) (view b) s t place → place < length (names_of old) → name
+    ≡ slice_index_or (names_of old) place name
+    → StaysOrStops old view a b (commit_passes (folder_of old) (names_of old)) → StaysOrStops now view b e (step_to (folder_of now) (commit_package (folder_of now) name))
+    → StaysOrStops old view a e (commit_passes (folder_of old) (names_of old))
 commits_images view old now a b e s t place name so inside is one two =
     images_behind view (tt {0}) old now a b e s t (commit_passes (folder_of old) (names_of old)) (step_to (folder_of now) (commit_package (folder_of now) name)) so.writes
-    (λ found h. so.among found (subst (λ (z : List (List ℕ)). IsAmong found (commit_passes (folder_of now) z)) (sym (from_here (names_of old) place name inside is)) (step_within (folder_of now) found name (drop (place + 1) (names_of old)) (commit_package (folder_of now) name) refl h)))
+    (λ found h. so.among found (subst (λ (z : List (List ℕ)). IsAmong found (commit_passes (folder_of now) z)) (sym (from_here (names_of old) place name inside is))
+    (step_within (folder_of now) found name (drop (place + 1) (names_of old)) (commit_package (folder_of now) name) refl h)))
     one two
 
 -- ---- lines
@@ -147,10 +151,12 @@ replaces_is options folder name input tree reads merges =
     ∙ ap (λ (z : Bool). cond z (merge_done folder name input) (replaced folder tree)) merges
 
 -- a step that is known
-pub images_to : {D : Type 0} (view : D → View) (store : Store) (old new : D) (folder : Folder) (one other : Result Folder Refusal) → other ≡ one → StaysOrStops store view old new (step_to folder one) → StaysOrStops store view old new (step_to folder other)
+pub images_to : {D : Type 0} (view : D → View) (store : Store) (old new : D) (folder : Folder) (one other : Result Folder Refusal) → other ≡ one → StaysOrStops store view old new (step_to folder one)
+    → StaysOrStops store view old new (step_to folder other)
 images_to view store old new folder one other is images = subst (λ (z : Result Folder Refusal). StaysOrStops store view old new (step_to folder z)) (sym is) images
 
-pub import_images : {D : Type 0} (view : D → View) (options : Options) (store : Store) (old new : D) (asked : Command) (name input : List ℕ) → asked ≡ command.Import name → StaysOrStops store view old new (step_to (folder_of store) (import_done options (folder_of store) name input))
+pub import_images : {D : Type 0} (view : D → View) (options : Options) (store : Store) (old new : D) (asked : Command) (name input : List ℕ) → asked ≡ command.Import name
+    → StaysOrStops store view old new (step_to (folder_of store) (import_done options (folder_of store) name input))
     → StaysOrStops store view old new (passes options (folder_of store) asked input)
 import_images view options store old new asked name input is images =
     subst (λ (z : Command). StaysOrStops store view old new (passes options (folder_of store) z input)) (sym is)
@@ -158,7 +164,8 @@ import_images view options store old new asked name input is images =
 
 -- ---- any other command
 
-other_passes : (options : Options) (folder : Folder) (asked : Command) (input : List ℕ) → ((name : List ℕ) → asked ≡ command.Import name → ⊥) → (asked ≡ command.Batch → ⊥) → passes options folder asked input ≡ command_passes options folder asked
+other_passes : (options : Options) (folder : Folder) (asked : Command) (input : List ℕ) → ((name : List ℕ) → asked ≡ command.Import name → ⊥) → (asked ≡ command.Batch → ⊥) → passes options folder asked input
+    ≡ command_passes options folder asked
 other_passes options folder (command.Show path) input no_import no_batch = refl
 other_passes options folder (command.Get path) input no_import no_batch = refl
 other_passes options folder (command.Stage verb word) input no_import no_batch = refl
@@ -182,5 +189,6 @@ whole_stops view words asked command store input old new is some (inl e) = inl e
 whole_stops view words asked command store input old new is some (inr h) = inr (
   h.0,
   by_words words asked command input h.0 is some h.1,
-  subst (λ (z : Asked). StopsAmong store (view old) (view new) (asked_folders z.options (folder_of store) z.command h.0)) is (subst (λ (z : Option Command). StopsAmong store (view old) (view new) (asked_folders asked.options (folder_of store) z h.0)) (sym some) h.2),
+  subst (λ (z : Asked). StopsAmong store (view old) (view new) (asked_folders z.options (folder_of store) z.command h.0)) is
+      (subst (λ (z : Option Command). StopsAmong store (view old) (view new) (asked_folders asked.options (folder_of store) z h.0)) (sym some) h.2),
 )

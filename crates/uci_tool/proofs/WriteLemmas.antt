@@ -129,7 +129,8 @@ writes_rest {X} result store files staged no' open' = record {
     go (Err stop.Memory) n = open'.ready
 
 -- one that an answer stopped
-pub writes_stopped : {A : Type 0} (s : Stop) (expected : Result A Refusal) (store : Store) (files staged : View) → Answers {A = A} (Err s) expected → IsOpen store files staged → Writes {X = Unit {0}} (Err s) store store files files staged staged
+pub writes_stopped : {A : Type 0} (s : Stop) (expected : Result A Refusal) (store : Store) (files staged : View) → Answers {A = A} (Err s) expected → IsOpen store files staged
+    → Writes {X = Unit {0}} (Err s) store store files files staged staged
 writes_stopped (stop.Refused refusal) expected store files staged answers open' = writes_rest (Err (stop.Refused refusal)) store files staged (λ e. cc) open'
 writes_stopped stop.DiskFailed expected store files staged answers open' = absurd answers
 writes_stopped stop.Memory expected store files staged answers open' = writes_rest (Err stop.Memory) store files staged (λ e. cc) open'
@@ -170,9 +171,11 @@ replaced_is old new tree names h =
     replaced_to old tree h.file h.is
     ∙ ap (λ (z : Folder). Ok z) (sym (same_all old new (with_file (files_of old) h.file) (without 0 h.file.file (staged_in old)) names h.written.files h.written.staged))
 
-replace_stopped : (old new : Store) (tree : Package) (error : StoreError) → folder_of new ≡ folder_of old → ReplaceStops old tree error → Changes {X = Unit {0}} (Err (stop_of error)) (folder_of old) (folder_of new) (replaced (folder_of old) tree)
+replace_stopped : (old new : Store) (tree : Package) (error : StoreError) → folder_of new ≡ folder_of old → ReplaceStops old tree error
+    → Changes {X = Unit {0}} (Err (stop_of error)) (folder_of old) (folder_of new) (replaced (folder_of old) tree)
 replace_stopped old new tree store_error.NoPackage kept h = (no_file (folder_of old) tree.name (λ found. where_free (folder_of old) (printed_at (folder_of old) found tree)) h.1, kept)
-replace_stopped old new tree (store_error.Snap (snap_error.Waiting deadline)) kept h = (at_file (folder_of old) tree.name h.file (λ found. where_free (folder_of old) (printed_at (folder_of old) found tree)) h.number ∙ waiting_there (folder_of old) (printed_at (folder_of old) h.file tree) deadline h.waits.1, kept)
+replace_stopped old new tree (store_error.Snap (snap_error.Waiting deadline)) kept h =
+    (at_file (folder_of old) tree.name h.file (λ found. where_free (folder_of old) (printed_at (folder_of old) found tree)) h.number ∙ waiting_there (folder_of old) (printed_at (folder_of old) h.file tree) deadline h.waits.1, kept)
 replace_stopped old new tree (store_error.TooLarge bytes) kept h = (at_free (folder_of old) tree h.0.file h.0.number h.0.free.rests ∙ too_large_there (folder_of old) h.0.file tree bytes h.1.size h.1.passes, kept)
 replace_stopped old new tree store_error.Memory kept h = kept
 replace_stopped old new tree (store_error.Snap snap_error.Reopen) kept h = tt
@@ -186,10 +189,12 @@ replace_stopped old new tree (store_error.Delta error) kept h = absurd h
 replace_stopped old new tree (store_error.NotHolder holder) kept h = absurd h
 replace_stopped old new tree store_error.NothingStaged kept h = absurd h
 
-pub replace_refused : (old new : Store) (tree : Package) (Untouched : Type 0) (error : StoreError) (a b c d : View) → names_of new ≡ names_of old → IsLeft old new (ReplacesTo old tree) Untouched error → ReplaceRefuses old 0 tree a b c d error → Changes {X = Unit {0}} (Err (stop_of error)) (folder_of old) (folder_of new) (replaced (folder_of old) tree)
+pub replace_refused : (old new : Store) (tree : Package) (Untouched : Type 0) (error : StoreError) (a b c d : View) → names_of new ≡ names_of old → IsLeft old new (ReplacesTo old tree) Untouched error
+    → ReplaceRefuses old 0 tree a b c d error → Changes {X = Unit {0}} (Err (stop_of error)) (folder_of old) (folder_of new) (replaced (folder_of old) tree)
 replace_refused old new tree Untouched error a b c d names left h = go (is_disk error) h
   where
-    go : (error ≡ store_error.Snap snap_error.DiskFailed) ⊎ (error ≢ store_error.Snap snap_error.DiskFailed) → ReplaceRefuses old 0 tree a b c d error → Changes {X = Unit {0}} (Err (stop_of error)) (folder_of old) (folder_of new) (replaced (folder_of old) tree)
+    go : (error ≡ store_error.Snap snap_error.DiskFailed) ⊎ (error ≢ store_error.Snap snap_error.DiskFailed) → ReplaceRefuses old 0 tree a b c d error
+        → Changes {X = Unit {0}} (Err (stop_of error)) (folder_of old) (folder_of new) (replaced (folder_of old) tree)
     go (inl e) r = disk_failed error (folder_of old) (folder_of new) (replaced (folder_of old) tree) e
     go (inr no') (inl r) = replace_stopped old new tree error (same_all old new (files_of old) (staged_in old) names (left_files old new (ReplacesTo old tree) Untouched error no' left) left.staged) r
     go (inr no') (inr r) = absurd (no' r.0)

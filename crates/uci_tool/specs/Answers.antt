@@ -21,7 +21,8 @@ use Rattle.uci_store.specs.declared.store_error.StoreError.{StoreError}
 use Rattle.uci_store.specs.declared.store_error.StoreError.TheVariants as store_error
 use Rattle.uci_store.specs.Store.{names_of, snap_of, has_failed, IsOnFiles, IsOnStaged}
 use Rattle.uci_cli.specs.declared.refusal.Refusal.{Refusal}
-use Rattle.uci_cli.specs.declared.refusal.Refusal.TheVariants.{NotFound, Invalid, Duplicate, Waiting, NoPackage, Parse, TooLarge}
+use Rattle.uci_cli.specs.declared.refusal.Refusal.TheVariants.{NotFound, Invalid, Duplicate, Waiting, NoPackage, Parse}
+use Rattle.uci_cli.specs.declared.refusal.Refusal.TheVariants.{TooLarge}
 use Rattle.uci_tool.specs.declared.stop.Stop.{Stop}
 use Rattle.uci_tool.specs.declared.stop.Stop.TheVariants as stop
 use Rattle.uci_tool.specs.declared.texts.Printed.{Printed}
@@ -98,7 +99,8 @@ Closes (Err (stop.Refused refusal)) failed = failed ≡ false
 Closes (Err stop.DiskFailed) failed = failed ≡ true
 Closes (Err stop.Memory) failed = failed ≡ false
 
--- what a command leaves that writes no files: the store on its disk of staged changes, which failed only where its count rose
+-- what a command leaves that writes no files: the store on its disk of staged changes, which failed only where its
+-- count rose
 pub record Stages {X : Type 0} (result : Result X Stop) (old new : Store) (before after : View) : Type 0 where
   pub on : IsOnStaged new after
   pub follows : Follows before after
@@ -126,14 +128,16 @@ pub record IsOpen (store : Store) (files_view staged_view : View) : Type 0 where
   pub ready : has_failed store ≡ false
 
 -- what a command leaves that may write files: the store on its disks, of which one failed only where its count rose
-pub record Writes {X : Type 0} (result : Result X Stop) (old new : Store) (files_before files_after staged_before staged_after : View) : Type 0 where
+pub record Writes {X : Type 0} (result : Result X Stop) (old new : Store)
+    (files_before files_after staged_before staged_after : View) : Type 0 where
   pub files : IsOnFiles new files_after
   pub staged : IsOnStaged new staged_after
   pub names : names_of new ≡ names_of old
   pub same : SameDisk files_before files_after
   pub follows : Follows staged_before staged_after
   pub closes : Closes result (has_failed new)
-  pub cause : result ≡ Err stop.DiskFailed → Rose files_before.faults files_after.faults ⊎ Rose staged_before.faults staged_after.faults
+  pub cause : result ≡ Err stop.DiskFailed
+      → Rose files_before.faults files_after.faults ⊎ Rose staged_before.faults staged_after.faults
 
 -- the new folder is one of these
 abbrev pub IsAmong : Folder → List Folder → Type 0

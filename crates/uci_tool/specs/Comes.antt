@@ -21,7 +21,8 @@ abbrev pub OrLacksMemory : Type 0 → ℕ → Type 0
 OrLacksMemory fact status = fact ⊎ (status ≡ 8)
 
 -- the words ask for a command, the clock told the moment of the run, and the disk of the packages its files
-pub record IsAsked (words : List (List ℕ)) (told : Option (ℕ → ℕ)) (files : View) (now : ℕ) (read : Files) : Type 0 where
+pub record IsAsked (words : List (List ℕ)) (told : Option (ℕ → ℕ)) (files : View) (now : ℕ) (read : Files)
+    : Type 0 where
   pub some : asks words ≡ true
   pub moments : ℕ → ℕ
   pub moment : told ≡ Some moments
@@ -38,21 +39,27 @@ abbrev pub FitsInput : List (List ℕ) → Option (List ℕ) → Type 0
 FitsInput words left = reads words ≡ true → (text : List ℕ) × (left ≡ Some text) × (length text ≤ INPUT_LIMIT)
 
 -- When a run ends so. Want of memory may come in place of each ending.
-pub record RunComes (words : List (List ℕ)) (told : Option (ℕ → ℕ)) (streams : Streams) (files files_now staged staged_now : View) (status : ℕ) : Type 0 where
+pub record RunComes (words : List (List ℕ)) (told : Option (ℕ → ℕ)) (streams : Streams)
+    (files files_now staged staged_now : View) (status : ℕ) : Type 0 where
   -- where no count rose, no device is told to have failed
   pub calm : IsCalm streams files files_now staged staged_now → (status ≡ 3) ⊎ ((status ≡ 4) ⊎ (status ≡ 5)) → ⊥
   -- words that ask for no command
   pub no_command : asks words ≡ false → OrLacksMemory (status ≡ 2) status
   -- files that pass a limit, unless a count of a disk rose
-  pub too_large : (now : ℕ) (read : Files) (number : ℕ) → IsAsked words told files now read → IsCalm streams files files_now staged staged_now
+  pub too_large : (now : ℕ) (read : Files) (number : ℕ) → IsAsked words told files now read
+      → IsCalm streams files files_now staged staged_now
       → PassesLimit (drop 2 read) number → OrLacksMemory (status ≡ 10) status
   -- files without a reading
-  pub bad_snapshot : (now : ℕ) (read : Files) (place : ℕ) → IsAsked words told files now read → IsCalm streams files files_now staged staged_now
+  pub bad_snapshot : (now : ℕ) (read : Files) (place : ℕ) → IsAsked words told files now read
+      → IsCalm streams files files_now staged staged_now
       → HasNoReading files.names read now place → OrLacksMemory (status ≡ 12) status
   -- an input that is longer than it may be
-  pub long_input : (now : ℕ) (read : Files) (text : List ℕ) → IsAsked words told files now read → IsCalm streams files files_now staged staged_now
+  pub long_input : (now : ℕ) (read : Files) (text : List ℕ) → IsAsked words told files now read
+      → IsCalm streams files files_now staged staged_now
       → HasReading files.names read now → reads words ≡ true → streams.input.old ≡ Some text → INPUT_LIMIT < length text
       → OrLacksMemory (status ≡ 10) status
   -- and else the command is carried out: it is done, or refused
-  pub carried_out : (now : ℕ) (read : Files) → IsAsked words told files now read → IsCalm streams files files_now staged staged_now
-      → HasReading files.names read now → FitsInput words streams.input.old → OrLacksMemory ((status ≡ 0) ⊎ (status ≡ 1)) status
+  pub carried_out : (now : ℕ) (read : Files) → IsAsked words told files now read
+      → IsCalm streams files files_now staged staged_now
+      → HasReading files.names read now → FitsInput words streams.input.old
+      → OrLacksMemory ((status ≡ 0) ⊎ (status ≡ 1)) status

@@ -1,5 +1,6 @@
 -- `commit`.
-use Rattle.std.specs.Prelude.{ℕ, List, [], ◌∷◌, length, Option, Some, None, Result, Ok, Err, is_some, nat_le, if◌then◌else◌}
+use Rattle.std.specs.Prelude.{ℕ, List, [], ◌∷◌, length, Option, Some, None, Result, Ok, Err, is_some, nat_le}
+use Rattle.std.specs.Prelude.{if◌then◌else◌}
 use Rattle.snap_disk.specs.declared.new_file.NewFile.{NewFile}
 use Rattle.snap_disk.specs.Body.{most_bytes}
 use Rattle.uci_tree.specs.declared.package.Package.{Package}
@@ -27,7 +28,8 @@ printed_at folder file tree =
 
 -- what is seen of a package is written, where something is staged of it
 abbrev pub committed_file : Folder → ℕ → Result Folder Refusal
-committed_file folder file = if has_deltas 0 file folder.staged then if_ok (seen_at folder file) (printed_at folder file) else Ok folder
+committed_file folder file = if has_deltas 0 file folder.staged
+    then if_ok (seen_at folder file) (printed_at folder file) else Ok folder
 
 -- `commit P`
 abbrev pub commit_package : Folder → List ℕ → Result Folder Refusal

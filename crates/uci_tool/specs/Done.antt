@@ -1,6 +1,7 @@
 -- OpenWrt's `uci` command, whole: what it prints, what it tells on the error output, its status and the number of its
 -- refusal, and the folder behind it. One row a command.
-use Rattle.std.specs.Prelude.{ℕ, List, [], Bool, length, ◌&&◌, Option, Some, None, Result, Ok, Err, nat_lt, if◌then◌else◌}
+use Rattle.std.specs.Prelude.{ℕ, List, [], Bool, length, ◌&&◌, Option, Some, None, Result, Ok, Err, nat_lt}
+use Rattle.std.specs.Prelude.{if◌then◌else◌}
 use Rattle.plane_io.specs.declared.input.TheConstants.{INPUT_LIMIT}
 use Rattle.uci_text.specs.declared.line.Line.{Line}
 use Rattle.uci_text.specs.declared.text_error.TextError.{TextError}
@@ -61,7 +62,8 @@ ended options done = record {
 
 -- how one ends that was not, for its words or for its input
 abbrev pub not_carried : Options → Folder → List ℕ → ℕ → UciDone
-not_carried options folder text status = record { output = []; told = told_by options text; status = status; refusal = 0; after = folder }
+not_carried options folder text status =
+    record { output = []; told = told_by options text; status = status; refusal = 0; after = folder }
 
 -- the input is longer than it may be
 abbrev pub is_too_long : Command → List ℕ → Bool

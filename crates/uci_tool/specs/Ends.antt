@@ -25,10 +25,12 @@ pub record Stream : Type 0 where
   pub faults_now : ℕ
 
 abbrev pub source_of : {S : Type 0} → SourceMembers S → S → S → Stream
-source_of source before now = record { old = source.left before; new = source.left now; faults = source.faults before; faults_now = source.faults now }
+source_of source before now = record
+    { old = source.left before; new = source.left now; faults = source.faults before; faults_now = source.faults now }
 
 abbrev pub sink_of : {E : Type 0} → SinkMembers E → E → E → Stream
-sink_of sink before now = record { old = sink.held before; new = sink.held now; faults = sink.faults before; faults_now = sink.faults now }
+sink_of sink before now = record
+    { old = sink.held before; new = sink.held now; faults = sink.faults before; faults_now = sink.faults now }
 
 -- what a run reads and writes beside its disks
 pub record Streams : Type 0 where
@@ -36,8 +38,15 @@ pub record Streams : Type 0 where
   pub out : Stream
   pub err : Stream
 
-abbrev pub streams_of : {S O E : Type 0} → SourceMembers S → S → S → SinkMembers O → O → O → SinkMembers E → E → E → Streams
-streams_of source input input_now out_sink out out_now err_sink err err_now = record { input = source_of source input input_now; out = sink_of out_sink out out_now; err = sink_of err_sink err err_now }
+abbrev pub streams_of : {S O E : Type 0} → SourceMembers S → S → S → SinkMembers O → O → O → SinkMembers E → E → E
+    → Streams
+streams_of source input input_now out_sink out out_now err_sink err err_now =
+    record {
+      input = source_of source input input_now;
+      out = sink_of out_sink out out_now;
+      err =
+          sink_of err_sink err err_now;
+    }
 
 -- the words ask for a command that reads the input
 abbrev pub asks_input : Option Command → Bool
@@ -79,11 +88,12 @@ Tells words text stream = IsTold (told_by (asked_of words).options text) stream
 abbrev pub TellsMemory : List (List ℕ) → Stream → Type 0
 TellsMemory words stream = Tells words texts.OUT_OF_MEMORY.now stream ⊎ IsTold texts.OUT_OF_MEMORY.now stream
 
--- A run has an ending. One that is done, refused or asked for nothing leaves what `uci_done` says, output and error text
--- included. One whose output failed leaves its folder, and a front of its output. One that is cut short writes nothing to
--- the output: by its input, which leaves the folder; by a disk; or for want of memory, which leaves a folder that the
--- command passes through.
-pub data Ends (words : List (List ℕ)) (before after : Folder) (streams : Streams) (files_before files_after staged_before staged_after : View) (end : UciEnd) : Type 0 where
+-- A run has an ending. One that is done, refused or asked for nothing leaves what `uci_done` says, output and error
+-- text included. One whose output failed leaves its folder, and a front of its output. One that is cut short writes
+-- nothing to the output: by its input, which leaves the folder; by a disk; or for want of memory, which leaves a folder
+-- that the command passes through.
+pub data Ends (words : List (List ℕ)) (before after : Folder) (streams : Streams)
+    (files_before files_after staged_before staged_after : View) (end : UciEnd) : Type 0 where
   carried_out : (input : List ℕ) → IsInput words streams.input input
       → end ≡ end_of (uci_done words before input).status (uci_done words before input).refusal
       → Grows streams.out.old streams.out.new (uci_done words before input).output
@@ -103,5 +113,6 @@ pub data Ends (words : List (List ℕ)) (before after : Folder) (streams : Strea
   disk_failed : Rose files_before.faults files_after.faults ⊎ Rose staged_before.faults staged_after.faults
       → end ≡ end_of 5 0 → IsSilent streams.out → Tells words texts.DISK_FAILED.now streams.err
       → Ends words before after streams files_before files_after staged_before staged_after end
-  no_memory : end ≡ end_of 8 0 → IsSilent streams.out → TellsMemory words streams.err → IsPassed words before after streams.input
+  no_memory : end ≡ end_of 8 0 → IsSilent streams.out → TellsMemory words streams.err
+      → IsPassed words before after streams.input
       → Ends words before after streams files_before files_after staged_before staged_after end

@@ -19,4 +19,5 @@ merge_done folder name input = if_ok (seen folder name) (λ view. if_ok (merged 
 -- `import P`, and with `-m` over what is seen
 abbrev pub import_done : Options → Folder → List ℕ → List ℕ → Result Folder Refusal
 import_done options folder name input =
-    if_ok (parsed (package_in name input)) (λ tree. if options.merge then merge_done folder name input else replaced folder tree)
+    if_ok (parsed (package_in name input))
+    (λ tree. if options.merge then merge_done folder name input else replaced folder tree)

@@ -31,7 +31,8 @@ refused folder refusal = record { output = []; told = text_of refusal; refusal =
 
 -- one that printed
 abbrev pub of_printed : Folder → Printed → Carried
-of_printed folder done = record { output = done.output; told = told_of done.refusal; refusal = done.refusal; after = folder }
+of_printed folder done = record
+    { output = done.output; told = told_of done.refusal; refusal = done.refusal; after = folder }
 
 -- one that changed the folder
 abbrev pub of_changed : Changed → Carried
@@ -55,7 +56,8 @@ command_done options folder (command.Add name kind) = of_effect folder (add_done
 command_done options folder (command.Changes name) = of_printed folder (of_named (changes_of folder) folder.names name)
 command_done options folder (command.Revert path) = of_folder folder (revert_word folder path)
 command_done options folder (command.Commit name) = of_changed (commit_done folder name)
-command_done options folder (command.Export name) = of_printed folder (of_named (export_package options folder) folder.names name)
+command_done options folder (command.Export name) =
+    of_printed folder (of_named (export_package options folder) folder.names name)
 command_done options folder (command.Import name) = refused folder Invalid
 command_done options folder command.Batch = refused folder Invalid
 
@@ -83,4 +85,5 @@ then_done one rest = record {
 -- the lines one after another, also behind one that is refused
 abbrev pub lines_done : Options → Folder → List Line → Carried
 lines_done options folder [] = record { output = []; told = []; refusal = None; after = folder }
-lines_done options folder (line ∷ lines) = let one = line_done options folder line.words in then_done one (lines_done options one.after lines)
+lines_done options folder (line ∷ lines) = let one = line_done options folder line.words in
+    then_done one (lines_done options one.after lines)

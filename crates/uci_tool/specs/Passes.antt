@@ -49,7 +49,8 @@ line_passes options folder words = asked_passes options folder (command_of words
 
 abbrev pub lines_passes : Options → Folder → List Line → List Folder
 lines_passes options folder [] = folder ∷ []
-lines_passes options folder (line ∷ lines) = line_passes options folder line.words ++ lines_passes options (line_done options folder line.words).after lines
+lines_passes options folder (line ∷ lines) = line_passes options folder line.words
+    ++ lines_passes options (line_done options folder line.words).after lines
 
 abbrev pub batch_passes : Options → Folder → Result (List Line) TextError → List Folder
 batch_passes options folder (Err error) = folder ∷ []
@@ -57,7 +58,8 @@ batch_passes options folder (Ok lines) = lines_passes options folder lines
 
 -- any command
 abbrev pub passes : Options → Folder → Command → List ℕ → List Folder
-passes options folder (command.Import name) input = one_step folder (carried options folder (command.Import name) input).after
+passes options folder (command.Import name) input =
+    one_step folder (carried options folder (command.Import name) input).after
 passes options folder command.Batch input = batch_passes options folder (lines_in input)
 passes options folder command input = command_passes options folder command
 

@@ -1,5 +1,7 @@
--- The path that a text is, computed. That it is the one path that the text spells, and none where it spells none, is a law.
-use Rattle.std.specs.Prelude.{ℕ, ℤ, pos, neg_ℤ, ◌^◌, List, [], ◌∷◌, Option, Some, None, ◌&&◌, nat_eq, nat_le, nat_lt, if◌then◌else◌}
+-- The path that a text is, computed. That it is the one path that the text spells, and none where it spells none, is a
+-- law.
+use Rattle.std.specs.Prelude.{ℕ, ℤ, pos, neg_ℤ, ◌^◌, List, [], ◌∷◌, Option, Some, None, ◌&&◌, nat_eq, nat_le, nat_lt}
+use Rattle.std.specs.Prelude.{if◌then◌else◌}
 use Rattle.std.specs.Option.{option_map, option_and_then}
 use Rattle.std.specs.Str.Parse.{digits_value}
 use Rattle.uci_text.specs.declared.byte_class.ByteClass.TheVariants.{Name, PackageName, Printable}
@@ -13,7 +15,8 @@ use Rattle.uci_delta.specs.Place.{are_digits}
 -- what stands before the first of these bytes and what stands behind it
 abbrev pub cut : ℕ → List ℕ → Option (List ℕ × List ℕ)
 cut byte [] = None
-cut byte (first ∷ rest) = if nat_eq first byte then Some ([], rest) else option_map (λ (parts : List ℕ × List ℕ). (first ∷ parts.0, parts.1)) (cut byte rest)
+cut byte (first ∷ rest) = if nat_eq first byte then Some ([], rest)
+    else option_map (λ (parts : List ℕ × List ℕ). (first ∷ parts.0, parts.1)) (cut byte rest)
 
 -- and before and behind the last of them
 abbrev pub cut_end_at : ℕ → ℕ → List ℕ → Option (List ℕ × List ℕ) → Option (List ℕ × List ℕ)
@@ -26,10 +29,12 @@ cut_end byte (first ∷ rest) = cut_end_at byte first rest (cut_end byte rest)
 
 -- an index: digits, perhaps behind a minus, of a number of 32 bits
 abbrev pub forwards_in : List ℕ → Option ℤ
-forwards_in text = if are_digits text && nat_lt (digits_value 10 text) (2 ^ 31) then Some (pos (digits_value 10 text)) else None
+forwards_in text = if are_digits text && nat_lt (digits_value 10 text) (2 ^ 31) then Some (pos (digits_value 10 text))
+    else None
 
 abbrev pub backwards_in : List ℕ → Option ℤ
-backwards_in text = if are_digits text && nat_le (digits_value 10 text) (2 ^ 31) then Some (neg_ℤ (pos (digits_value 10 text))) else None
+backwards_in text = if are_digits text && nat_le (digits_value 10 text) (2 ^ 31)
+    then Some (neg_ℤ (pos (digits_value 10 text))) else None
 
 abbrev pub index_in : List ℕ → Option ℤ
 index_in [] = None
@@ -45,7 +50,8 @@ place_before inner (_ ∷ _) = None
 
 -- what stands behind `@`
 abbrev pub place_in : List ℕ → Option SectionRef
-place_in text = option_and_then (λ (parts : List ℕ × List ℕ). place_before parts.0 parts.1) (cut_end closing_bracket text)
+place_in text = option_and_then (λ (parts : List ℕ × List ℕ). place_before parts.0 parts.1)
+    (cut_end closing_bracket text)
 
 abbrev pub name_in : List ℕ → Option SectionRef
 name_in text = if is_name_of Name text then Some (ByName text) else None
@@ -61,11 +67,14 @@ with_option text None = (text, None)
 with_option text (Some parts) = if is_name_of Name parts.1 then (parts.0, Some parts.1) else (text, None)
 
 abbrev pub path_with : List ℕ → List ℕ × Option (List ℕ) → Option Path
-path_with name place = option_map (λ section. record { «package» = name; section = Some section; option = place.1 }) (section_in place.0)
+path_with name place = option_map (λ section. record { «package» = name; section = Some section; option = place.1 })
+    (section_in place.0)
 
 abbrev pub path_behind : List ℕ → Option (List ℕ × List ℕ) → Option Path
-path_behind text None = if is_name_of PackageName text then Some (record { «package» = text; section = None; option = None }) else None
-path_behind text (Some parts) = if is_name_of PackageName parts.0 then path_with parts.0 (with_option parts.1 (cut_end dot parts.1)) else None
+path_behind text None = if is_name_of PackageName text
+    then Some (record { «package» = text; section = None; option = None }) else None
+path_behind text (Some parts) = if is_name_of PackageName parts.0
+    then path_with parts.0 (with_option parts.1 (cut_end dot parts.1)) else None
 
 unfoldable pub path_in : List ℕ → Option Path
 path_in text = path_behind text (cut dot text)

@@ -13,12 +13,15 @@ use Rattle.uci_tree.proofs.LawLemmas.{package_or_fault}
 
 -- the package of this name that a text is, or its fault
 unfoldable pub package_in : List ℕ → List ℕ → Result Package TreeError
-package_in name text = elim (package_or_fault name text) as (λ _. Result Package TreeError) [ inl found ↦ Ok found.0 | inr fault ↦ Err fault.0 ]
+package_in name text = elim (package_or_fault name text) as
+    (λ _. Result Package TreeError) [ inl found ↦ Ok found.0 | inr fault ↦ Err fault.0 ]
 
 -- the lines of words of a text, or its fault
 unfoldable pub lines_in : List ℕ → Result (List Line) TextError
-lines_in text = elim (reading_or_fault text) as (λ _. Result (List Line) TextError) [ inl found ↦ Ok found.0 | inr fault ↦ Err fault.0 ]
+lines_in text = elim (reading_or_fault text) as
+    (λ _. Result (List Line) TextError) [ inl found ↦ Ok found.0 | inr fault ↦ Err fault.0 ]
 
 -- the commands of a text, or its fault
 unfoldable pub commands_in : List ℕ → Result (List Cmd) TextError
-commands_in text = elim (commands_or_fault text) as (λ _. Result (List Cmd) TextError) [ inl found ↦ Ok found.0 | inr fault ↦ Err fault.0 ]
+commands_in text = elim (commands_or_fault text) as
+    (λ _. Result (List Cmd) TextError) [ inl found ↦ Ok found.0 | inr fault ↦ Err fault.0 ]

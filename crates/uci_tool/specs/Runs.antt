@@ -33,13 +33,15 @@ ReadsText (Err cut.DiskFailed) reads stream = ⊥
 ReadsText (Err cut.Memory) reads stream = Unit {0}
 
 -- a command was carried out on the input that it read
-pub record IsCarried (options : Options) (command : Command) (before : Folder) (input : Stream) (report : Report) (after : Folder) : Type 0 where
+pub record IsCarried (options : Options) (command : Command) (before : Folder) (input : Stream) (report : Report)
+    (after : Folder) : Type 0 where
   pub text : List ℕ
   pub read : IsInputBy (reads_input command) input text
   pub is : carried options before command text ≡ carried_as report after
 
 -- a folder is one that a command passes through with the input that it read
-pub record IsCommandPassed (options : Options) (command : Command) (before : Folder) (input : Stream) (after : Folder) : Type 0 where
+pub record IsCommandPassed (options : Options) (command : Command) (before : Folder) (input : Stream) (after : Folder)
+    : Type 0 where
   pub text : List ℕ
   pub read : IsInputBy (reads_input command) input text
   pub among : IsAmong after (passes options before command text)
@@ -47,11 +49,13 @@ pub record IsCommandPassed (options : Options) (command : Command) (before : Fol
 -- what a command reports, or what cut it short
 abbrev pub Runs : Result Report Cut → Options → Command → Folder → Folder → Stream → Type 0
 Runs (Ok report) options command before after input = IsCarried options command before input report after
-Runs (Err cut.TooLong) options command before after input = (reads_input command ≡ true) × HadMoreThan INPUT_LIMIT input.old × (after ≡ before)
+Runs (Err cut.TooLong) options command before after input = (reads_input command ≡ true)
+    × HadMoreThan INPUT_LIMIT input.old × (after ≡ before)
 Runs (Err cut.ReadFailed) options command before after input = Rose input.faults input.faults_now × (after ≡ before)
 Runs (Err cut.WriteFailed) options command before after input = ⊥
 Runs (Err cut.DiskFailed) options command before after input = Unit {0}
-Runs (Err cut.Memory) options command before after input = (after ≡ before) ⊎ IsCommandPassed options command before input after
+Runs (Err cut.Memory) options command before after input =
+    (after ≡ before) ⊎ IsCommandPassed options command before input after
 
 -- what a command reports on a text that it read
 abbrev pub RunsOn : Result Report Cut → Options → Command → Folder → Folder → List ℕ → Type 0
@@ -61,13 +65,15 @@ RunsOn (Err cut.Memory) options command before after text = IsAmong after (passe
 RunsOn (Err _) options command before after text = ⊥
 
 -- what a run leaves: the store on its disks, of which one failed only where its count rose
-pub record Leaves (result : Result Report Cut) (new : Store) (files_before files_after staged_before staged_after : View) : Type 0 where
+pub record Leaves (result : Result Report Cut) (new : Store)
+    (files_before files_after staged_before staged_after : View) : Type 0 where
   pub files : IsOnFiles new files_after
   pub staged : IsOnStaged new staged_after
   pub same : SameDisk files_before files_after
   pub follows : Follows staged_before staged_after
   pub closes : result ≢ Err cut.DiskFailed → has_failed new ≡ false
-  pub cause : result ≡ Err cut.DiskFailed → Rose files_before.faults files_after.faults ⊎ Rose staged_before.faults staged_after.faults
+  pub cause : result ≡ Err cut.DiskFailed
+      → Rose files_before.faults files_after.faults ⊎ Rose staged_before.faults staged_after.faults
 
 -- a text as the error output gets it, unless the words ask for silence
 abbrev pub told_unless : Bool → List ℕ → List ℕ

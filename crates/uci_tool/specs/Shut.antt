@@ -32,10 +32,13 @@ shut_of (store_error.Snap snap_error.Memory) = Memory
 shut_of store_error.Memory = Memory
 shut_of _ = DiskFailed
 
--- Its cause, at a moment. A disk failed only where a count rose. Want of memory has none. Where the disk tells its files: these pass
--- a limit, or are within them and have no reading.
+-- Its cause, at a moment. A disk failed only where a count rose. Want of memory has none. Where the disk tells its
+-- files: these pass a limit, or are within them and have no reading.
 abbrev pub IsShut : Shut → ℕ → View → View → View → View → Type 0
-IsShut DiskFailed now files files_now staged staged_now = Rose files.faults files_now.faults ⊎ Rose staged.faults staged_now.faults
+IsShut DiskFailed now files files_now staged staged_now =
+    Rose files.faults files_now.faults ⊎ Rose staged.faults staged_now.faults
 IsShut Memory now files files_now staged staged_now = Unit {0}
-IsShut TooLarge now files files_now staged staged_now = (read : Files) → files.seen ≡ Some read → (number : ℕ) × PassesLimit (drop 2 read) number
-IsShut BadSnapshot now files files_now staged staged_now = (read : Files) → files.seen ≡ Some read → (place : ℕ) × HasNoReading files.names read now place
+IsShut TooLarge now files files_now staged staged_now = (read : Files) → files.seen ≡ Some read → (number : ℕ)
+    × PassesLimit (drop 2 read) number
+IsShut BadSnapshot now files files_now staged staged_now = (read : Files) → files.seen ≡ Some read → (place : ℕ)
+    × HasNoReading files.names read now place

@@ -1,5 +1,6 @@
 -- Commands that stage a change, and `revert`.
-use Rattle.std.specs.Prelude.{ℕ, ℤ, List, [], ◌∷◌, ◌++◌, Bool, true, Option, Some, None, Result, Ok, Err, is_some, is_none, slice_get, if◌then◌else◌}
+use Rattle.std.specs.Prelude.{ℕ, ℤ, List, [], ◌∷◌, ◌++◌, Bool, true, Option, Some, None, Result, Ok, Err, is_some}
+use Rattle.std.specs.Prelude.{is_none, slice_get, if◌then◌else◌}
 use Rattle.std.specs.Option.{ok_or, option_map, option_and_then}
 use Rattle.uci_tree.specs.declared.package.Package.{Package}
 use Rattle.uci_tree.specs.declared.path.Path.{Path}
@@ -39,11 +40,13 @@ taken (Err error) = Err (delta_refusal error)
 
 -- a change of the command line comes behind those that are staged
 abbrev pub with_change : Folder → ℕ → Delta → Folder
-with_change folder file delta = record folder { staged = folder.staged ++ record { holder = 0; file = file; delta = delta } ∷ [] }
+with_change folder file delta =
+    record folder { staged = folder.staged ++ record { holder = 0; file = file; delta = delta } ∷ [] }
 
 -- the folder with a change staged, where what is seen of the package takes it
 abbrev pub staged_at : Folder → Delta → ℕ → Result Folder Refusal
-staged_at folder delta file = if_ok (seen_at folder file) (λ view. if_ok (taken (applied view delta)) (λ tree. Ok (with_change folder file delta)))
+staged_at folder delta file = if_ok (seen_at folder file)
+    (λ view. if_ok (taken (applied view delta)) (λ tree. Ok (with_change folder file delta)))
 
 abbrev pub staged_with : Folder → Delta → Result Folder Refusal
 staged_with folder delta = if_ok (file_in folder delta.«package») (staged_at folder delta)
@@ -92,12 +95,15 @@ fits verb.Reorder option = is_none option
 
 -- the change of what a path with a section leads to is staged
 abbrev pub stage_named : Folder → List ℕ → SectionRef → Option (List ℕ) → Change → Result Folder Refusal
-stage_named folder name reference option change = if_ok (name_in folder name reference) (λ section. staged_with folder (record { «package» = name; section = section; option = option; change = change }))
+stage_named folder name reference option change =
+    if_ok (name_in folder name reference)
+    (λ section. staged_with folder (record { «package» = name; section = section; option = option; change = change }))
 
 abbrev pub stage_section : Verb → List ℕ → Folder → Path → Option SectionRef → Result Folder Refusal
 stage_section verb value folder path None = Err Invalid
 stage_section verb value folder path (Some reference) =
-    if fits verb path.option then stage_named folder path.«package» reference path.option (change_of verb value) else Err Invalid
+    if fits verb path.option then stage_named folder path.«package» reference path.option (change_of verb value)
+    else Err Invalid
 
 abbrev pub stage_path : Verb → List ℕ → Folder → Path → Result Folder Refusal
 stage_path verb value folder path = stage_section verb value folder path path.section
@@ -122,7 +128,9 @@ pub record Effect : Type 0 where
   pub after : Folder
 
 abbrev pub add_behind : Folder → ℕ → List ℕ → List ℕ → Result Effect Refusal
-add_behind folder made name kind = if_ok (staged_with folder (added name (new_name made kind) kind)) (λ after. Ok (record { output = line_of (new_name made kind); after = after }))
+add_behind folder made name kind =
+    if_ok (staged_with folder (added name (new_name made kind) kind))
+    (λ after. Ok (record { output = line_of (new_name made kind); after = after }))
 
 -- `add P TYPE`: the new name is printed
 abbrev pub add_done : Folder → List ℕ → List ℕ → Result Effect Refusal
@@ -131,7 +139,8 @@ add_done folder name kind = if_ok (seen folder name) (λ tree. add_behind folder
 -- a path in which a section has its name
 abbrev pub by_name : Folder → Path → Option SectionRef → Result Path Refusal
 by_name folder path None = Ok path
-by_name folder path (Some reference) = if_ok (name_in folder path.«package» reference) (λ name. Ok (record path { section = Some (ByName name) }))
+by_name folder path (Some reference) =
+    if_ok (name_in folder path.«package» reference) (λ name. Ok (record path { section = Some (ByName name) }))
 
 abbrev pub reverted_at : Folder → Path → ℕ → Folder
 reverted_at folder path file = record folder { staged = reverted 0 file path folder.staged }

@@ -15,13 +15,13 @@ use std::alloc::Global;
 use uci_cli::read_words;
 use uci_store::Store;
 
-/// Carries one command of `uci` out, with an empty input, and gives its report, or `None` where the words ask for no command. The words
-/// are without `uci` itself.
+/// Carries one command of `uci` out, with an empty input, and gives its report, or `None` where the
+/// words ask for no command. The words are without `uci` itself.
 ///
 /// # Errors
 ///
-/// `DiskFailed` only where a disk failed. `Memory`: of a command that takes several steps the first ones may be done. A refusal is in the
-/// report.
+/// `DiskFailed` only where a disk failed. `Memory`: of a command that takes several steps the first
+/// ones may be done. A refusal is in the report.
 pub fn carry_words<D: Disk, T: Disk>(
     alloc: Global,
     words: &[Text],

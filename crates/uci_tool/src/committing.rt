@@ -39,7 +39,8 @@ pub fn commit_package<D: Disk, T: Disk>(
     }
 }
 
-/// `commit` of each package, one after another, up to the first that is refused. It tells why that was.
+/// `commit` of each package, one after another, up to the first that is refused. It tells why that
+/// was.
 pub fn commit_each<D: Disk, T: Disk>(
     alloc: Global,
     store: &mut Store,

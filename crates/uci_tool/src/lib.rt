@@ -1,4 +1,5 @@
-//! The `uci` command over a store, and one such command over a folder that is opened at the clock's moment.
+//! The `uci` command over a store, and one such command over a folder that is opened at the clock's
+//! moment.
 #![tactic(auto)]
 
 mod adding;

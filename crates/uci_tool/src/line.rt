@@ -1,7 +1,8 @@
 //! Commands that read no input, and the lines of `batch`.
 ghost use Rattle.std.specs.Prelude.{◌≡◌, ◌++◌, OnOk};
 ghost use Rattle.uci_store.specs.Store.{names_of, staged_in, IsStore};
-ghost use Rattle.uci_tool.specs.Answers.{Carries, Prints, ReportsText, ReportsChange, ReportsEffect, Writes, IsOpen, HaveShapes, carried_as};
+ghost use Rattle.uci_tool.specs.Answers.{Carries, Prints, ReportsText, ReportsChange};
+ghost use Rattle.uci_tool.specs.Answers.{ReportsEffect, Writes, IsOpen, HaveShapes, carried_as};
 ghost use Rattle.uci_tool.specs.Commit.{commit_done};
 ghost use Rattle.uci_tool.specs.Texts as texts;
 ghost use Rattle.uci_tool.specs.Folder.{folder_of};

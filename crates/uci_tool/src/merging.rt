@@ -15,8 +15,8 @@ use uci_tree::{
     Opt, Package, Section, TreeError, Value, anonymous_name, named_place, option_place,
 };
 
-/// A package while commands are put behind its own: its sections, how many were added, and the place of the section that the
-/// latest `config` named.
+/// A package while commands are put behind its own: its sections, how many were added, and the
+/// place of the section that the latest `config` named.
 #[derive(Drop)]
 struct Merge {
     sections: Vec<Section>,

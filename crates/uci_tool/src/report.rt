@@ -7,7 +7,8 @@ use plane_io::{Memory, Text};
 use std::alloc::Global;
 use uci_cli::Refusal;
 
-/// What a command prints, what it tells on the error output, and why it was refused, or the first of its lines that was.
+/// What a command prints, what it tells on the error output, and why it was refused, or the first
+/// of its lines that was.
 #[derive(Drop)]
 pub struct Report {
     pub output: Text,

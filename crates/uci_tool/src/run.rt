@@ -26,9 +26,10 @@ struct Asking {
     is_command: bool,
 }
 
-/// Carries one command of `uci` out over a folder of packages and one of staged changes, which is opened at the clock's moment.
-/// The words are without `uci` itself. It answers the exit status: 0, 1 refused, 2 usage, 3 the input failed, 4 the output failed, 5 a
-/// disk failed, 8 want of memory, 10 a file or the input is too long, 12 what an apply left has no reading.
+/// Carries one command of `uci` out over a folder of packages and one of staged changes, which is
+/// opened at the clock's moment. The words are without `uci` itself. It answers the exit status: 0,
+/// 1 refused, 2 usage, 3 the input failed, 4 the output failed, 5 a disk failed, 8 want of memory,
+/// 10 a file or the input is too long, 12 what an apply left has no reading.
 pub fn run_uci<D: Disk, T: Disk, S: Source, O: Sink, E: Sink, C: Clock>(
     alloc: Global,
     words: &[Text],
@@ -53,7 +54,8 @@ pub fn run_uci<D: Disk, T: Disk, S: Source, O: Sink, E: Sink, C: Clock>(
     ensures same { SameDisk (D.view files.old) (D.view files.new) }
     ensures follows { Follows (T.view staged.old) (T.view staged.new) }
 
-    // With 0 nothing was written to the error output, and a command that reads no input leaves it alone.
+    // With 0 nothing was written to the error output, and a command that reads no input leaves it
+    // alone.
     ensures silent { result ≡ 0 → err.new ≡ err.old }
     ensures unread { reads words.now ≡ false → input.new ≡ input.old }
 
@@ -126,7 +128,8 @@ fn look_at(alloc: Global, words: &[Text]) -> Result<Asking, Memory>
     Ok(Asking { quiet, is_command })
 }
 
-/// Writes a text to the error output, unless the words ask for silence. Where that fails, nothing is done about it.
+/// Writes a text to the error output, unless the words ask for silence. Where that fails, nothing
+/// is done about it.
 fn tell<E: Sink>(quiet: bool, text: &[u8], err: &mut E)
     ensures { IsTold (if quiet then [] else text.now) (sink_of E.Sink err.old err.new) }
 {

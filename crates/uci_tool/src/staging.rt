@@ -36,7 +36,8 @@ pub fn stage<T: Disk>(
     }
 }
 
-/// `set PATH=V`, `add_list PATH=V`, `del_list PATH=V`, `delete PATH`, `rename PATH=N` and `reorder PATH=K`.
+/// `set PATH=V`, `add_list PATH=V`, `del_list PATH=V`, `delete PATH`, `rename PATH=N` and `reorder
+/// PATH=K`.
 pub fn stage_word<T: Disk>(
     alloc: Global,
     store: &mut Store,

@@ -8,7 +8,8 @@ ghost use Rattle.uci_cli.specs.Command.{reads_input};
 ghost use Rattle.uci_tool.specs.Answers.{Carries, Writes, IsOpen, carried_as};
 ghost use Rattle.uci_tool.specs.Cut as spec;
 ghost use Rattle.uci_tool.specs.Done.{carried, batch_of};
-ghost use Rattle.uci_tool.specs.Ends.{Ends, IsInput, IsTold, end_of, reads, source_of, sink_of, streams_of};
+ghost use Rattle.uci_tool.specs.Ends.{Ends, IsInput, IsTold, end_of, reads, source_of, sink_of};
+ghost use Rattle.uci_tool.specs.Ends.{streams_of};
 ghost use Rattle.uci_tool.specs.Folder.{folder_of};
 ghost use Rattle.uci_tool.specs.Passes.{passes, batch_passes, uci_passes};
 ghost use Rattle.uci_tool.specs.Reading.{lines_in};
@@ -70,7 +71,8 @@ impl Cut {
     }
 }
 
-/// Carries one command of `uci` out over a store and its two disks: the words are without `uci` itself.
+/// Carries one command of `uci` out over a store and its two disks: the words are without `uci`
+/// itself.
 pub fn uci<D: Disk, T: Disk, S: Source, O: Sink, E: Sink>(
     alloc: Global,
     words: &[Text],
@@ -88,20 +90,23 @@ pub fn uci<D: Disk, T: Disk, S: Source, O: Sink, E: Sink>(
         (streams_of S.Source input.old input.new O.Sink out.old out.new E.Sink err.old err.new)
         (D.view files.old) (D.view files.new) (T.view staged.old) (T.view staged.new) result }
 
-    // The store stays on its disks, and no call of it has failed, unless the run tells that a disk did.
+    // The store stays on its disks, and no call of it has failed, unless the run tells that a disk
+    // did.
     ensures files { IsOnFiles store.new (D.view files.new) }
     ensures staged { IsOnStaged store.new (T.view staged.new) }
     ensures ready { result.status ≢ 5 → has_failed store.new ≡ false }
     ensures same { SameDisk (D.view files.old) (D.view files.new) }
     ensures follows { Follows (T.view staged.old) (T.view staged.new) }
 
-    // Whenever it stops, each image of the files gives what a folder that the command passes through is to give.
+    // Whenever it stops, each image of the files gives what a folder that the command passes
+    // through is to give.
     ensures images { (files.new ≡ files.old) ⊎ ((text : List ℕ)
         × IsInput words.now (source_of S.Source input.old input.new) text
         × StopsAmong store.old (D.view files.old) (D.view files.new)
         (uci_passes words.now (folder_of store.old) text)) }
 
-    // With 0 nothing was written to the error output. A command that reads no input leaves it alone.
+    // With 0 nothing was written to the error output. A command that reads no input leaves it
+    // alone.
     ensures silent { result.status ≡ 0 → err.new ≡ err.old }
     ensures unread { reads words.now ≡ false → input.new ≡ input.old }
 {

@@ -64,7 +64,11 @@ clean [] section behind e n = tt
 clean (x ∷ front) section behind e n = absurd (omega (arith, ap length e, length-append front (section ∷ behind)))
 
 -- a named section behind an anonymous one that has its name where it is read
-not_clean : IsClean (record { name = codes "t"; sections = record { name = codes "cfg02b61d"; anonymous = true; kind = codes "x"; options = [] } ∷ record { name = codes "cfg01b61d"; anonymous = false; kind = codes "y"; options = [] } ∷ []; made = 2 }) → ⊥
+not_clean : IsClean (record {
+  name = codes "t";
+  sections = record { name = codes "cfg02b61d"; anonymous = true; kind = codes "x"; options = [] } ∷ record { name = codes "cfg01b61d"; anonymous = false; kind = codes "y"; options = [] } ∷ [];
+  made = 2;
+}) → ⊥
 unfolding digits
 not_clean c = (c (record { name = codes "cfg02b61d"; anonymous = true; kind = codes "x"; options = [] } ∷ []) (record { name = codes "cfg01b61d"; anonymous = false; kind = codes "y"; options = [] }) [] refl refl).0 refl
 

@@ -18,7 +18,8 @@ count_step false place rest n h = omega (arith, h)
 -- there are as many places as sections of the type
 count_of_places : (place : ℕ) (kind : List ℕ) (sections : List Section) → length (places_from place kind sections) ≡ count_by (λ section. bytes_eq section.kind kind) sections
 count_of_places place kind [] = refl
-count_of_places place kind (section ∷ sections) = count_step (bytes_eq section.kind kind) place (places_from (place + 1) kind sections) _ (count_of_places (place + 1) kind sections) ∙ sym (sum_by-cons (λ section. cond (bytes_eq section.kind kind) 1 0) section sections)
+count_of_places place kind (section ∷ sections) = count_step (bytes_eq section.kind kind) place (places_from (place + 1) kind sections) _ (count_of_places (place + 1) kind sections)
+    ∙ sym (sum_by-cons (λ section. cond (bytes_eq section.kind kind) 1 0) section sections)
 
 -- the one before so many others at the end
 back_at : (xs : List ℕ) (k : ℕ) → k < length xs → slice_get (reverse xs) k ≡ slice_get xs (length xs - (k + 1))
@@ -28,7 +29,8 @@ back_at xs k h =
     let below : length xs - (k + 1) < length xs = omega arith in
     slice_get-get_or (reverse xs) k 0 within ∙ ap Some (get_or-reverse xs k 0 h) ∙ rw e (sym (slice_get-get_or xs (length xs - (k + 1)) 0 below))
 
-pub from_the_end : (sections : List Section) (kind : List ℕ) (index : ℤ) (distance count : ℕ) (r : Option ℕ) → distance ≡ unsigned_abs index → index <ℤ pos 0 → count ≡ count_by (λ section. bytes_eq section.kind kind) sections → distance ≤ count → r ≡ slice_get (places kind sections) (count - distance) → r ≡ place_of_kind sections kind index
+pub from_the_end : (sections : List Section) (kind : List ℕ) (index : ℤ) (distance count : ℕ) (r : Option ℕ) → distance ≡ unsigned_abs index → index <ℤ pos 0 → count ≡ count_by (λ section. bytes_eq section.kind kind) sections
+    → distance ≤ count → r ≡ slice_get (places kind sections) (count - distance) → r ≡ place_of_kind sections kind index
 from_the_end sections kind (pos n) distance count r d neg e h is = absurd (omega (arith, ints))
 from_the_end sections kind (negsuc n) distance count r d neg e h is =
     let all : length (places kind sections) ≡ count = count_of_places 0 kind sections ∙ sym e in
@@ -36,12 +38,14 @@ from_the_end sections kind (negsuc n) distance count r d neg e h is =
     let same : count - distance ≡ length (places kind sections) - (n + 1) = omega arith in
     is ∙ ap (slice_get (places kind sections)) same ∙ sym (back_at (places kind sections) n (omega arith))
 
-pub none_from_the_end : (sections : List Section) (kind : List ℕ) (index : ℤ) (distance count : ℕ) → distance ≡ unsigned_abs index → index <ℤ pos 0 → count ≡ count_by (λ section. bytes_eq section.kind kind) sections → count < distance → None ≡ place_of_kind sections kind index
+pub none_from_the_end : (sections : List Section) (kind : List ℕ) (index : ℤ) (distance count : ℕ) → distance ≡ unsigned_abs index → index <ℤ pos 0 → count ≡ count_by (λ section. bytes_eq section.kind kind) sections → count < distance
+    → None ≡ place_of_kind sections kind index
 none_from_the_end sections kind (pos n) distance count d neg e h = absurd (omega (arith, ints))
 none_from_the_end sections kind (negsuc n) distance count d neg e h =
     let all : length (places kind sections) ≡ count = count_of_places 0 kind sections ∙ sym e in
     let far : distance ≡ n + 1 = omega (arith, d) in
     sym (slice_get_past (reverse (places kind sections)) n (omega (arith, length-reverse (places kind sections))))
 
-pub found_in : (tree : Package) (path : Path) (sections : List Section) (reference : SectionRef) (place : ℕ) (section : Section) (r : Option Place) → sections ≡ tree.sections → path.section ≡ Some reference → Some place ≡ section_place sections reference → slice_get sections place ≡ Some section → r ≡ place_in section place path.option → r ≡ place_of tree path
+pub found_in : (tree : Package) (path : Path) (sections : List Section) (reference : SectionRef) (place : ℕ) (section : Section) (r : Option Place) → sections ≡ tree.sections → path.section ≡ Some reference → Some place
+    ≡ section_place sections reference → slice_get sections place ≡ Some section → r ≡ place_in section place path.option → r ≡ place_of tree path
 found_in tree path sections reference place section r e a b c h = rw (a, ← e, ← b, c) h

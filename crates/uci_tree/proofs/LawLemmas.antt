@@ -36,7 +36,8 @@ no_package name text (NoSection line) tree h r =
     cc
 no_package name text Memory tree h r = h
 
-folded : (name text : List ℕ) (commands : List Cmd) (outcome : Result Draft ℕ) → SpellsCommands text commands → after_all nothing commands ≡ outcome → ((tree : Package) × Reads name text tree) ⊎ ((error : TreeError) × HasTreeFault text error)
+folded : (name text : List ℕ) (commands : List Cmd) (outcome : Result Draft ℕ) → SpellsCommands text commands → after_all nothing commands ≡ outcome
+    → ((tree : Package) × Reads name text tree) ⊎ ((error : TreeError) × HasTreeFault text error)
 folded name text commands (Ok draft) s e = inl (record { name = name; sections = draft.sections; made = draft.made }, record { commands = commands; spelled = s; draft = draft; folded = e; is = refl })
 folded name text commands (Err line) s e = inr (NoSection line, record { commands = commands; spelled = s; folded = e })
 

@@ -152,7 +152,8 @@ reads_end number draft = record {
 }
 
 -- white space in front
-pub reads_blank : (byte : ℕ) (text : List ℕ) (draft : Draft) (sections : List Section) (made : ℕ) → is_in Blank byte ≡ true → is_in NotZero byte ≡ true → ((number : ℕ) → ReadsOn number text draft sections made) → (number : ℕ) → ReadsOn number (byte ∷ text) draft sections made
+pub reads_blank : (byte : ℕ) (text : List ℕ) (draft : Draft) (sections : List Section) (made : ℕ) → is_in Blank byte ≡ true → is_in NotZero byte ≡ true → ((number : ℕ) → ReadsOn number text draft sections made) → (number : ℕ)
+    → ReadsOn number (byte ∷ text) draft sections made
 reads_blank byte text draft sections made b c r number =
     let s = r (number + newlines (byte ∷ [])) in
     let P : ℕ → Type 0 = λ z. SpellsLines z s.behind s.lines in
@@ -174,7 +175,8 @@ reads_blank byte text draft sections made b c r number =
       made_is = s.made_is;
     }
 
-command_extent : (keyword arguments gap : List ℕ) (k : IsCleanWord keyword keyword) (values : List (List ℕ)) (a : AreArguments arguments values) → keyword ++ arguments ++ 10 ∷ gap ≡ word_text k.spelled.pieces ++ flat_map spaced_text a.others ++ [] ++ 10 ∷ gap
+command_extent : (keyword arguments gap : List ℕ) (k : IsCleanWord keyword keyword) (values : List (List ℕ)) (a : AreArguments arguments values) → keyword ++ arguments ++ 10 ∷ gap ≡ word_text k.spelled.pieces
+    ++ flat_map spaced_text a.others ++ [] ++ 10 ∷ gap
 command_extent keyword arguments gap k values a =
     ap (λ (z : List ℕ). z ++ arguments ++ 10 ∷ gap) k.spelled.whole
     ∙ ap (λ (z : List ℕ). word_text k.spelled.pieces ++ z ++ 10 ∷ gap) a.whole
@@ -189,12 +191,15 @@ line_gap : (keyword arguments gap : List ℕ) → keyword ++ arguments ++ 10 ∷
 line_gap keyword arguments gap = line_whole keyword arguments [] gap gap refl
 
 -- a command and a newline in front
-pub reads_line : (keyword arguments rest : List ℕ) (values : List (List ℕ)) (cmd : ℕ → Cmd) (draft next : Draft) (sections : List Section) (made : ℕ) → IsCleanWord keyword keyword → AreArguments arguments values → IsAtEndOr (λ byte. not (ends_word byte)) (keyword ++ arguments ++ 10 ∷ rest) → ((line : ℕ) → IsCmdOf (record { line = line; words = keyword ∷ values }) (cmd line)) → ((line : ℕ) → after draft (cmd line) ≡ Ok next) → ((number : ℕ) → ReadsOn number rest next sections made) → (number : ℕ) → ReadsOn number (keyword ++ arguments ++ 10 ∷ rest) draft sections made
+pub reads_line : (keyword arguments rest : List ℕ) (values : List (List ℕ)) (cmd : ℕ → Cmd) (draft next : Draft) (sections : List Section) (made : ℕ) → IsCleanWord keyword keyword → AreArguments arguments values
+    → IsAtEndOr (λ byte. not (ends_word byte)) (keyword ++ arguments ++ 10 ∷ rest) → ((line : ℕ) → IsCmdOf (record { line = line; words = keyword ∷ values }) (cmd line)) → ((line : ℕ) → after draft (cmd line) ≡ Ok next)
+    → ((number : ℕ) → ReadsOn number rest next sections made) → (number : ℕ) → ReadsOn number (keyword ++ arguments ++ 10 ∷ rest) draft sections made
 reads_line keyword arguments rest values cmd draft next sections made k a begins is does r number =
     let at = number + newlines [] in
     let s = r (at + newlines (keyword ++ arguments ++ 10 ∷ [])) in
     let P : ℕ → Type 0 = λ z. SpellsLines z s.behind s.lines in
-    let e : (at + newlines (keyword ++ arguments ++ 10 ∷ [])) + newlines s.gap ≡ at + newlines (keyword ++ arguments ++ 10 ∷ s.gap) = omega (arith, ap newlines (line_gap keyword arguments s.gap), newlines-append (keyword ++ arguments ++ 10 ∷ []) s.gap) in
+    let e : (at + newlines (keyword ++ arguments ++ 10 ∷ [])) + newlines s.gap ≡ at + newlines (keyword ++ arguments ++ 10 ∷ s.gap) =
+    omega (arith, ap newlines (line_gap keyword arguments s.gap), newlines-append (keyword ++ arguments ++ 10 ∷ []) s.gap) in
     let spelled : SpellsCommand (keyword ++ arguments ++ 10 ∷ s.gap) s.behind (keyword ∷ values) = record {
       command = record { first = k.spelled.pieces; others = a.others; last = [] };
       gap = 10 ∷ s.gap;

@@ -191,7 +191,8 @@ no_name_behind section (ByPlace kind index) before name s e n =
     let w : before ++ 46 ∷ name ≡ (64 ∷ (kind ++ 91 ∷ s.0)) ++ 93 ∷ [] = sym e ∙ s.1 ∙ ap (λ (z : List ℕ). 64 ∷ z) (sym (append_assoc kind (91 ∷ s.0) (93 ∷ []))) in
     no_end 93 before 46 name (64 ∷ (kind ++ 91 ∷ s.0)) (λ d. absurd (omega (arith, d)), lacks Name 93 name refl n.1) w
 
-one_cut : (text section other behind : List ℕ) (option another : Option (List ℕ)) (reference : SectionRef) → CutsOption text section option → text ≡ other ++ behind → SpellsRef other reference → SpellsOption behind another → (section ≡ other) × (option ≡ another)
+one_cut : (text section other behind : List ℕ) (option another : Option (List ℕ)) (reference : SectionRef) → CutsOption text section option → text ≡ other ++ behind → SpellsRef other reference → SpellsOption behind another
+    → (section ≡ other) × (option ≡ another)
 one_cut text section other behind None None reference c w r o = (c.0 ∙ w ∙ ap (λ (z : List ℕ). other ++ z) o ∙ append-nil other, refl)
 one_cut text section other behind None (Some name) reference c w r o = absurd (c.1 other name (w ∙ ap (λ (z : List ℕ). other ++ z) o.0) o.1)
 one_cut text section other behind (Some name) None reference c w r o = absurd (no_name_behind other reference section name r (sym (append-nil other) ∙ ap (λ (z : List ℕ). other ++ z) (sym o) ∙ sym w ∙ c.0) c.1)
@@ -210,7 +211,8 @@ other_option text front back before name c o e n =
     o (subst P one.1 n)
 
 -- the whole
-pub path_found : (text name place section : List ℕ) (reference : SectionRef) (option : Option (List ℕ)) → CutsAtFirst 46 text name place → IsNameOf PackageName name → CutsOption place section option → SpellsRef section reference → SpellsPath text (record { «package» = name; section = Some reference; option = option })
+pub path_found : (text name place section : List ℕ) (reference : SectionRef) (option : Option (List ℕ)) → CutsAtFirst 46 text name place → IsNameOf PackageName name → CutsOption place section option → SpellsRef section reference
+    → SpellsPath text (record { «package» = name; section = Some reference; option = option })
 path_found text name place section reference None c n o r =
     let P : List ℕ → Type 0 = λ z. SpellsRef z reference in
     record { behind = 46 ∷ place; whole = c.whole; named = n; place = (place, [], ap (λ (z : List ℕ). 46 ∷ z) (sym (append-nil place)), subst P o.0 r, refl) }
@@ -227,7 +229,8 @@ pub record HasSection (place : List ℕ) (path : Path) : Type 0 where
   pub spelled : SpellsRef section reference
   pub option : SpellsOption behind path.option
 
-pub package_of : (text name place named behind : List ℕ) (at : Option SectionRef) (option : Option (List ℕ)) → CutsAtFirst 46 text name place → text ≡ named ++ behind → IsNameOf PackageName named → SpellsPlace behind at option → (name ≡ named) × HasSection place (record { «package» = named; section = at; option = option })
+pub package_of : (text name place named behind : List ℕ) (at : Option SectionRef) (option : Option (List ℕ)) → CutsAtFirst 46 text name place → text ≡ named ++ behind → IsNameOf PackageName named → SpellsPlace behind at option
+    → (name ≡ named) × HasSection place (record { «package» = named; section = at; option = option })
 package_of text name place named behind None None c w n s = absurd (not_there 46 named name place (sym (append-nil named) ∙ ap (λ (z : List ℕ). named ++ z) (sym s) ∙ sym w ∙ c.whole) (lacks PackageName 46 named refl n.1))
 package_of text name place named behind None (Some option) c w n s = absurd s
 package_of text name place named behind (Some reference) option c w n s =
@@ -240,7 +243,8 @@ path_is text name place path c s = package_of text name place path.«package» s
 pub not_named : (text name place : List ℕ) (path : Path) → CutsAtFirst 46 text name place → (IsNameOf PackageName name → ⊥) → SpellsPath text path → ⊥
 not_named text name place path c o s = let P : List ℕ → Type 0 = λ z. IsNameOf PackageName z in o (subst P (sym (path_is text name place path c s).0) s.named)
 
-pub not_a_ref : (text name place section : List ℕ) (option : Option (List ℕ)) (path : Path) → CutsAtFirst 46 text name place → CutsOption place section option → ((reference : SectionRef) → SpellsRef section reference → ⊥) → SpellsPath text path → ⊥
+pub not_a_ref : (text name place section : List ℕ) (option : Option (List ℕ)) (path : Path) → CutsAtFirst 46 text name place → CutsOption place section option → ((reference : SectionRef) → SpellsRef section reference → ⊥)
+    → SpellsPath text path → ⊥
 not_a_ref text name place section option path c d o s =
     let h = (path_is text name place path c s).1 in
     let one = one_cut place section h.section h.behind option path.option h.reference d h.whole h.spelled h.option in
@@ -264,7 +268,8 @@ option_cut place section behind reference None w r o =
 option_cut place section behind reference (Some option) w r o = (w ∙ ap (λ (z : List ℕ). section ++ z) o.0, o.1)
 
 -- two readings of a text
-same_paths : (text p b q d : List ℕ) (at other : Option SectionRef) (option another : Option (List ℕ)) → text ≡ p ++ b → IsNameOf PackageName p → SpellsPlace b at option → text ≡ q ++ d → IsNameOf PackageName q → SpellsPlace d other another → (q ≡ p) × (other ≡ at) × (another ≡ option)
+same_paths : (text p b q d : List ℕ) (at other : Option SectionRef) (option another : Option (List ℕ)) → text ≡ p ++ b → IsNameOf PackageName p → SpellsPlace b at option → text ≡ q ++ d → IsNameOf PackageName q → SpellsPlace d other another
+    → (q ≡ p) × (other ≡ at) × (another ≡ option)
 same_paths text p b q d None other None another w n s v m t =
     let e : text ≡ p = w ∙ ap (λ (z : List ℕ). p ++ z) s ∙ append-nil p in
     let P : List ℕ → Type 0 = λ z. HasNone 46 z in

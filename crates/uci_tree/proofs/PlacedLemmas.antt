@@ -14,7 +14,8 @@ use Rattle.uci_tree.proofs.PrintLemmas.{printed_reads}
 section_of : List ℕ → Bool → List ℕ → List Opt → Section
 section_of name anonymous kind options = record { name = name; anonymous = anonymous; kind = kind; options = options }
 
-again_by : (anonymous : Bool) (ordinal : ℕ) (name kind : List ℕ) (options : List Opt) → section_text false (section_of (placed_name ordinal (section_of name anonymous kind options)) anonymous kind options) ≡ section_text false (section_of name anonymous kind options)
+again_by : (anonymous : Bool) (ordinal : ℕ) (name kind : List ℕ) (options : List Opt) → section_text false (section_of (placed_name ordinal (section_of name anonymous kind options)) anonymous kind options)
+    ≡ section_text false (section_of name anonymous kind options)
 unfolding section_of
 again_by true ordinal name kind options = refl
 again_by false ordinal name kind options = refl

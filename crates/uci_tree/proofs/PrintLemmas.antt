@@ -79,11 +79,13 @@ put_end name change (option ∷ options) h =
     ap (λ (t : Bool). cond {A = List Opt} t (record option { value = change (Some option.value) } ∷ options) (option ∷ put name change options)) (differs option.name name (bytes_eq option.name name) refl h.0)
     ∙ ap (λ (z : List Opt). option ∷ z) (put_end name change options h.1)
 
-put_last : (name : List ℕ) (change : Option Value → Value) (options : List Opt) (value : Value) → Lacks name options → put name change (options ++ record { name = name; value = value } ∷ []) ≡ options ++ record { name = name; value = change (Some value) } ∷ []
+put_last : (name : List ℕ) (change : Option Value → Value) (options : List Opt) (value : Value) → Lacks name options → put name change (options ++ record { name = name; value = value } ∷ []) ≡ options
+    ++ record { name = name; value = change (Some value) } ∷ []
 unfolding Lacks
 put_last name change [] value h = ap (λ (t : Bool). cond {A = List Opt} t (record { name = name; value = change (Some value) } ∷ []) (record { name = name; value = value } ∷ put name change [])) ((bytes_eq-Decides name name).1 refl)
 put_last name change (option ∷ options) value h =
-    ap (λ (t : Bool). cond {A = List Opt} t (record option { value = change (Some option.value) } ∷ (options ++ record { name = name; value = value } ∷ [])) (option ∷ put name change (options ++ record { name = name; value = value } ∷ []))) (differs option.name name (bytes_eq option.name name) refl h.0)
+    ap (λ (t : Bool). cond {A = List Opt} t (record option { value = change (Some option.value) } ∷ (options ++ record { name = name; value = value } ∷ [])) (option ∷ put name change (options ++ record { name = name; value = value } ∷ [])))
+    (differs option.name name (bytes_eq option.name name) refl h.0)
     ∙ ap (λ (z : List Opt). option ∷ z) (put_last name change options value h.1)
 
 value_put : (name value : List ℕ) (options : List Opt) → 0 < length value → with_option name value options ≡ put name (λ before. One value) options
@@ -110,7 +112,8 @@ draft_from sections made current = record { sections = sections; made = made; cu
 abbrev pub with_last : List Section → Section → ℕ → List Opt → Draft
 with_last before section made options = draft_from (before ++ record section { options = options } ∷ []) made (Some (length before))
 
-options_last : (before : List Section) (section : Section) (made line : ℕ) (options : List Opt) (change : List Opt → List Opt) (next : List Opt) → change options ≡ next → with_options (with_last before section made options) line change ≡ Ok (with_last before section made next)
+options_last : (before : List Section) (section : Section) (made line : ℕ) (options : List Opt) (change : List Opt → List Opt) (next : List Opt) → change options ≡ next → with_options (with_last before section made options) line change
+    ≡ Ok (with_last before section made next)
 options_last before section made line options change next e =
     ap (λ (z : List Section). Ok (draft_from z made (Some (length before)))) (changed_last before (λ (s : Section). record s { options = change s.options }) (record section { options = options }))
     ∙ ap (λ (z : List Opt). Ok (with_last before section made z)) e
@@ -127,19 +130,27 @@ abbrev pub ReadsLast : List Section → Section → ℕ → List Section → ℕ
 ReadsLast before section added sections made options text = (number : ℕ) → ReadsOn number text (with_last before section added options) sections made
 
 module _ (before : List Section) (section : Section) (added : ℕ) (sections : List Section) (made : ℕ) where
-  reads_item : (name value rest : List ℕ) (options next : List Opt) → IsNameOf Name name → AllIn NotZero value → with_option name value options ≡ next → ReadsLast before section added sections made next rest → ReadsLast before section added sections made options (option_line (codes "option") name value ++ rest)
+  reads_item : (name value rest : List ℕ) (options next : List Opt) → IsNameOf Name name → AllIn NotZero value → with_option name value options ≡ next → ReadsLast before section added sections made next rest
+      → ReadsLast before section added sections made options (option_line (codes "option") name value ++ rest)
   reads_item name value rest options next n v e r =
       let P : List ℕ → Type 0 = λ z. ReadsLast before section added sections made options (9 ∷ z) in
-      let line = reads_line (codes "option") (32 ∷ name ++ (32 ∷ quoted value ++ [])) rest (name ∷ value ∷ []) (λ line. Item line name value) (with_last before section added options) (with_last before section added next) sections made option_word (argument name name (32 ∷ quoted value ++ []) (value ∷ []) (name_word name n) (argument (quoted value) value [] [] (quoted_word value v) no_argument)) refl (λ line. item_is line name value n) (λ line. options_last before section added line options (with_option name value) next e) r in
+      let line = reads_line (codes "option") (32 ∷ name ++ (32 ∷ quoted value ++ [])) rest (name ∷ value ∷ []) (λ line. Item line name value) (with_last before section added options) (with_last before section added next) sections made
+      option_word (argument name name (32 ∷ quoted value ++ []) (value ∷ []) (name_word name n) (argument (quoted value) value [] [] (quoted_word value v) no_argument)) refl (λ line. item_is line name value n)
+      (λ line. options_last before section added line options (with_option name value) next e) r in
       subst P (sym (line_text (codes "option") name (quoted value) rest)) (reads_blank 9 _ (with_last before section added options) sections made refl refl line)
 
-  reads_list_item : (name item rest : List ℕ) (options next : List Opt) → IsNameOf Name name → AllIn NotZero item → with_item name item options ≡ next → ReadsLast before section added sections made next rest → ReadsLast before section added sections made options (option_line (codes "list") name item ++ rest)
+  reads_list_item : (name item rest : List ℕ) (options next : List Opt) → IsNameOf Name name → AllIn NotZero item → with_item name item options ≡ next → ReadsLast before section added sections made next rest
+      → ReadsLast before section added sections made options (option_line (codes "list") name item ++ rest)
   reads_list_item name item rest options next n v e r =
       let P : List ℕ → Type 0 = λ z. ReadsLast before section added sections made options (9 ∷ z) in
-      let line = reads_line (codes "list") (32 ∷ name ++ (32 ∷ quoted item ++ [])) rest (name ∷ item ∷ []) (λ line. ListItem line name item) (with_last before section added options) (with_last before section added next) sections made list_word (argument name name (32 ∷ quoted item ++ []) (item ∷ []) (name_word name n) (argument (quoted item) item [] [] (quoted_word item v) no_argument)) refl (λ line. list_item_is line name item n) (λ line. options_last before section added line options (with_item name item) next e) r in
+      let line = reads_line (codes "list") (32 ∷ name ++ (32 ∷ quoted item ++ [])) rest (name ∷ item ∷ []) (λ line. ListItem line name item) (with_last before section added options) (with_last before section added next) sections made
+      list_word (argument name name (32 ∷ quoted item ++ []) (item ∷ []) (name_word name n) (argument (quoted item) item [] [] (quoted_word item v) no_argument)) refl (λ line. list_item_is line name item n)
+      (λ line. options_last before section added line options (with_item name item) next e) r in
       subst P (sym (line_text (codes "list") name (quoted item) rest)) (reads_blank 9 _ (with_last before section added options) sections made refl refl line)
 
-  reads_items : (name : List ℕ) (front : List Opt) (done items : List (List ℕ)) (rest : List ℕ) → IsNameOf Name name → Lacks name front → AllByRecursion (λ item. AllIn NotZero item) items → ReadsLast before section added sections made (front ++ record { name = name; value = Many (done ++ items) } ∷ []) rest → ReadsLast before section added sections made (front ++ record { name = name; value = Many done } ∷ []) (flat_map (option_line (codes "list") name) items ++ rest)
+  reads_items : (name : List ℕ) (front : List Opt) (done items : List (List ℕ)) (rest : List ℕ) → IsNameOf Name name → Lacks name front → AllByRecursion (λ item. AllIn NotZero item) items
+      → ReadsLast before section added sections made (front ++ record { name = name; value = Many (done ++ items) } ∷ []) rest
+      → ReadsLast before section added sections made (front ++ record { name = name; value = Many done } ∷ []) (flat_map (option_line (codes "list") name) items ++ rest)
   reads_items name front done [] rest n l v r =
       let P : List (List ℕ) → Type 0 = λ z. ReadsLast before section added sections made (front ++ record { name = name; value = Many z } ∷ []) rest in
       subst P (append-nil done) r
@@ -147,17 +158,22 @@ module _ (before : List Section) (section : Section) (added : ℕ) (sections : L
       let P : List (List ℕ) → Type 0 = λ z. ReadsLast before section added sections made (front ++ record { name = name; value = Many z } ∷ []) rest in
       let Q : List ℕ → Type 0 = λ z. ReadsLast before section added sections made (front ++ record { name = name; value = Many done } ∷ []) z in
       let more = reads_items name front (done ++ item ∷ []) items rest n l v.1 (subst P (sym (append_assoc done (item ∷ []) items)) r) in
-      subst Q (sym (append_assoc (option_line (codes "list") name item) (flat_map (option_line (codes "list") name) items) rest)) (reads_list_item name item (flat_map (option_line (codes "list") name) items ++ rest) (front ++ record { name = name; value = Many done } ∷ []) (front ++ record { name = name; value = Many (done ++ item ∷ []) } ∷ []) n v.0 (put_last name (appended item) front (Many done) l) more)
+      subst Q (sym (append_assoc (option_line (codes "list") name item) (flat_map (option_line (codes "list") name) items) rest))
+      (reads_list_item name item (flat_map (option_line (codes "list") name) items ++ rest) (front ++ record { name = name; value = Many done } ∷ []) (front ++ record { name = name; value = Many (done ++ item ∷ []) } ∷ []) n v.0
+      (put_last name (appended item) front (Many done) l) more)
 
-  reads_value : (name : List ℕ) (value : Value) (front : List Opt) (rest : List ℕ) → IsNameOf Name name → IsValidValue value → Lacks name front → ReadsLast before section added sections made (front ++ record { name = name; value = value } ∷ []) rest → ReadsLast before section added sections made front (value_text name value ++ rest)
+  reads_value : (name : List ℕ) (value : Value) (front : List Opt) (rest : List ℕ) → IsNameOf Name name → IsValidValue value → Lacks name front
+      → ReadsLast before section added sections made (front ++ record { name = name; value = value } ∷ []) rest → ReadsLast before section added sections made front (value_text name value ++ rest)
   reads_value name (One text) front rest n v l r = reads_item name text rest front (front ++ record { name = name; value = One text } ∷ []) n v.1 (value_put name text front v.0 ∙ put_end name (λ before. One text) front l) r
   reads_value name (Many []) front rest n v l r = absurd (omega (arith, v.0))
   reads_value name (Many (item ∷ items)) front rest n v l r =
       let Q : List ℕ → Type 0 = λ z. ReadsLast before section added sections made front z in
       let more = reads_items name front (item ∷ []) items rest n l v.1.1 r in
-      subst Q (sym (append_assoc (option_line (codes "list") name item) (flat_map (option_line (codes "list") name) items) rest)) (reads_list_item name item (flat_map (option_line (codes "list") name) items ++ rest) front (front ++ record { name = name; value = Many (item ∷ []) } ∷ []) n v.1.0 (put_end name (appended item) front l) more)
+      subst Q (sym (append_assoc (option_line (codes "list") name item) (flat_map (option_line (codes "list") name) items) rest))
+      (reads_list_item name item (flat_map (option_line (codes "list") name) items ++ rest) front (front ++ record { name = name; value = Many (item ∷ []) } ∷ []) n v.1.0 (put_end name (appended item) front l) more)
 
-  reads_options : (front options : List Opt) (rest : List ℕ) → AllByRecursion IsValidOption options → AreDistinct (names_of (front ++ options)) → ReadsLast before section added sections made (front ++ options) rest → ReadsLast before section added sections made front (flat_map option_text options ++ rest)
+  reads_options : (front options : List Opt) (rest : List ℕ) → AllByRecursion IsValidOption options → AreDistinct (names_of (front ++ options)) → ReadsLast before section added sections made (front ++ options) rest
+      → ReadsLast before section added sections made front (flat_map option_text options ++ rest)
   reads_options front [] rest v d r =
       let P : List Opt → Type 0 = λ z. ReadsLast before section added sections made z rest in
       subst P (append-nil front) r
@@ -184,7 +200,8 @@ absent (section ∷ sections) name h =
     ∙ ap (λ (t : Bool). cond {A = Option ℕ} t (Some 0) (option_map (λ k. suc k) (named_place sections name))) (differs section.name name (bytes_eq section.name name) refl h.0)
     ∙ ap (λ (z : Option ℕ). option_map (λ k. suc k) z) (absent sections name h.1)
 
-begins_case : (b : Bool) (draft : Draft) (section : Section) → section.anonymous ≡ b → IsNameOf Name section.name → IsNameOf Printable section.kind → (section.anonymous ≡ false → AllByRecursion (λ (earlier : Section). earlier.name ≢ section.name) draft.sections) → BeginsSection draft section
+begins_case : (b : Bool) (draft : Draft) (section : Section) → section.anonymous ≡ b → IsNameOf Name section.name → IsNameOf Printable section.kind
+    → (section.anonymous ≡ false → AllByRecursion (λ (earlier : Section). earlier.name ≢ section.name) draft.sections) → BeginsSection draft section
 begins_case true draft section e n k c =
     let P : List ℕ → Type 0 = λ z. AreArguments z [] in
     let none : name_text false section ≡ [] = ap (λ (t : Bool). cond {A = List ℕ} (t && true) [] (32 ∷ quoted section.name)) e in
@@ -211,11 +228,14 @@ begins_case false draft section e n k c =
 head_parts : (a b c d e rest : List ℕ) → (a ++ b ++ c ++ d ++ e) ++ rest ≡ a ++ (b ++ c) ++ (d ++ (e ++ rest))
 head_parts a b c d e rest = simp append_assoc
 
-reads_section : (draft : Draft) (section : Section) (rest : List ℕ) (sections : List Section) (made : ℕ) → IsNameOf Printable section.kind → BeginsSection draft section → ((number : ℕ) → ReadsOn number (flat_map option_text section.options ++ rest) (added draft (placed_name (draft.made + 1) section) section.anonymous section.kind) sections made) → (number : ℕ) → ReadsOn number (section_text false section ++ rest) draft sections made
+reads_section : (draft : Draft) (section : Section) (rest : List ℕ) (sections : List Section) (made : ℕ) → IsNameOf Printable section.kind → BeginsSection draft section
+    → ((number : ℕ) → ReadsOn number (flat_map option_text section.options ++ rest) (added draft (placed_name (draft.made + 1) section) section.anonymous section.kind) sections made) → (number : ℕ)
+    → ReadsOn number (section_text false section ++ rest) draft sections made
 reads_section draft section rest sections made k b r =
     let P : List ℕ → Type 0 = λ z. (number : ℕ) → ReadsOn number (10 ∷ z) draft sections made in
     let options = flat_map option_text section.options in
-    let line = reads_line (codes "config") (32 ∷ kind_text section.kind ++ name_text false section) (options ++ rest) (section.kind ∷ b.values) b.cmd draft (added draft (placed_name (draft.made + 1) section) section.anonymous section.kind) sections made config_word (argument (kind_text section.kind) section.kind (name_text false section) b.values (kind_word section.kind k) b.arguments) refl b.is b.does r in
+    let line = reads_line (codes "config") (32 ∷ kind_text section.kind ++ name_text false section) (options ++ rest) (section.kind ∷ b.values) b.cmd draft (added draft (placed_name (draft.made + 1) section) section.anonymous section.kind)
+    sections made config_word (argument (kind_text section.kind) section.kind (name_text false section) b.values (kind_word section.kind k) b.arguments) refl b.is b.does r in
     subst P (sym (head_parts (codes "config") (32 ∷ kind_text section.kind) (name_text false section) (10 ∷ []) options rest)) (reads_blank 10 _ draft sections made refl refl line)
 
 -- the sections at their places, with one more at the end
@@ -227,7 +247,8 @@ placed_push ordinal (x ∷ front) section =
     let e : (ordinal + 1) + length front ≡ ordinal + length (x ∷ front) = omega arith in
     ap (λ (z : List Section). record x { name = placed_name ordinal x } ∷ z) (placed_push (ordinal + 1) front section ∙ ap (λ (z : ℕ). placed_from (ordinal + 1) front ++ record section { name = placed_name z section } ∷ []) e)
 
-draft_push : (front : List Section) (section : Section) → draft_from (placed_from 1 (front ++ section ∷ [])) (length (front ++ section ∷ [])) (Some (length (placed_from 1 front))) ≡ with_last (placed_from 1 front) (record section { name = placed_name (length front + 1) section }) (length front + 1) section.options
+draft_push : (front : List Section) (section : Section) → draft_from (placed_from 1 (front ++ section ∷ [])) (length (front ++ section ∷ [])) (Some (length (placed_from 1 front)))
+    ≡ with_last (placed_from 1 front) (record section { name = placed_name (length front + 1) section }) (length front + 1) section.options
 draft_push front section =
     let e : 1 + length front ≡ length front + 1 = omega arith in
     ap (λ (z : List Section). draft_from z (length (front ++ section ∷ [])) (Some (length (placed_from 1 front)))) (placed_push 1 front section)
@@ -238,7 +259,8 @@ draft_push front section =
 AreClean : List Section → Type 0
 AreClean sections = (front : List Section) (section : Section) (behind : List Section) → sections ≡ front ++ section ∷ behind → section.anonymous ≡ false → AllByRecursion (λ earlier. earlier.name ≢ section.name) (placed_from 1 front)
 
-reads_sections : (all front rest : List Section) → all ≡ front ++ rest → AreClean all → AllByRecursion IsValidSection rest → (current : Option ℕ) (number : ℕ) → ReadsOn number (flat_map (section_text false) rest ++ 10 ∷ []) (draft_from (placed_from 1 front) (length front) current) (placed_from 1 all) (length all)
+reads_sections : (all front rest : List Section) → all ≡ front ++ rest → AreClean all → AllByRecursion IsValidSection rest → (current : Option ℕ) (number : ℕ)
+    → ReadsOn number (flat_map (section_text false) rest ++ 10 ∷ []) (draft_from (placed_from 1 front) (length front) current) (placed_from 1 all) (length all)
 unfolding AreClean
 reads_sections all front [] e c v current = λ number.
     let P : List Section → Type 0 = λ z. ReadsOn number (10 ∷ []) (draft_from (placed_from 1 front) (length front) current) (placed_from 1 z) (length z) in
@@ -248,18 +270,22 @@ reads_sections all front (section ∷ rest) e c v current =
     let P : Draft → Type 0 = λ z. (number : ℕ) → ReadsOn number (flat_map (section_text false) rest ++ 10 ∷ []) z (placed_from 1 all) (length all) in
     let Q : List ℕ → Type 0 = λ z. (number : ℕ) → ReadsOn number z draft (placed_from 1 all) (length all) in
     let more = reads_sections all (front ++ section ∷ []) rest (e ∙ sym (append_assoc front (section ∷ []) rest)) c v.1 (Some (length (placed_from 1 front))) in
-    let options = reads_options (placed_from 1 front) (record section { name = placed_name (length front + 1) section }) (length front + 1) (placed_from 1 all) (length all) [] section.options (flat_map (section_text false) rest ++ 10 ∷ []) v.0.options v.0.distinct (subst P (draft_push front section) more) in
+    let options = reads_options (placed_from 1 front) (record section { name = placed_name (length front + 1) section }) (length front + 1) (placed_from 1 all) (length all) [] section.options (flat_map (section_text false) rest ++ 10 ∷ [])
+    v.0.options v.0.distinct (subst P (draft_push front section) more) in
     let begins = begins_case section.anonymous draft section refl v.0.named v.0.typed (λ named. c front section rest e named) in
-    subst Q (sym (append_assoc (section_text false section) (flat_map (section_text false) rest) (10 ∷ []))) (reads_section draft section (flat_map (section_text false) rest ++ 10 ∷ []) (placed_from 1 all) (length all) v.0.typed begins options)
+    subst Q (sym (append_assoc (section_text false section) (flat_map (section_text false) rest) (10 ∷ [])))
+    (reads_section draft section (flat_map (section_text false) rest ++ 10 ∷ []) (placed_from 1 all) (length all) v.0.typed begins options)
 
 header_parts : (a b c e f : List ℕ) → a ++ b ++ c ++ e ++ f ≡ a ++ (b ++ []) ++ (c ++ (e ++ f))
 header_parts a b c e f = simp (append_assoc, append-nil)
 
-reads_header : (header : Bool) (name body : List ℕ) (sections : List Section) (made : ℕ) → IsNameOf PackageName name → ((number : ℕ) → ReadsOn number (body ++ 10 ∷ []) nothing sections made) → (number : ℕ) → ReadsOn number (header_text header name ++ body ++ 10 ∷ []) nothing sections made
+reads_header : (header : Bool) (name body : List ℕ) (sections : List Section) (made : ℕ) → IsNameOf PackageName name → ((number : ℕ) → ReadsOn number (body ++ 10 ∷ []) nothing sections made) → (number : ℕ)
+    → ReadsOn number (header_text header name ++ body ++ 10 ∷ []) nothing sections made
 reads_header false name body sections made n r = r
 reads_header true name body sections made n r =
     let P : List ℕ → Type 0 = λ z. (number : ℕ) → ReadsOn number z nothing sections made in
-    let line = reads_line (codes "package") (32 ∷ name ++ []) (body ++ 10 ∷ []) (name ∷ []) (λ line. PackageCmd line name) nothing nothing sections made package_word (argument name name [] [] (package_name_word name n) no_argument) refl (λ line. package_is line name n) (λ line. refl) r in
+    let line = reads_line (codes "package") (32 ∷ name ++ []) (body ++ 10 ∷ []) (name ∷ []) (λ line. PackageCmd line name) nothing nothing sections made package_word (argument name name [] [] (package_name_word name n) no_argument) refl
+    (λ line. package_is line name n) (λ line. refl) r in
     subst P (sym (header_parts (codes "package") (32 ∷ name) (10 ∷ []) body (10 ∷ []))) line
 
 tree_from : List ℕ → List Section → ℕ → Package
@@ -291,4 +317,5 @@ reads_as name text sections made r =
 
 pub printed_reads : (name : List ℕ) (tree : Package) (header : Bool) → IsValid tree → IsClean tree → Reads name (printed tree header false) (record { name = name; sections = placed_from 1 tree.sections; made = length tree.sections })
 unfolding AreClean
-printed_reads name tree header v c = reads_as name (printed tree header false) (placed_from 1 tree.sections) (length tree.sections) (reads_header header tree.name (flat_map (section_text false) tree.sections) (placed_from 1 tree.sections) (length tree.sections) v.named (reads_sections tree.sections [] tree.sections refl c v.sections None) 1)
+printed_reads name tree header v c = reads_as name (printed tree header false) (placed_from 1 tree.sections) (length tree.sections)
+    (reads_header header tree.name (flat_map (section_text false) tree.sections) (placed_from 1 tree.sections) (length tree.sections) v.named (reads_sections tree.sections [] tree.sections refl c v.sections None) 1)

@@ -14,7 +14,8 @@ use Rattle.uci_tree.specs.Reading.{Reads}
 tree_from : List ℕ → List Section → ℕ → Package
 tree_from name sections made = record { name = name; sections = sections; made = made }
 
-pub read_as : (name text named : List ℕ) (commands listed : List Cmd) (state : Sections) (sections : List Section) (made : ℕ) → SpellsCommands text commands → listed ≡ commands → after_all nothing listed ≡ Ok (draft_of state) → named ≡ name → sections ≡ sections_of state.sections.items → made ≡ length state.sections.items → Reads name text (record { name = named; sections = sections; made = made })
+pub read_as : (name text named : List ℕ) (commands listed : List Cmd) (state : Sections) (sections : List Section) (made : ℕ) → SpellsCommands text commands → listed ≡ commands → after_all nothing listed ≡ Ok (draft_of state) → named ≡ name
+    → sections ≡ sections_of state.sections.items → made ≡ length state.sections.items → Reads name text (record { name = named; sections = sections; made = made })
 unfolding tree_from
 read_as name text named commands listed state sections made s l f n i m = record {
   commands = commands;

@@ -27,7 +27,8 @@ later_place : (b : Bool) (n : ℕ) (place : Option ℕ) → option_map (λ k. su
 later_place b n None = last_place b n
 later_place b n (Some place) = refl
 
-front_place : (a b : Bool) (n : ℕ) (place : Option ℕ) → cond {A = Option ℕ} a (Some 0) (option_map (λ k. suc k) (first_place place (cond {A = Option ℕ} b (Some n) None))) ≡ first_place (cond {A = Option ℕ} a (Some 0) (option_map (λ k. suc k) place)) (cond {A = Option ℕ} b (Some (suc n)) None)
+front_place : (a b : Bool) (n : ℕ) (place : Option ℕ) → cond {A = Option ℕ} a (Some 0) (option_map (λ k. suc k) (first_place place (cond {A = Option ℕ} b (Some n) None)))
+    ≡ first_place (cond {A = Option ℕ} a (Some 0) (option_map (λ k. suc k) place)) (cond {A = Option ℕ} b (Some (suc n)) None)
 front_place true b n place = refl
 front_place false b n place = later_place b n place
 
@@ -40,7 +41,8 @@ position-push p (y ∷ xs) x =
     ∙ ap (λ (z : Option ℕ). first_place z (cond {A = Option ℕ} (p x) (Some (suc (length xs))) None)) (sym (position-cons p y xs))
 
 -- a new section's name has its place, where the name had none
-pub places_push : (old new : BTreeMap (List ℕ) ℕ) (sections pushed : List Section) (section : Section) (place : ℕ) → HasPlaces old sections → HasNoted old new section.name place → place ≡ length sections → pushed ≡ sections ++ section ∷ [] → HasPlaces new pushed
+pub places_push : (old new : BTreeMap (List ℕ) ℕ) (sections pushed : List Section) (section : Section) (place : ℕ) → HasPlaces old sections → HasNoted old new section.name place → place ≡ length sections → pushed ≡ sections ++ section ∷ []
+    → HasPlaces new pushed
 places_push old new sections pushed section place h n e w name =
     n name
     ∙ ap (λ (z : Option ℕ). first_place z (cond {A = Option ℕ} (bytes_eq section.name name) (Some place) None)) (h name)
@@ -63,7 +65,8 @@ noted_by : (b : Bool) (place : ℕ) (was : Option ℕ) → (b ≡ true → was �
 noted_by true place was h = ap (λ (z : Option ℕ). first_place z (Some place)) (sym (h refl))
 noted_by false place was h = no_second was
 
-pub noted : (old new : BTreeMap (List ℕ) ℕ) (name : List ℕ) (place : ℕ) → get (slice_cmp nat_cmp) old name ≡ None → ((other : List ℕ) → get (slice_cmp nat_cmp) new other ≡ cond (is_at (slice_cmp nat_cmp name) other) (Some place) (get (slice_cmp nat_cmp) old other)) → HasNoted old new name place
+pub noted : (old new : BTreeMap (List ℕ) ℕ) (name : List ℕ) (place : ℕ) → get (slice_cmp nat_cmp) old name ≡ None
+    → ((other : List ℕ) → get (slice_cmp nat_cmp) new other ≡ cond (is_at (slice_cmp nat_cmp name) other) (Some place) (get (slice_cmp nat_cmp) old other)) → HasNoted old new name place
 noted old new name place absent h other =
     let same : is_at (slice_cmp nat_cmp name) other ≡ bytes_eq name other = sym (texts_ties name other) in
     h other
@@ -91,11 +94,14 @@ draft_from sections made current = record { sections = sections; made = made; cu
 section_from : DraftSection → List Opt → Section
 section_from draft options = record { name = draft.name; anonymous = draft.anonymous; kind = draft.kind; options = options }
 
-pub places_added : (old new : BTreeMap (List ℕ) ℕ) (drafts pushed : List DraftSection) (draft : DraftSection) (place : ℕ) → HasPlaces old (sections_of drafts) → HasNoted old new draft.name place → place ≡ length drafts → pushed ≡ drafts ++ draft ∷ [] → HasPlaces new (sections_of pushed)
+pub places_added : (old new : BTreeMap (List ℕ) ℕ) (drafts pushed : List DraftSection) (draft : DraftSection) (place : ℕ) → HasPlaces old (sections_of drafts) → HasNoted old new draft.name place → place ≡ length drafts → pushed ≡ drafts
+    ++ draft ∷ [] → HasPlaces new (sections_of pushed)
 places_added old new drafts pushed draft place h n e w =
     places_push old new (sections_of drafts) (sections_of pushed) (section_of draft) place h n (e ∙ sym (length-map drafts section_of)) (ap (λ (z : List DraftSection). sections_of z) w ∙ map_push section_of drafts draft)
 
-pub draft_added : (drafts pushed : List DraftSection) (draft : DraftSection) (place : ℕ) (current : Option ℕ) → place ≡ length drafts → pushed ≡ drafts ++ draft ∷ [] → options_of draft.options ≡ [] → let d : Draft = record { sections = sections_of pushed; made = length pushed; current = Some place } in let e : Draft = record { sections = sections_of drafts; made = length drafts; current = current } in d ≡ added e draft.name draft.anonymous draft.kind
+pub draft_added : (drafts pushed : List DraftSection) (draft : DraftSection) (place : ℕ) (current : Option ℕ) → place ≡ length drafts → pushed ≡ drafts ++ draft ∷ [] → options_of draft.options ≡ [] → let d : Draft =
+    record { sections = sections_of pushed; made = length pushed; current = Some place } in let e : Draft = record { sections = sections_of drafts; made = length drafts; current = current } in d
+    ≡ added e draft.name draft.anonymous draft.kind
 unfolding draft_from section_from
 draft_added drafts pushed draft place current e w n =
     ap (λ (z : List DraftSection). draft_from (sections_of z) (length z) (Some place)) w
@@ -105,20 +111,25 @@ draft_added drafts pushed draft place current e w n =
     ∙ ap (λ (z : ℕ). draft_from (sections_of drafts ++ section_from draft [] ∷ []) (length drafts + 1) (Some z)) (e ∙ sym (length-map drafts section_of))
 
 -- a section at a place becomes another
-sections_written : (drafts : List DraftSection) (place : ℕ) (change : Section → Section) (old new : DraftSection) → place < length drafts → old ≡ get_or drafts place old → section_of new ≡ change (section_of old) → sections_of (set drafts place new) ≡ changed_at place change (sections_of drafts)
+sections_written : (drafts : List DraftSection) (place : ℕ) (change : Section → Section) (old new : DraftSection) → place < length drafts → old ≡ get_or drafts place old → section_of new ≡ change (section_of old)
+    → sections_of (set drafts place new) ≡ changed_at place change (sections_of drafts)
 sections_written drafts place change old new h r s =
     let within : place < length (sections_of drafts) = omega (arith, h, length-map drafts section_of) in
     map-set section_of drafts place new
     ∙ ap (λ (z : Section). set (sections_of drafts) place z) s
     ∙ write_changed place change (sections_of drafts) (section_of old) within (ap (λ (z : DraftSection). section_of z) r ∙ sym (get_or-map section_of drafts place old (section_of old) h))
 
-pub draft_changed : (drafts : List DraftSection) (place : ℕ) (change : Section → Section) (old new : DraftSection) (current : Option ℕ) → place < length drafts → old ≡ get_or drafts place old → section_of new ≡ change (section_of old) → let d : Draft = record { sections = sections_of (set drafts place new); made = length (set drafts place new); current = current } in let e : Draft = record { sections = changed_at place change (sections_of drafts); made = length drafts; current = current } in d ≡ e
+pub draft_changed : (drafts : List DraftSection) (place : ℕ) (change : Section → Section) (old new : DraftSection) (current : Option ℕ) → place < length drafts → old ≡ get_or drafts place old → section_of new ≡ change (section_of old)
+    → let d : Draft = record { sections = sections_of (set drafts place new); made = length (set drafts place new); current = current } in let e : Draft =
+    record { sections = changed_at place change (sections_of drafts); made = length drafts; current = current } in d ≡ e
 unfolding draft_from
 draft_changed drafts place change old new current h r s =
     ap (λ (z : ℕ). draft_from (sections_of (set drafts place new)) z current) (length-set drafts place new)
     ∙ ap (λ (z : List Section). draft_from z (length drafts) current) (sections_written drafts place change old new h r s)
 
-pub options_made : (drafts : List DraftSection) (place line : ℕ) (change : List Opt → List Opt) (old : DraftSection) (options : Options) (current : Option ℕ) → current ≡ Some place → place < length drafts → old ≡ get_or drafts place old → options_of options ≡ change (options_of old.options) → let d : Draft = record { sections = sections_of drafts; made = length drafts; current = current } in let e : Draft = record { sections = sections_of (set drafts place (record old { options = options })); made = length (set drafts place (record old { options = options })); current = current } in with_options d line change ≡ Ok e
+pub options_made : (drafts : List DraftSection) (place line : ℕ) (change : List Opt → List Opt) (old : DraftSection) (options : Options) (current : Option ℕ) → current ≡ Some place → place < length drafts → old ≡ get_or drafts place old
+    → options_of options ≡ change (options_of old.options) → let d : Draft = record { sections = sections_of drafts; made = length drafts; current = current } in let e : Draft =
+    record { sections = sections_of (set drafts place (record old { options = options })); made = length (set drafts place (record old { options = options })); current = current } in with_options d line change ≡ Ok e
 unfolding draft_from section_from
 options_made drafts place line change old options current c h r o =
     ap (λ (z : Option ℕ). with_options_at (draft_from (sections_of drafts) (length drafts) current) line change z) c
@@ -142,7 +153,8 @@ names_stay name (suc place) change (section ∷ sections) k =
     ∙ ap (λ (z : Option ℕ). cond {A = Option ℕ} (bytes_eq section.name name) (Some 0) (option_map (λ k. suc k) z)) (names_stay name place change sections k)
     ∙ sym (position-cons (λ (section : Section). bytes_eq section.name name) section sections)
 
-pub places_stay : (places : BTreeMap (List ℕ) ℕ) (drafts : List DraftSection) (place : ℕ) (change : Section → Section) (old new : DraftSection) → place < length drafts → old ≡ get_or drafts place old → section_of new ≡ change (section_of old) → ((section : Section) → (change section).name ≡ section.name) → HasPlaces places (sections_of drafts) → HasPlaces places (sections_of (set drafts place new))
+pub places_stay : (places : BTreeMap (List ℕ) ℕ) (drafts : List DraftSection) (place : ℕ) (change : Section → Section) (old new : DraftSection) → place < length drafts → old ≡ get_or drafts place old → section_of new
+    ≡ change (section_of old) → ((section : Section) → (change section).name ≡ section.name) → HasPlaces places (sections_of drafts) → HasPlaces places (sections_of (set drafts place new))
 places_stay places drafts place change old new h r s k p name =
     p name ∙ sym (ap (λ (z : List Section). named_place z name) (sections_written drafts place change old new h r s) ∙ names_stay name place change (sections_of drafts) k)
 
@@ -150,7 +162,8 @@ absent_from : (was : Option ℕ) (r : Bool) → r ≡ is_some was → r ≡ fals
 absent_from None r a b = refl
 absent_from (Some place) r a b = absurd (let f : true ≡ false = sym a ∙ b in cc)
 
-pub noted_key : (old new : BTreeMap (List ℕ) ℕ) (key name : List ℕ) (place : ℕ) (r : Bool) → key ≡ name → r ≡ is_some (get (slice_cmp nat_cmp) old name) → r ≡ false → ((other : List ℕ) → get (slice_cmp nat_cmp) new other ≡ cond (is_at (slice_cmp nat_cmp key) other) (Some place) (get (slice_cmp nat_cmp) old other)) → HasNoted old new name place
+pub noted_key : (old new : BTreeMap (List ℕ) ℕ) (key name : List ℕ) (place : ℕ) (r : Bool) → key ≡ name → r ≡ is_some (get (slice_cmp nat_cmp) old name) → r ≡ false
+    → ((other : List ℕ) → get (slice_cmp nat_cmp) new other ≡ cond (is_at (slice_cmp nat_cmp key) other) (Some place) (get (slice_cmp nat_cmp) old other)) → HasNoted old new name place
 noted_key old new key name place r e a b h =
     let P : List ℕ → Type 0 = λ z. HasNoted old new z place in
     subst P e (noted old new key place (ap (λ (z : List ℕ). get (slice_cmp nat_cmp) old z) e ∙ absent_from (get (slice_cmp nat_cmp) old name) r a b) h)

@@ -55,7 +55,8 @@ written_held name other value (slot ∷ slots) zero (suc at) h = (λ g. g, λ g.
 written_held name other value (slot ∷ slots) (suc place) zero h = (λ g. g, λ g. g)
 written_held name other value (slot ∷ slots) (suc place) (suc at) h = written_held name other value slots place at h
 
-pub written_slots : (places : BTreeMap (List ℕ) ℕ) (slots : List (Option Opt)) (name : List ℕ) (value : Value) (place : ℕ) → HasSlots places slots → HoldsAt name slots place → HasSlots places (set slots place (Some (record { name = name; value = value })))
+pub written_slots : (places : BTreeMap (List ℕ) ℕ) (slots : List (Option Opt)) (name : List ℕ) (value : Value) (place : ℕ) → HasSlots places slots → HoldsAt name slots place
+    → HasSlots places (set slots place (Some (record { name = name; value = value })))
 written_slots places slots name value place h there = record {
   apart = λ other at also a b. h.apart other at also ((written_held name other value slots place at there).1 a) ((written_held name other value slots place also there).1 b);
   later = λ other at. let same = written_held name other value slots place at there in
@@ -131,7 +132,8 @@ pushed_apart slots name value h n other at also a b =
     (push_from other slots slot also b))
     (push_from other slots slot at a)
 
-pushed_first : (places : BTreeMap (List ℕ) ℕ) (slots : List (Option Opt)) (name : List ℕ) (value : Value) → HasLaterSlots places slots → length slots < SCANNED → HasLaterSlots places (slots ++ Some (record { name = name; value = value }) ∷ [])
+pushed_first : (places : BTreeMap (List ℕ) ℕ) (slots : List (Option Opt)) (name : List ℕ) (value : Value) → HasLaterSlots places slots → length slots < SCANNED
+    → HasLaterSlots places (slots ++ Some (record { name = name; value = value }) ∷ [])
 pushed_first places slots name value h few other at =
     let slot : Option Opt = Some (record { name = name; value = value }) in (
       λ e. let g = (h other at).0 e in (push_keeps other slots slot at g.0, g.1),
@@ -141,7 +143,8 @@ pushed_first places slots name value h few other at =
           (push_from other slots slot at g.0),
     )
 
-pushed_later : (old new : BTreeMap (List ℕ) ℕ) (slots : List (Option Opt)) (name : List ℕ) (value : Value) → HasLaterSlots old slots → Absent name slots → SCANNED ≤ length slots → Notes old new name (Some (length slots)) → HasLaterSlots new (slots ++ Some (record { name = name; value = value }) ∷ [])
+pushed_later : (old new : BTreeMap (List ℕ) ℕ) (slots : List (Option Opt)) (name : List ℕ) (value : Value) → HasLaterSlots old slots → Absent name slots → SCANNED ≤ length slots → Notes old new name (Some (length slots))
+    → HasLaterSlots new (slots ++ Some (record { name = name; value = value }) ∷ [])
 unfolding Absent
 pushed_later old new slots name value h absent many n other at =
     let slot : Option Opt = Some (record { name = name; value = value }) in (
@@ -157,7 +160,8 @@ pushed_later old new slots name value h absent many n other at =
           (push_from other slots slot at g.0),
     )
 
-pushed_by : (old new : BTreeMap (List ℕ) ℕ) (slots : List (Option Opt)) (name : List ℕ) (value : Value) → HasSlots old slots → Absent name slots → Noted old new name (length slots) → (length slots < SCANNED) ⊎ (SCANNED ≤ length slots) → HasSlots new (slots ++ Some (record { name = name; value = value }) ∷ [])
+pushed_by : (old new : BTreeMap (List ℕ) ℕ) (slots : List (Option Opt)) (name : List ℕ) (value : Value) → HasSlots old slots → Absent name slots → Noted old new name (length slots) → (length slots < SCANNED) ⊎ (SCANNED ≤ length slots)
+    → HasSlots new (slots ++ Some (record { name = name; value = value }) ∷ [])
 pushed_by old new slots name value h absent n (inl few) = record {
   apart = pushed_apart slots name value h.apart absent;
   later = subst (λ (z : BTreeMap (List ℕ) ℕ). HasLaterSlots z (slots ++ Some (record { name = name; value = value }) ∷ [])) (sym (n.first few)) (pushed_first old slots name value h.later few);
@@ -188,7 +192,8 @@ emptied_slots old new slots name place h held n = record {
   );
 }
 
-pub pushed_slots : (old new : BTreeMap (List ℕ) ℕ) (slots pushed : List (Option Opt)) (name : List ℕ) (value : Value) (place : ℕ) → HasSlots old slots → ((at : ℕ) → HoldsAt name slots at → ⊥) → place ≡ length slots → pushed ≡ slots ++ Some (record { name = name; value = value }) ∷ [] → Noted old new name place → HasSlots new pushed
+pub pushed_slots : (old new : BTreeMap (List ℕ) ℕ) (slots pushed : List (Option Opt)) (name : List ℕ) (value : Value) (place : ℕ) → HasSlots old slots → ((at : ℕ) → HoldsAt name slots at → ⊥) → place ≡ length slots → pushed ≡ slots
+    ++ Some (record { name = name; value = value }) ∷ [] → Noted old new name place → HasSlots new pushed
 unfolding Absent
 pushed_slots old new slots pushed name value place h absent p w n =
     subst (λ (z : List (Option Opt)). HasSlots new z) (sym w) (pushed_by old new slots name value h absent (subst (λ (z : ℕ). Noted old new name z) p n) (few_or_many (length slots) SCANNED))
@@ -204,7 +209,8 @@ holds_there name [] place other l h = absurd (omega (arith, l))
 holds_there name (slot ∷ slots) zero other l h = h
 holds_there name (slot ∷ slots) (suc place) other l h = holds_there name slots place other (omega (arith, l)) h
 
-pub none_so_far : (name : List ℕ) (slots : List (Option Opt)) (place : ℕ) (other : Option Opt) → ((k : ℕ) → k < place → HoldsAt name slots k → ⊥) → (Holds name (get_or slots place other) → ⊥) → (k : ℕ) → k < place + 1 → HoldsAt name slots k → ⊥
+pub none_so_far : (name : List ℕ) (slots : List (Option Opt)) (place : ℕ) (other : Option Opt) → ((k : ℕ) → k < place → HoldsAt name slots k → ⊥) → (Holds name (get_or slots place other) → ⊥) → (k : ℕ) → k < place + 1 → HoldsAt name slots k
+    → ⊥
 none_so_far name slots place other h n k l there = ⊎_elim
     (λ early. h k early there)
     (λ late. let same : k ≡ place = omega (arith, l, late) in
@@ -238,7 +244,8 @@ early_or_late : (place count all first : ℕ) → place < all → (all ≤ count
 early_or_late place count all first l (inl h) = inl (omega (arith, l, h))
 early_or_late place count all first l (inr h) = ⊎_elim (λ few. inl (omega (arith, few, h))) (λ many. inr many) (few_or_many place first)
 
-pub found_nowhere : (places : BTreeMap (List ℕ) ℕ) (slots first : List (Option Opt)) (name : List ℕ) (count : ℕ) → HasSlots places slots → first ≡ take count slots → (length slots ≤ count) ⊎ (SCANNED ≤ count) → ((place : ℕ) → HoldsAt name first place → ⊥) → get (slice_cmp nat_cmp) places name ≡ None → (place : ℕ) → HoldsAt name slots place → ⊥
+pub found_nowhere : (places : BTreeMap (List ℕ) ℕ) (slots first : List (Option Opt)) (name : List ℕ) (count : ℕ) → HasSlots places slots → first ≡ take count slots → (length slots ≤ count) ⊎ (SCANNED ≤ count)
+    → ((place : ℕ) → HoldsAt name first place → ⊥) → get (slice_cmp nat_cmp) places name ≡ None → (place : ℕ) → HoldsAt name slots place → ⊥
 found_nowhere places slots first name count h f c n e place there =
     let within = held_within name slots place there in
     ⊎_elim
@@ -274,7 +281,8 @@ other_in_front name old slots place a e = let f : 0 ≡ suc place = a zero e in 
 value_there : (old : Opt) (before : Option Opt) (change : Option Value → Value) (value : Value) → before ≡ Some old → value ≡ change (value_of before) → value ≡ change (Some old.value)
 value_there old before change value b v = v ∙ ap (λ (z : Option Opt). change (value_of z)) b
 
-put_written : (name : List ℕ) (change : Option Value → Value) (value : Value) (slots : List (Option Opt)) (place : ℕ) (before other : Option Opt) → HoldsAt name slots place → Alone name slots place → before ≡ get_or slots place other → value ≡ change (value_of before) → kept (set slots place (Some (record { name = name; value = value }))) ≡ put name change (kept slots)
+put_written : (name : List ℕ) (change : Option Value → Value) (value : Value) (slots : List (Option Opt)) (place : ℕ) (before other : Option Opt) → HoldsAt name slots place → Alone name slots place → before ≡ get_or slots place other
+    → value ≡ change (value_of before) → kept (set slots place (Some (record { name = name; value = value }))) ≡ put name change (kept slots)
 unfolding option_from
 put_written name change value [] place before other h a b v = absurd h
 put_written name change value (None ∷ slots) zero before other h a b v = absurd h
@@ -315,13 +323,16 @@ alone : (slots : List (Option Opt)) (name : List ℕ) (place : ℕ) → AreApart
 unfolding Alone
 alone slots name place h held at g = h name at place g held
 
-pub put_in_slot : (slots : List (Option Opt)) (name : List ℕ) (change : Option Value → Value) (value : Value) (place : ℕ) (before other : Option Opt) → AreApart slots → HoldsAt name slots place → before ≡ get_or slots place other → value ≡ change (value_of before) → kept (set slots place (Some (record { name = name; value = value }))) ≡ put name change (kept slots)
+pub put_in_slot : (slots : List (Option Opt)) (name : List ℕ) (change : Option Value → Value) (value : Value) (place : ℕ) (before other : Option Opt) → AreApart slots → HoldsAt name slots place → before ≡ get_or slots place other → value
+    ≡ change (value_of before) → kept (set slots place (Some (record { name = name; value = value }))) ≡ put name change (kept slots)
 put_in_slot slots name change value place before other h held b v = put_written name change value slots place before other held (alone slots name place h held) b v
 
-pub put_at_end : (slots pushed : List (Option Opt)) (name : List ℕ) (change : Option Value → Value) → ((at : ℕ) → HoldsAt name slots at → ⊥) → pushed ≡ slots ++ Some (record { name = name; value = change None }) ∷ [] → kept pushed ≡ put name change (kept slots)
+pub put_at_end : (slots pushed : List (Option Opt)) (name : List ℕ) (change : Option Value → Value) → ((at : ℕ) → HoldsAt name slots at → ⊥) → pushed ≡ slots ++ Some (record { name = name; value = change None }) ∷ [] → kept pushed
+    ≡ put name change (kept slots)
 put_at_end slots pushed name change n w = ap (λ (z : List (Option Opt)). kept z) w ∙ put_pushed name change slots n
 
-pub put_anew : (slots : List (Option Opt)) (name : List ℕ) (change : Option Value → Value) (value : Value) → ((at : ℕ) → HoldsAt name slots at → ⊥) → value ≡ change None → put name (λ before. value) (kept slots) ≡ put name change (kept slots)
+pub put_anew : (slots : List (Option Opt)) (name : List ℕ) (change : Option Value → Value) (value : Value) → ((at : ℕ) → HoldsAt name slots at → ⊥) → value ≡ change None → put name (λ before. value) (kept slots)
+    ≡ put name change (kept slots)
 unfolding option_from
 put_anew slots name change value n v =
     sym (put_pushed name (λ before. value) slots n)

@@ -67,7 +67,8 @@ keeps_none : (change : Option Value → Value) → Keeps change → IsValidValue
 unfolding Keeps IfValid
 keeps_none change k = k None tt
 
-put_case : (b : Bool) (change : Option Value → Value) (option : Opt) (options rest : List Opt) → Keeps change → IsValidOption option → AllByRecursion IsValidOption options → AllByRecursion IsValidOption rest → AllByRecursion IsValidOption (cond {A = List Opt} b (record option { value = change (Some option.value) } ∷ options) (option ∷ rest))
+put_case : (b : Bool) (change : Option Value → Value) (option : Opt) (options rest : List Opt) → Keeps change → IsValidOption option → AllByRecursion IsValidOption options → AllByRecursion IsValidOption rest
+    → AllByRecursion IsValidOption (cond {A = List Opt} b (record option { value = change (Some option.value) } ∷ options) (option ∷ rest))
 unfolding Keeps IfValid
 put_case true change option options rest k o h g = (record { named = o.named; value = k (Some option.value) o.value }, h)
 put_case false change option options rest k o h g = (o, g)
@@ -76,7 +77,8 @@ put_each : (name : List ℕ) (change : Option Value → Value) (options : List O
 put_each name change [] n k h = (record { named = n; value = keeps_none change k }, tt)
 put_each name change (option ∷ options) n k h = put_case (bytes_eq option.name name) change option options (put name change options) k h.0 h.1 (put_each name change options n k h.1)
 
-put_lacks_case : (b : Bool) (key : List ℕ) (change : Option Value → Value) (option : Opt) (options rest : List Opt) → AllByRecursion (λ other. other ≢ key) (names_of (option ∷ options)) → AllByRecursion (λ other. other ≢ key) (names_of rest) → AllByRecursion (λ other. other ≢ key) (names_of (cond {A = List Opt} b (record option { value = change (Some option.value) } ∷ options) (option ∷ rest)))
+put_lacks_case : (b : Bool) (key : List ℕ) (change : Option Value → Value) (option : Opt) (options rest : List Opt) → AllByRecursion (λ other. other ≢ key) (names_of (option ∷ options))
+    → AllByRecursion (λ other. other ≢ key) (names_of rest) → AllByRecursion (λ other. other ≢ key) (names_of (cond {A = List Opt} b (record option { value = change (Some option.value) } ∷ options) (option ∷ rest)))
 put_lacks_case true key change option options rest h g = h
 put_lacks_case false key change option options rest h g = (h.0, g)
 
@@ -87,7 +89,8 @@ put_lacks key name change (option ∷ options) n h = put_lacks_case (bytes_eq op
 pub apart_names : (a b : List ℕ) → bytes_eq a b ≡ false → b ≢ a
 apart_names a b e same = let t : bytes_eq a b ≡ true = (bytes_eq-Decides a b).1 (sym same) in let f : true ≡ false = sym t ∙ e in cc
 
-put_distinct_case : (b : Bool) (name : List ℕ) (change : Option Value → Value) (option : Opt) (options : List Opt) → bytes_eq option.name name ≡ b → AreDistinct (names_of (option ∷ options)) → AreDistinct (names_of (put name change options)) → AreDistinct (names_of (cond {A = List Opt} b (record option { value = change (Some option.value) } ∷ options) (option ∷ put name change options)))
+put_distinct_case : (b : Bool) (name : List ℕ) (change : Option Value → Value) (option : Opt) (options : List Opt) → bytes_eq option.name name ≡ b → AreDistinct (names_of (option ∷ options))
+    → AreDistinct (names_of (put name change options)) → AreDistinct (names_of (cond {A = List Opt} b (record option { value = change (Some option.value) } ∷ options) (option ∷ put name change options)))
 put_distinct_case true name change option options e h g = h
 put_distinct_case false name change option options e h g = (put_lacks option.name name change options (apart_names option.name name e) h.0, g)
 
@@ -95,7 +98,8 @@ put_distinct : (name : List ℕ) (change : Option Value → Value) (options : Li
 put_distinct name change [] h = (tt, tt)
 put_distinct name change (option ∷ options) h = put_distinct_case (bytes_eq option.name name) name change option options refl h (put_distinct name change options h.1)
 
-without_each_case : (b : Bool) (option : Opt) (options rest : List Opt) → IsValidOption option → AllByRecursion IsValidOption options → AllByRecursion IsValidOption rest → AllByRecursion IsValidOption (cond {A = List Opt} b options (option ∷ rest))
+without_each_case : (b : Bool) (option : Opt) (options rest : List Opt) → IsValidOption option → AllByRecursion IsValidOption options → AllByRecursion IsValidOption rest
+    → AllByRecursion IsValidOption (cond {A = List Opt} b options (option ∷ rest))
 without_each_case true option options rest o h g = h
 without_each_case false option options rest o h g = (o, g)
 
@@ -103,7 +107,8 @@ pub without_each : (name : List ℕ) (options : List Opt) → AllByRecursion IsV
 without_each name [] h = tt
 without_each name (option ∷ options) h = without_each_case (bytes_eq option.name name) option options (without name options) h.0 h.1 (without_each name options h.1)
 
-without_lacks_case : (b : Bool) (key : List ℕ) (option : Opt) (options rest : List Opt) → AllByRecursion (λ other. other ≢ key) (names_of (option ∷ options)) → AllByRecursion (λ other. other ≢ key) (names_of rest) → AllByRecursion (λ other. other ≢ key) (names_of (cond {A = List Opt} b options (option ∷ rest)))
+without_lacks_case : (b : Bool) (key : List ℕ) (option : Opt) (options rest : List Opt) → AllByRecursion (λ other. other ≢ key) (names_of (option ∷ options)) → AllByRecursion (λ other. other ≢ key) (names_of rest)
+    → AllByRecursion (λ other. other ≢ key) (names_of (cond {A = List Opt} b options (option ∷ rest)))
 without_lacks_case true key option options rest h g = h.1
 without_lacks_case false key option options rest h g = (h.0, g)
 
@@ -111,7 +116,8 @@ pub without_lacks : (key name : List ℕ) (options : List Opt) → AllByRecursio
 without_lacks key name [] h = tt
 without_lacks key name (option ∷ options) h = without_lacks_case (bytes_eq option.name name) key option options (without name options) h (without_lacks key name options h.1)
 
-without_distinct_case : (b : Bool) (name : List ℕ) (option : Opt) (options : List Opt) → AreDistinct (names_of (option ∷ options)) → AreDistinct (names_of (without name options)) → AreDistinct (names_of (cond {A = List Opt} b options (option ∷ without name options)))
+without_distinct_case : (b : Bool) (name : List ℕ) (option : Opt) (options : List Opt) → AreDistinct (names_of (option ∷ options)) → AreDistinct (names_of (without name options))
+    → AreDistinct (names_of (cond {A = List Opt} b options (option ∷ without name options)))
 without_distinct_case true name option options h g = h.1
 without_distinct_case false name option options h g = (without_lacks option.name name options h.0, g)
 
@@ -137,19 +143,23 @@ pub item_valid : (name item : List ℕ) (options : List Opt) → IsNameOf Name n
 item_valid name item options n h v = record { each = put_each name (appended item) options n (append_keeps item h) v.each; distinct = put_distinct name (appended item) options v.distinct }
 
 -- sections
-changed_valid : (place : ℕ) (change : Section → Section) (sections : List Section) → ((section : Section) → IsValidSection section → IsValidSection (change section)) → AllByRecursion IsValidSection sections → AllByRecursion IsValidSection (changed_at place change sections)
+changed_valid : (place : ℕ) (change : Section → Section) (sections : List Section) → ((section : Section) → IsValidSection section → IsValidSection (change section)) → AllByRecursion IsValidSection sections
+    → AllByRecursion IsValidSection (changed_at place change sections)
 changed_valid place change [] k h = tt
 changed_valid zero change (section ∷ sections) k h = (k section h.0, h.1)
 changed_valid (suc place) change (section ∷ sections) k h = (h.0, changed_valid place change sections k h.1)
 
-added_valid : (draft : Draft) (name : List ℕ) (anonymous : Bool) (kind : List ℕ) → AllByRecursion IsValidSection draft.sections → IsNameOf Name name → IsNameOf Printable kind → AllByRecursion IsValidSection (added draft name anonymous kind).sections
+added_valid : (draft : Draft) (name : List ℕ) (anonymous : Bool) (kind : List ℕ) → AllByRecursion IsValidSection draft.sections → IsNameOf Name name → IsNameOf Printable kind
+    → AllByRecursion IsValidSection (added draft name anonymous kind).sections
 added_valid draft name anonymous kind h n k = each-append IsValidSection draft.sections (record { name = name; anonymous = anonymous; kind = kind; options = [] } ∷ []) h (record { named = n; typed = k; options = tt; distinct = tt }, tt)
 
-named_valid : (draft : Draft) (kind name : List ℕ) (place : Option ℕ) → AllByRecursion IsValidSection draft.sections → IsNameOf Name name → IsNameOf Printable kind → AllByRecursion IsValidSection (named_config draft kind name place).sections
+named_valid : (draft : Draft) (kind name : List ℕ) (place : Option ℕ) → AllByRecursion IsValidSection draft.sections → IsNameOf Name name → IsNameOf Printable kind
+    → AllByRecursion IsValidSection (named_config draft kind name place).sections
 named_valid draft kind name None h n k = added_valid draft name false kind h n k
 named_valid draft kind name (Some place) h n k = changed_valid place (λ (section : Section). record section { kind = kind }) draft.sections (λ section v. record { named = v.named; typed = k; options = v.options; distinct = v.distinct }) h
 
-options_valid : (draft next : Draft) (line : ℕ) (change : List Opt → List Opt) (place : Option ℕ) → ((options : List Opt) → AreValid options → AreValid (change options)) → AllByRecursion IsValidSection draft.sections → with_options_at draft line change place ≡ Ok next → AllByRecursion IsValidSection next.sections
+options_valid : (draft next : Draft) (line : ℕ) (change : List Opt → List Opt) (place : Option ℕ) → ((options : List Opt) → AreValid options → AreValid (change options)) → AllByRecursion IsValidSection draft.sections
+    → with_options_at draft line change place ≡ Ok next → AllByRecursion IsValidSection next.sections
 options_valid draft next line change None k h e = absurd (let f : with_options_at draft line change None ≡ Ok next = e in cc)
 options_valid draft next line change (Some place) k h e =
     let sections = changed_at place (λ (section : Section). record section { options = change section.options }) draft.sections in
@@ -157,7 +167,8 @@ options_valid draft next line change (Some place) k h e =
     let f : ◌≡◌ {A = Result Draft ℕ} (Ok made) (Ok next) = e in
     let same : made ≡ next = cc in
     let P : Draft → Type 0 = λ z. AllByRecursion IsValidSection z.sections in
-    subst P same (changed_valid place (λ (section : Section). record section { options = change section.options }) draft.sections (λ section v. let w = k section.options (record { each = v.options; distinct = v.distinct }) in record { named = v.named; typed = v.typed; options = w.each; distinct = w.distinct }) h)
+    subst P same (changed_valid place (λ (section : Section). record section { options = change section.options }) draft.sections
+    (λ section v. let w = k section.options (record { each = v.options; distinct = v.distinct }) in record { named = v.named; typed = v.typed; options = w.each; distinct = w.distinct }) h)
 
 same_draft : (draft next : Draft) → ◌≡◌ {A = Result Draft ℕ} (Ok draft) (Ok next) → draft ≡ next
 same_draft draft next e = cc
@@ -173,7 +184,9 @@ after_valid draft next (Config line kind (Some name)) h g e =
 after_valid draft next (Item line name value) h g e = options_valid draft next line (with_option name value) draft.current (λ options v. option_valid name value options g.0 g.1 v) h e
 after_valid draft next (ListItem line name item) h g e = options_valid draft next line (with_item name item) draft.current (λ options v. item_valid name item options g.0 g.1 v) h e
 
-all_step : (outcome : Result Draft ℕ) (draft next : Draft) (cmd : Cmd) (commands : List Cmd) → outcome ≡ after draft cmd → AllByRecursion IsValidSection draft.sections → IsGood cmd → ((middle : Draft) → AllByRecursion IsValidSection middle.sections → after_all middle commands ≡ Ok next → AllByRecursion IsValidSection next.sections) → goes_on outcome (λ middle. after_all middle commands) ≡ Ok next → AllByRecursion IsValidSection next.sections
+all_step : (outcome : Result Draft ℕ) (draft next : Draft) (cmd : Cmd) (commands : List Cmd) → outcome ≡ after draft cmd → AllByRecursion IsValidSection draft.sections → IsGood cmd
+    → ((middle : Draft) → AllByRecursion IsValidSection middle.sections → after_all middle commands ≡ Ok next → AllByRecursion IsValidSection next.sections) → goes_on outcome (λ middle. after_all middle commands) ≡ Ok next
+    → AllByRecursion IsValidSection next.sections
 all_step (Err line) draft next cmd commands o h g k e = absurd (let f : ◌≡◌ {A = Result Draft ℕ} (Err line) (Ok next) = e in cc)
 all_step (Ok middle) draft next cmd commands o h g k e = k middle (after_valid draft middle cmd h g (sym o)) e
 

@@ -7,7 +7,8 @@ use Rattle.uci_tree.specs.declared.tree_error.TreeError.TheVariants as tree_erro
 use Rattle.uci_tree.specs.declared.fault.Reason.{Reason}
 use Rattle.uci_tree.specs.declared.fault.Reason.TheVariants as reason
 use Rattle.uci_tree.specs.declared.fault.Fault.{Fault}
-use Rattle.uci_tree.specs.declared.fault.TheConstants.{BAD_WORD, OPEN_QUOTE, UNKNOWN_COMMAND, ARGUMENT_COUNT, BAD_NAME, NO_SECTION}
+use Rattle.uci_tree.specs.declared.fault.TheConstants.{BAD_WORD, OPEN_QUOTE, UNKNOWN_COMMAND, ARGUMENT_COUNT, BAD_NAME}
+use Rattle.uci_tree.specs.declared.fault.TheConstants.{NO_SECTION}
 
 -- the fault of a text that has no commands; want of memory is none
 abbrev pub fault_of_text : TextError → Option Fault

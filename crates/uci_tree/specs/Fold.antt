@@ -1,6 +1,7 @@
--- What the commands of a text make of a package, one after another (OpenWrt's UCI files). That a section which goes on takes
--- the new type, and that an empty value removes an option, are rules of our own.
-use Rattle.std.specs.Prelude.{ℕ, zero, suc, ◌+◌, Bool, true, false, List, [], ◌∷◌, ◌++◌, length, Option, Some, None, Result, Ok, Err, if◌then◌else◌, bytes_eq}
+-- What the commands of a text make of a package, one after another (OpenWrt's UCI files). That a section which goes on
+-- takes the new type, and that an empty value removes an option, are rules of our own.
+use Rattle.std.specs.Prelude.{ℕ, zero, suc, ◌+◌, Bool, true, false, List, [], ◌∷◌, ◌++◌, length, Option, Some, None}
+use Rattle.std.specs.Prelude.{Result, Ok, Err, if◌then◌else◌, bytes_eq}
 use Rattle.uci_text.specs.declared.cmd.Cmd.{Cmd}
 use Rattle.uci_text.specs.declared.cmd.Cmd.TheVariants.{Package as PackageCmd, Config, Item, ListItem}
 use Rattle.uci_tree.specs.declared.package.Value.{Value}
@@ -19,7 +20,8 @@ changed_at (suc place) change (x ∷ xs) = x ∷ changed_at place change xs
 -- the options with this one's value made anew from what it was, at its place, or at the end where there was none
 abbrev pub put : List ℕ → (Option Value → Value) → List Opt → List Opt
 put name change [] = record { name = name; value = change None } ∷ []
-put name change (option ∷ options) = if bytes_eq option.name name then record option { value = change (Some option.value) } ∷ options else option ∷ put name change options
+put name change (option ∷ options) = if bytes_eq option.name name
+    then record option { value = change (Some option.value) } ∷ options else option ∷ put name change options
 
 -- the options without the first one of this name
 abbrev pub without : List ℕ → List Opt → List Opt
@@ -40,8 +42,8 @@ appended item (Some (Many items)) = Many (items ++ item ∷ [])
 abbrev pub with_item : List ℕ → List ℕ → List Opt → List Opt
 with_item name item options = put name (appended item) options
 
--- a package while its commands are read: its sections, how many were added, and the place of the section that the latest
--- `config` named
+-- a package while its commands are read: its sections, how many were added, and the place of the section that the
+-- latest `config` named
 pub record Draft : Type 0 where
   pub sections : List Section
   pub made : ℕ
@@ -78,7 +80,11 @@ configured draft kind (Some name) = named_config draft kind name (named_place dr
 -- the options of the current section change; where there is none, the line is told
 abbrev pub with_options_at : Draft → ℕ → (List Opt → List Opt) → Option ℕ → Result Draft ℕ
 with_options_at draft line change None = Err line
-with_options_at draft line change (Some place) = Ok (record draft { sections = changed_at place (λ section. record section { options = change section.options }) draft.sections })
+with_options_at draft line change (Some place) =
+    Ok (record draft {
+      sections =
+          changed_at place (λ section. record section { options = change section.options }) draft.sections;
+    })
 
 abbrev pub with_options : Draft → ℕ → (List Opt → List Opt) → Result Draft ℕ
 with_options draft line change = with_options_at draft line change draft.current

@@ -23,11 +23,17 @@ HasPlaces places sections = (name : List ℕ) → get (slice_cmp nat_cmp) places
 
 -- the map has this name at this place, where it had no such name
 abbrev pub HasNoted : BTreeMap (List ℕ) ℕ → BTreeMap (List ℕ) ℕ → List ℕ → ℕ → Type 0
-HasNoted old new name place = (other : List ℕ) → get (slice_cmp nat_cmp) new other ≡ first_place (get (slice_cmp nat_cmp) old other) (if bytes_eq name other then Some place else None)
+HasNoted old new name place = (other : List ℕ) → get (slice_cmp nat_cmp) new other
+    ≡ first_place (get (slice_cmp nat_cmp) old other) (if bytes_eq name other then Some place else None)
 
 -- the package so far
 abbrev pub draft_of : Sections → Draft
-draft_of state = record { sections = sections_of state.sections.items; made = length state.sections.items; current = state.current }
+draft_of state = record {
+  sections = sections_of state.sections.items;
+  made = length state.sections.items;
+  current =
+      state.current;
+}
 
 -- the places are those of the sections, the current place is one of them, and the options of each have their slots
 pub record IsIndexed (state : Sections) : Type 0 where

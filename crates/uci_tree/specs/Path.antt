@@ -11,12 +11,15 @@ use Rattle.uci_tree.specs.declared.path.SectionRef.TheVariants.{Name as ByName, 
 -- decimal digits, perhaps with zeros in front, and before them `-` for a number below zero; the number has 32 bits
 pub data SpellsIndex (text : List ℕ) (index : ℤ) : Type 0 where
   forwards : (n : ℕ) → IsNumber 10 text n → n < 2 ^ 31 → index ≡ pos n → SpellsIndex text index
-  backwards : (digits : List ℕ) (n : ℕ) → text ≡ dash ∷ digits → IsNumber 10 digits n → n ≤ 2 ^ 31 → index ≡ neg_ℤ (pos n) → SpellsIndex text index
+  backwards : (digits : List ℕ) (n : ℕ) → text ≡ dash ∷ digits → IsNumber 10 digits n → n ≤ 2 ^ 31 → index
+      ≡ neg_ℤ (pos n) → SpellsIndex text index
 
 -- a section's name, or `@TYPE[INDEX]`; the index has no `[`, so the type reaches to the last one
 abbrev pub SpellsRef : List ℕ → SectionRef → Type 0
 SpellsRef text (ByName name) = (text ≡ name) × IsNameOf Name name
-SpellsRef text (ByPlace kind index) = (digits : List ℕ) × (text ≡ at_sign ∷ (kind ++ opening_bracket ∷ (digits ++ closing_bracket ∷ []))) × IsNameOf Printable kind × SpellsIndex digits index
+SpellsRef text (ByPlace kind index) = (digits : List ℕ)
+    × (text ≡ at_sign ∷ (kind ++ opening_bracket ∷ (digits ++ closing_bracket ∷ []))) × IsNameOf Printable kind
+    × SpellsIndex digits index
 
 -- nothing, or `.` and an option's name
 abbrev pub SpellsOption : List ℕ → Option (List ℕ) → Type 0
@@ -27,7 +30,8 @@ SpellsOption text (Some name) = (text ≡ dot ∷ name) × IsNameOf Name name
 abbrev pub SpellsPlace : List ℕ → Option SectionRef → Option (List ℕ) → Type 0
 SpellsPlace text None None = text ≡ []
 SpellsPlace text None (Some name) = ⊥
-SpellsPlace text (Some reference) option = (section behind : List ℕ) × (text ≡ dot ∷ (section ++ behind)) × SpellsRef section reference × SpellsOption behind option
+SpellsPlace text (Some reference) option = (section behind : List ℕ) × (text ≡ dot ∷ (section ++ behind))
+    × SpellsRef section reference × SpellsOption behind option
 
 -- a package's name, and what is in it
 pub record SpellsPath (text : List ℕ) (path : Path) : Type 0 where

@@ -12,7 +12,8 @@ placed_name ordinal section = if section.anonymous then anonymous_name ordinal s
 -- the sections as they are read, the first of them as this one
 abbrev pub placed_from : ℕ → List Section → List Section
 placed_from ordinal [] = []
-placed_from ordinal (section ∷ sections) = record section { name = placed_name ordinal section } ∷ placed_from (ordinal + 1) sections
+placed_from ordinal (section ∷ sections) = record section { name = placed_name ordinal section }
+    ∷ placed_from (ordinal + 1) sections
 
 -- the package of this name that a printed text reads as
 abbrev pub placed : List ℕ → Package → Package
@@ -20,4 +21,5 @@ placed name tree = record { name = name; sections = placed_from 1 tree.sections;
 
 -- no section that is read before a named one has its name
 abbrev pub IsClean : Package → Type 0
-IsClean tree = (front : List Section) (section : Section) (behind : List Section) → tree.sections ≡ front ++ section ∷ behind → section.anonymous ≡ false → AllByRecursion (λ earlier. earlier.name ≢ section.name) (placed_from 1 front)
+IsClean tree = (front : List Section) (section : Section) (behind : List Section) → tree.sections ≡ front ++ section
+    ∷ behind → section.anonymous ≡ false → AllByRecursion (λ earlier. earlier.name ≢ section.name) (placed_from 1 front)

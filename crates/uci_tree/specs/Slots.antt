@@ -40,8 +40,8 @@ HoldsAt name (slot ∷ slots) (suc place) = HoldsAt name slots place
 abbrev pub AreApart : List (Option Opt) → Type 0
 AreApart slots = (name : List ℕ) (place other : ℕ) → HoldsAt name slots place → HoldsAt name slots other → place ≡ other
 
--- the map has a name at a place exactly where the slot there has an option of the name, and is none of the first, which are
--- looked through one by one
+-- the map has a name at a place exactly where the slot there has an option of the name, and is none of the first, which
+-- are looked through one by one
 abbrev pub HasLaterSlots : BTreeMap (List ℕ) ℕ → List (Option Opt) → Type 0
 HasLaterSlots places slots =
     (name : List ℕ) (place : ℕ) →
@@ -71,7 +71,13 @@ AreIndexed options = HasSlots options.places options.slots.items
 
 -- the section that a draft of one makes, and the sections that several make
 abbrev pub section_of : DraftSection → Section
-section_of draft = record { name = draft.name; anonymous = draft.anonymous; kind = draft.kind; options = options_of draft.options }
+section_of draft = record {
+  name = draft.name;
+  anonymous = draft.anonymous;
+  kind = draft.kind;
+  options =
+      options_of draft.options;
+}
 
 abbrev pub sections_of : List DraftSection → List Section
 sections_of drafts = map section_of drafts

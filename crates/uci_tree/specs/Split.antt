@@ -20,5 +20,6 @@ pub record CutsAtLast (byte : ℕ) (text front back : List ℕ) : Type 0 where
 
 -- the text is a section, and where this is a name, `.` and it as an option
 abbrev pub CutsOption : List ℕ → List ℕ → Option (List ℕ) → Type 0
-CutsOption text section None = (section ≡ text) × ((before name : List ℕ) → text ≡ before ++ dot ∷ name → IsNameOf Name name → ⊥)
+CutsOption text section None = (section ≡ text)
+    × ((before name : List ℕ) → text ≡ before ++ dot ∷ name → IsNameOf Name name → ⊥)
 CutsOption text section (Some name) = (text ≡ section ++ dot ∷ name) × IsNameOf Name name

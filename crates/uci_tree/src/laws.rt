@@ -41,14 +41,16 @@ pub fn one_path()
         other ≡ path }
 {}
 
-/// What is printed without the names of anonymous sections reads as the same sections, but that each anonymous one has the
-/// name of its place; and as many were made as there are. The name in the header is passed over.
+/// What is printed without the names of anonymous sections reads as the same sections, but that
+/// each anonymous one has the name of its place; and as many were made as there are. The name in
+/// the header is passed over.
 pub fn printed_reads_back()
     ensures { (name : List ℕ) (tree : Package) (header : Bool) → IsValid tree → IsClean tree →
         Reads name (printed tree header false) (placed name tree) }
 {}
 
-/// What a printed text reads as is printed as the same text, so that writing a file that was read anew changes no byte.
+/// What a printed text reads as is printed as the same text, so that writing a file that was read
+/// anew changes no byte.
 pub fn printed_again()
     ensures { (tree other : Package) (header : Bool) → IsValid tree → IsClean tree →
         Reads tree.name (printed tree header false) other →

@@ -1,5 +1,5 @@
-//! UCI packages, the trees that OpenWrt's configuration files stand for: sections that go on, options and lists, names of
-//! anonymous sections, paths into a package, and packages as text.
+//! UCI packages, the trees that OpenWrt's configuration files stand for: sections that go on,
+//! options and lists, names of anonymous sections, paths into a package, and packages as text.
 #![tactic(auto)]
 
 mod anonymous;

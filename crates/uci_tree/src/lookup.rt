@@ -4,16 +4,17 @@ ghost use Rattle.uci_tree.specs.Find as spec;
 use crate::{Opt, Package, Path, Section, SectionRef};
 use plane_io::Text;
 
-/// Where in a package something is: the place of a section, and perhaps the place of an option in it, from 0.
+/// Where in a package something is: the place of a section, and perhaps the place of an option in
+/// it, from 0.
 #[derive(Clone, Copy)]
 pub struct Place {
     pub section: usize,
     pub option: Option<usize>,
 }
 
-/// Where in the package the path leads: to the first section of that name or place, and where the path has an option, to
-/// the first option of that name in it. `None` where one of them is missing or the path has no section. The path's package
-/// name is not looked at.
+/// Where in the package the path leads: to the first section of that name or place, and where the
+/// path has an option, to the first option of that name in it. `None` where one of them is missing
+/// or the path has no section. The path's package name is not looked at.
 pub fn find(package: &Package, path: &Path) -> Option<Place>
     ensures { result ≡ spec.place_of «package».now path.now }
 {

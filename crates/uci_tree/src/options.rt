@@ -10,8 +10,8 @@ use std::collections::BTreeMap;
 /// So many slots are looked through one by one. Those after them are looked up in a map.
 const SCANNED: usize = 8;
 
-/// The options of a section while its commands are read: a slot for each that was added, empty where it was removed, and
-/// the place of the slot of each name, but for the first slots.
+/// The options of a section while its commands are read: a slot for each that was added, empty
+/// where it was removed, and the place of the slot of each name, but for the first slots.
 #[derive(Drop)]
 pub struct Options {
     slots: Vec<Option<Opt>>,

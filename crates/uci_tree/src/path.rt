@@ -5,7 +5,8 @@ use plane_io::Text;
 pub enum SectionRef {
     /// Its name.
     Name(Text),
-    /// Its place among the sections of its type: from 0, or from -1 backwards, -1 being the last one.
+    /// Its place among the sections of its type: from 0, or from -1 backwards, -1 being the last
+    /// one.
     Place { kind: Text, index: i32 },
 }
 

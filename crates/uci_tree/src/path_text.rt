@@ -31,8 +31,9 @@ impl From<Memory> for PathError {
     }
 }
 
-/// Reads a path: `PACKAGE`, `PACKAGE.SECTION` or `PACKAGE.SECTION.OPTION`. A section is its name or `@TYPE[INDEX]`, the index
-/// being a decimal of 32 bits with an optional `-`. `None` where the text is no path.
+/// Reads a path: `PACKAGE`, `PACKAGE.SECTION` or `PACKAGE.SECTION.OPTION`. A section is its name or
+/// `@TYPE[INDEX]`, the index being a decimal of 32 bits with an optional `-`. `None` where the text
+/// is no path.
 pub fn read_path(alloc: Global, text: &[u8]) -> Result<Option<Path>, Memory>
     ensures found { IfOk result (λ found. IfSome found (λ path. SpellsPath text.now path)) }
     ensures only { IfOk result (λ found.

@@ -10,12 +10,13 @@ use uci_text::quote_into;
 
 /// The package as text.
 ///
-/// Each section is an empty line, `config TYPE 'NAME'`, and behind a tab `option NAME 'VALUE'` for each value and
-/// `list NAME 'ITEM'` for each item of a list; an empty line ends the text. Names of sections, values and items stand in
-/// single quotes, and a single quote in them is written `'\''`. A type stands bare, and one that holds any of `'` `"` `#` `;`
-/// and `\` is quoted as well.
+/// Each section is an empty line, `config TYPE 'NAME'`, and behind a tab `option NAME 'VALUE'` for
+/// each value and `list NAME 'ITEM'` for each item of a list; an empty line ends the text. Names of
+/// sections, values and items stand in single quotes, and a single quote in them is written `'\''`.
+/// A type stands bare, and one that holds any of `'` `"` `#` `;` and `\` is quoted as well.
 ///
-/// With `header`, the line `package NAME` comes first. An anonymous section has no name, unless `names` asks for it.
+/// With `header`, the line `package NAME` comes first. An anonymous section has no name, unless
+/// `names` asks for it.
 ///
 /// # Errors
 ///

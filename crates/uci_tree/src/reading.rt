@@ -16,16 +16,18 @@ use uci_text::{Cmd, read_commands};
 
 /// Reads a text as the package of this name.
 ///
-/// A `config` with the name of a section goes on with the first one of that name and gives it its type; else it begins a
-/// section at the end, whose name is that of [`crate::anonymous_name`] where it has none. An `option` replaces the option of
-/// its name at its place, or comes behind the others, and with an empty value removes it. A `list` appends to a list, makes
-/// an option the first item of a list, or begins one. Both belong to the section that the latest `config` named. The name on
-/// a `package` line is passed over.
+/// A `config` with the name of a section goes on with the first one of that name and gives it its
+/// type; else it begins a section at the end, whose name is that of [`crate::anonymous_name`] where
+/// it has none. An `option` replaces the option of its name at its place, or comes behind the
+/// others, and with an empty value removes it. A `list` appends to a list, makes an option the
+/// first item of a list, or begins one. Both belong to the section that the latest `config` named.
+/// The name on a `package` line is passed over.
 ///
 /// # Errors
 ///
-/// The fault of the text as in [`uci_text::read_commands`]. Where it has none, `NoSection` with the line of the first
-/// `option` or `list` before any `config`. `Memory` where there was not enough memory.
+/// The fault of the text as in [`uci_text::read_commands`]. Where it has none, `NoSection` with the
+/// line of the first `option` or `list` before any `config`. `Memory` where there was not enough
+/// memory.
 pub fn read_package(alloc: Global, name: &[u8], text: &[u8]) -> Result<Package, TreeError>
     requires { length text.now < 2 ^ 32 - 1 }
     ensures found { IfOk result (λ tree. Reads name.now text.now tree) }

@@ -11,8 +11,8 @@ use std::alloc::Global;
 use std::collections::BTreeMap;
 use uci_text::Cmd;
 
-/// The sections of a package while its commands are read, with the place of the first section of each name, and the place
-/// of the section that the latest `config` named.
+/// The sections of a package while its commands are read, with the place of the first section of
+/// each name, and the place of the section that the latest `config` named.
 #[derive(Drop)]
 pub struct Sections {
     sections: Vec<DraftSection>,

@@ -1,7 +1,8 @@
 ghost use Rattle.std.specs.Prelude.{◌≡◌, ◌≢◌};
 ghost use Rattle.uci_tree.specs.TreeError.{number_of};
 ghost use Rattle.uci_text.specs.declared.text_error.TextError.TheVariants as text_error;
-ghost use Rattle.uci_tree.specs.declared.tree_error.TreeError.TheVariants.{Memory as NoMemory, Text as OfText};
+ghost use Rattle.uci_tree.specs.declared.tree_error.TreeError.TheVariants.{Memory as NoMemory};
+ghost use Rattle.uci_tree.specs.declared.tree_error.TreeError.TheVariants.{Text as OfText};
 
 use plane_io::Memory;
 use std::alloc::{AllocError, AllocFailed};
@@ -23,7 +24,8 @@ pub enum TreeError {
 }
 
 impl TreeError {
-    /// The number of the kind of error: that of the text's fault, 15 for `NoSection`, 8 for `Memory`.
+    /// The number of the kind of error: that of the text's fault, 15 for `NoSection`, 8 for
+    /// `Memory`.
     pub fn number(&self) -> u8
         ensures { result ≡ number_of self.now }
     {

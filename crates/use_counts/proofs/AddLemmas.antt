@@ -73,7 +73,8 @@ no_ends far near k (e ∷ es) h =
     ∙ no_ends far near k es h.1
 
 -- no edge ends at a node more
-pub lists_more : (far near : Edge → ℕ) (lists : List (Vec ℕ Global)) (v : Vec ℕ Global) (edges : List Edge) → v.items ≡ [] → AllByRecursion (λ e. near e < length lists) edges → ((k : ℕ) → k < length lists → items_at lists k ≡ far_ends far near edges k) → (k : ℕ) → k < length lists + 1 → items_at (lists ++ v ∷ []) k ≡ far_ends far near edges k
+pub lists_more : (far near : Edge → ℕ) (lists : List (Vec ℕ Global)) (v : Vec ℕ Global) (edges : List Edge) → v.items ≡ [] → AllByRecursion (λ e. near e < length lists) edges
+    → ((k : ℕ) → k < length lists → items_at lists k ≡ far_ends far near edges k) → (k : ℕ) → k < length lists + 1 → items_at (lists ++ v ∷ []) k ≡ far_ends far near edges k
 lists_more far near lists v edges none within are k h =
     ⊎_elim
     (λ (inside : k < length lists). items_left lists v k inside ∙ are k inside)
@@ -107,9 +108,25 @@ calm_more edges nodes row plain c =
     let used = same_at (λ n. n.used) nodes node refl in
     record {
       kept = record {
-        open_lowers = λ k. omega (arith, same_at (λ n. n.open_lowers) nodes node refl k, c.kept.open_lowers k, counted_same upper_end lower_end (available_at nodes) (available_at (nodes ++ node ∷ [])) k edges (everywhere (λ e. available e.lower) edges));
-        linked_lowers = λ k. omega (arith, same_at (λ n. n.linked_lowers) nodes node refl k, c.kept.linked_lowers k, counted_same upper_end lower_end (link_at nodes) (link_at (nodes ++ node ∷ [])) k edges (everywhere (λ e. link e.lower) edges));
-        demand = λ k. omega (arith, same_at (λ n. n.demand) nodes node refl k, same_at (λ n. n.claims) nodes node refl k, c.kept.demand k, counted_same lower_end upper_end (used_at nodes) (used_at (nodes ++ node ∷ [])) k edges (everywhere (λ e. used e.upper) edges));
+        open_lowers = λ k. omega (
+          arith,
+          same_at (λ n. n.open_lowers) nodes node refl k,
+          c.kept.open_lowers k,
+          counted_same upper_end lower_end (available_at nodes) (available_at (nodes ++ node ∷ [])) k edges (everywhere (λ e. available e.lower) edges),
+        );
+        linked_lowers = λ k. omega (
+          arith,
+          same_at (λ n. n.linked_lowers) nodes node refl k,
+          c.kept.linked_lowers k,
+          counted_same upper_end lower_end (link_at nodes) (link_at (nodes ++ node ∷ [])) k edges (everywhere (λ e. link e.lower) edges),
+        );
+        demand = λ k. omega (
+          arith,
+          same_at (λ n. n.demand) nodes node refl k,
+          same_at (λ n. n.claims) nodes node refl k,
+          c.kept.demand k,
+          counted_same lower_end upper_end (used_at nodes) (used_at (nodes ++ node ∷ [])) k edges (everywhere (λ e. used e.upper) edges),
+        );
         stale = at_pushed (λ n. n.stale ≡ false → FollowsCounts n) nodes node (λ _. alone_follows row plain) c.kept.stale;
         use_stale = at_pushed UseFollows nodes node (λ _. refl) c.kept.use_stale;
       };
@@ -144,7 +161,8 @@ pub members_more : (nodes : List Node) (row : Row) → map member_of (nodes ++ n
 members_more nodes row = map-append member_of nodes (new_node 0 row ∷ [])
 
 -- one node more is stored
-pub list_pushed : (slab new : Slab Node) (keys : List ℕ) (key : ℕ) (node : Node) (made : ℕ) (stale use_stale : List ℕ) → AreSound slab keys made stale use_stale → get slab key ≡ None → Updates slab new key (Some node) → list_of new (keys ++ key ∷ []) ≡ list_of slab keys ++ node ∷ []
+pub list_pushed : (slab new : Slab Node) (keys : List ℕ) (key : ℕ) (node : Node) (made : ℕ) (stale use_stale : List ℕ) → AreSound slab keys made stale use_stale → get slab key ≡ None → Updates slab new key (Some node)
+    → list_of new (keys ++ key ∷ []) ≡ list_of slab keys ++ node ∷ []
 list_pushed slab new keys key node made stale use_stale s vacant updates =
     let old = list_of slab keys in
     let long : length (list_of new (keys ++ key ∷ [])) ≡ length (old ++ node ∷ []) = omega (arith, length-map (keys ++ key ∷ []) (stored new), length-append keys (key ∷ []), length-append old (node ∷ []), length-map keys (stored slab)) in
@@ -172,7 +190,8 @@ marked_more index flag nodes node words rank same are =
       all = λ k some flagged. ap (λ r. mark words (index r)) (ranks k) ∙ are.all k (omega (arith, some, ranks k)) (sym (flags k) ∙ flagged);
     }
 
-pub sound_more : (slab new : Slab Node) (keys : List ℕ) (key : ℕ) (row : Row) (made : ℕ) (stale use_stale : List ℕ) → AreSound slab keys made stale use_stale → get slab key ≡ None → Updates slab new key (Some (new_node 0 row)) → AreSound new (keys ++ key ∷ []) made stale use_stale
+pub sound_more : (slab new : Slab Node) (keys : List ℕ) (key : ℕ) (row : Row) (made : ℕ) (stale use_stale : List ℕ) → AreSound slab keys made stale use_stale → get slab key ≡ None → Updates slab new key (Some (new_node 0 row))
+    → AreSound new (keys ++ key ∷ []) made stale use_stale
 unfolding no_node
 sound_more slab new keys key row made stale use_stale s vacant updates =
     let node = new_node 0 row in

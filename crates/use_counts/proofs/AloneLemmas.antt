@@ -20,7 +20,8 @@ available_beside net k p h zero j ne = refl
 available_beside net k p h (suc levels) j ne =
     let new = with_member net k p in
     ap (λ (m : Member). opens m.kind m.present (counted upper_end lower_end (available_within levels new) (edges_of net) j)) (beside net k p j ne)
-    ∙ ap (opens (member_at net.members j).kind (member_at net.members j).present) (counted_same upper_end lower_end (available_within levels net) (available_within levels new) j (edges_of net) (each (λ e a. available_beside net k p h levels e.lower a.0) (edges_of net) h))
+    ∙ ap (opens (member_at net.members j).kind (member_at net.members j).present)
+    (counted_same upper_end lower_end (available_within levels net) (available_within levels new) j (edges_of net) (each (λ e a. available_beside net k p h levels e.lower a.0) (edges_of net) h))
 
 available_same : (net : Network) (k : ℕ) (p : Member) → AllByRecursion (λ e. (e.lower ≢ k) × (e.upper ≢ k)) (edges_of net) → (j : ℕ) → j ≢ k → available (with_member net k p) j ≡ available net j
 unfolding available
@@ -34,7 +35,8 @@ link_beside net k p h (suc levels) j ne =
     let m = member_at net.members j in
     ap (λ (m : Member). links m.kind (available new j) (m.present && m.carrier) (counted upper_end lower_end (link_within levels new) (edges_of net) j)) (beside net k p j ne)
     ∙ ap (λ b. links m.kind b (m.present && m.carrier) (counted upper_end lower_end (link_within levels new) (edges_of net) j)) (available_same net k p h j ne)
-    ∙ ap (links m.kind (available net j) (m.present && m.carrier)) (counted_same upper_end lower_end (link_within levels net) (link_within levels new) j (edges_of net) (each (λ e a. link_beside net k p h levels e.lower a.0) (edges_of net) h))
+    ∙ ap (links m.kind (available net j) (m.present && m.carrier))
+    (counted_same upper_end lower_end (link_within levels net) (link_within levels new) j (edges_of net) (each (λ e a. link_beside net k p h levels e.lower a.0) (edges_of net) h))
 
 link_same : (net : Network) (k : ℕ) (p : Member) → AllByRecursion (λ e. (e.lower ≢ k) × (e.upper ≢ k)) (edges_of net) → (j : ℕ) → j ≢ k → link (with_member net k p) j ≡ link net j
 unfolding link
@@ -47,7 +49,8 @@ used_beside net k p h (suc levels) j ne =
     let new = with_member net k p in
     ap (λ (m : Member). is_used (available new j) (m.claims + counted lower_end upper_end (used_within levels new) (edges_of net) j)) (beside net k p j ne)
     ∙ ap (λ b. is_used b ((member_at net.members j).claims + counted lower_end upper_end (used_within levels new) (edges_of net) j)) (available_same net k p h j ne)
-    ∙ ap (λ n. is_used (available net j) ((member_at net.members j).claims + n)) (counted_same lower_end upper_end (used_within levels net) (used_within levels new) j (edges_of net) (each (λ e a. used_beside net k p h levels e.upper a.1) (edges_of net) h))
+    ∙ ap (λ n. is_used (available net j) ((member_at net.members j).claims + n))
+    (counted_same lower_end upper_end (used_within levels net) (used_within levels new) j (edges_of net) (each (λ e a. used_beside net k p h levels e.upper a.1) (edges_of net) h))
 
 used_same : (net : Network) (k : ℕ) (p : Member) → AllByRecursion (λ e. (e.lower ≢ k) × (e.upper ≢ k)) (edges_of net) → (j : ℕ) → j ≢ k → used (with_member net k p) j ≡ used net j
 unfolding used

@@ -62,7 +62,8 @@ combine true false cg cf cj ag af aj bg bf bj x y z h k = omega arith
 combine false true cg cf cj ag af aj bg bf bj x y z h k = omega arith
 combine false false cg cf cj ag af aj bg bf bj x y z h k = omega arith
 
-pub counted_moves : (far near : Edge → ℕ) (f g : ℕ → Bool) (i k : ℕ) (es : List Edge) → AllByRecursion (λ e. near e ≢ i → g (near e) ≡ f (near e)) es → counted far near g es k + times (f i) (joining far near es i k) ≡ counted far near f es k + times (g i) (joining far near es i k)
+pub counted_moves : (far near : Edge → ℕ) (f g : ℕ → Bool) (i k : ℕ) (es : List Edge) → AllByRecursion (λ e. near e ≢ i → g (near e) ≡ f (near e)) es → counted far near g es k + times (f i) (joining far near es i k)
+    ≡ counted far near f es k + times (g i) (joining far near es i k)
 unfolding counted joining
 counted_moves far near f g i k [] same = omega (arith, none_scaled (f i), none_scaled (g i))
 counted_moves far near f g i k (e ∷ es) same =
@@ -73,7 +74,8 @@ counted_moves far near f g i k (e ∷ es) same =
     let rest = counted_moves far near f g i k es same.1 in
     combine (f i) (g i) _ _ _ _ _ _ _ _ _ a b j here rest
 
-at_end : (far : Edge → ℕ) (t b : Bool) (e : Edge) (es : List Edge) (old new k : ℕ) → occurs k (far e ∷ map far es) ≡ cond t 1 0 + occurs k (map far es) → occurs k (map far es) ≡ old → new ≡ cond (t && b) 1 0 + old → occurs k (map far (cond b (e ∷ es) es)) ≡ new
+at_end : (far : Edge → ℕ) (t b : Bool) (e : Edge) (es : List Edge) (old new k : ℕ) → occurs k (far e ∷ map far es) ≡ cond t 1 0 + occurs k (map far es) → occurs k (map far es) ≡ old → new ≡ cond (t && b) 1 0 + old
+    → occurs k (map far (cond b (e ∷ es) es)) ≡ new
 at_end far true true e es old new k a r j = omega (arith, a, r, j)
 at_end far true false e es old new k a r j = omega (arith, a, r, j)
 at_end far false true e es old new k a r j = omega (arith, a, r, j)
@@ -128,7 +130,8 @@ node_beside f g i n same ne =
 one_node : (f g : ℕ → Bool) (i n : ℕ) → (n ≢ i → g n ≡ f n) → f i ≡ false → g i ≡ true → cond (g n) 1 0 ≡ cond (f n) 1 0 + cond (n == i) 1 0
 one_node f g i n same was now = ⊎_elim (node_it f g i n was now) (node_beside f g i n same) (cases_eq n i)
 
-pub touching_more : (near : Edge → ℕ) (f g : ℕ → Bool) (i : ℕ) (es : List Edge) → AllByRecursion (λ e. near e ≢ i → g (near e) ≡ f (near e)) es → f i ≡ false → g i ≡ true → edges_at near g es ≡ edges_at near f es + edges_at near (λ n. n == i) es
+pub touching_more : (near : Edge → ℕ) (f g : ℕ → Bool) (i : ℕ) (es : List Edge) → AllByRecursion (λ e. near e ≢ i → g (near e) ≡ f (near e)) es → f i ≡ false → g i ≡ true → edges_at near g es ≡ edges_at near f es
+    + edges_at near (λ n. n == i) es
 unfolding edges_at
 touching_more near f g i [] same was now = refl
 touching_more near f g i (e ∷ es) same was now =
@@ -189,7 +192,8 @@ follows false true false b r j c c' n x y d e f = absurd (true≢false (e refl))
 follows false false true b r j c c' n x y d e f = absurd (false≢true (e refl))
 follows false false false b r j c c' n x y d e f = omega arith
 
-pub count_follows : (far near : Edge → ℕ) (edges : List Edge) (place k b : ℕ) (f g : ℕ → Bool) (m : Bool) (r : ℕ) → AllByRecursion (λ e. near e ≢ place → g (near e) ≡ f (near e)) edges → (m ≡ false → f place ≡ g place) → r ≡ b + counted far near f edges k → (r + times (g place) (times m (occurs k (far_ends far near edges place)))) - times (f place) (times m (occurs k (far_ends far near edges place))) ≡ b + counted far near g edges k
+pub count_follows : (far near : Edge → ℕ) (edges : List Edge) (place k b : ℕ) (f g : ℕ → Bool) (m : Bool) (r : ℕ) → AllByRecursion (λ e. near e ≢ place → g (near e) ≡ f (near e)) edges → (m ≡ false → f place ≡ g place) → r ≡ b
+    + counted far near f edges k → (r + times (g place) (times m (occurs k (far_ends far near edges place)))) - times (f place) (times m (occurs k (far_ends far near edges place))) ≡ b + counted far near g edges k
 count_follows far near edges place k b f g m r same still was =
     follows m (f place) (g place) b r (joining far near edges place k) _ _ _ was (counted_moves far near f g place k edges same) (joining-le-counted far near f place k edges) still (ap (times m) (occurs_ends far near edges place k))
 

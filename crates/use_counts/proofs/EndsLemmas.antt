@@ -33,7 +33,8 @@ ends_more : (far near : Edge → ℕ) (es : List Edge) (i k : ℕ) (d : Edge) �
 unfolding far_ends
 ends_more far near es i k d h = ap (map far) (filter_more (λ e. near e == k) es i d h) ∙ map-append far (filter (λ e. near e == k) (take i es)) _
 
-pub listed : (far near : Edge → ℕ) (es : List Edge) (i k : ℕ) (d : Edge) (lists : List (Vec ℕ Global)) (was now : Vec ℕ Global) → i < length es → near (get_or es i d) < length lists → was ≡ get_or lists (near (get_or es i d)) was → now.items ≡ was.items ++ far (get_or es i d) ∷ [] → items_at lists k ≡ far_ends far near (take i es) k → items_at (slice_set lists (near (get_or es i d)) now) k ≡ far_ends far near (take (i + 1) es) k
+pub listed : (far near : Edge → ℕ) (es : List Edge) (i k : ℕ) (d : Edge) (lists : List (Vec ℕ Global)) (was now : Vec ℕ Global) → i < length es → near (get_or es i d) < length lists → was ≡ get_or lists (near (get_or es i d)) was
+    → now.items ≡ was.items ++ far (get_or es i d) ∷ [] → items_at lists k ≡ far_ends far near (take i es) k → items_at (slice_set lists (near (get_or es i d)) now) k ≡ far_ends far near (take (i + 1) es) k
 listed far near es i k d lists was now h within read pushed kept =
     let place = near (get_or es i d) in
     let more = ends_more far near es i k d h in

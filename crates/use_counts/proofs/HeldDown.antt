@@ -25,21 +25,26 @@ made_use false u v h = absurd (false≢true h)
 pub use_stays : (rank : ℕ → ℕ) (lowers : List ℕ) (place : ℕ) (old new : List Node) → UseSettledAt rank lowers place old new → (k : ℕ) → 0 < rank k → k ≢ place → used_at new k ≡ used_at old k
 use_stays rank lowers place old new s k h ne = ap (λ (n : Node). n.used) (s.others k ne) ∙ made_use (nat_lt 0 (rank k)) (node_at old k).used _ (lt-ltb 0 (rank k) h)
 
-pub stays : {X : Type 0} (field : Node → X) (rank : ℕ → ℕ) (lowers : List ℕ) (place : ℕ) (old new : List Node) → UseSettledAt rank lowers place old new → field (use_settled (node_at old place)) ≡ field (node_at old place) → ((was now is_made : Bool) (node : Node) (n : ℕ) → field (after_upper was now is_made node n) ≡ field node) → (k : ℕ) → field (node_at new k) ≡ field (node_at old k)
+pub stays : {X : Type 0} (field : Node → X) (rank : ℕ → ℕ) (lowers : List ℕ) (place : ℕ) (old new : List Node) → UseSettledAt rank lowers place old new → field (use_settled (node_at old place)) ≡ field (node_at old place)
+    → ((was now is_made : Bool) (node : Node) (n : ℕ) → field (after_upper was now is_made node n) ≡ field node) → (k : ℕ) → field (node_at new k) ≡ field (node_at old k)
 stays field rank lowers place old new s here others =
-    at_each (λ k. field (node_at new k) ≡ field (node_at old k)) place (ap field s.here ∙ here) (λ k ne. ap field (s.others k ne) ∙ others (used_at old place) (used_at new place) (nat_lt 0 (rank k)) (node_at old k) (times (differs (used_at old place) (used_at new place)) (occurs k lowers)))
+    at_each (λ k. field (node_at new k) ≡ field (node_at old k)) place (ap field s.here ∙ here)
+    (λ k ne. ap field (s.others k ne) ∙ others (used_at old place) (used_at new place) (nat_lt 0 (rank k)) (node_at old k) (times (differs (used_at old place) (used_at new place)) (occurs k lowers)))
 
-demand_follows : (rank : ℕ → ℕ) (size : ℕ) (edges : List Edge) (place : ℕ) (old new : List Node) → AllRunUp rank size edges → HoldsCounts edges old → UseSettledAt rank (lowers_of edges place) place old new → (k : ℕ) → (node_at new k).demand ≡ (node_at new k).claims + counted lower_end upper_end (used_at new) edges k
+demand_follows : (rank : ℕ → ℕ) (size : ℕ) (edges : List Edge) (place : ℕ) (old new : List Node) → AllRunUp rank size edges → HoldsCounts edges old → UseSettledAt rank (lowers_of edges place) place old new → (k : ℕ) → (node_at new k).demand
+    ≡ (node_at new k).claims + counted lower_end upper_end (used_at new) edges k
 demand_follows rank size edges place old new stand kept s k =
     let m = differs (used_at old place) (used_at new place) in
     let claims = stays (λ n. n.claims) rank (lowers_of edges place) place old new s refl (λ _ _ _ _ _. refl) in
-    let fact = λ (k : ℕ). count_follows lower_end upper_end edges place k (node_at old k).claims (used_at old) (used_at new) m (node_at old k).demand (each (λ e st ne. use_stays rank (lowers_of edges place) place old new s e.upper st.made_upper ne) edges stand) (λ d. differs_not _ _ d) (kept.demand k) in
+    let fact = λ (k : ℕ). count_follows lower_end upper_end edges place k (node_at old k).claims (used_at old) (used_at new) m (node_at old k).demand
+    (each (λ e st ne. use_stays rank (lowers_of edges place) place old new s e.upper st.made_upper ne) edges stand) (λ d. differs_not _ _ d) (kept.demand k) in
     at_each (λ k. (node_at new k).demand ≡ (node_at old k).claims + counted lower_end upper_end (used_at new) edges k) place
     (ap (λ (x : Node). x.demand) s.here ∙ sym (nothing (used_at old place) (used_at new place) m _ _ (none_below_itself rank size edges place stand)) ∙ fact place)
     (λ k ne. ap (λ (x : Node). x.demand) (s.others k ne) ∙ fact k)
     k ∙ ap (λ n. n + counted lower_end upper_end (used_at new) edges k) (sym (claims k))
 
-right_same : (a b : Node) → a.kind ≡ b.kind → a.present ≡ b.present → a.carrier ≡ b.carrier → a.available ≡ b.available → a.link ≡ b.link → a.open_lowers ≡ b.open_lowers → a.linked_lowers ≡ b.linked_lowers → FollowsCounts b → FollowsCounts a
+right_same : (a b : Node) → a.kind ≡ b.kind → a.present ≡ b.present → a.carrier ≡ b.carrier → a.available ≡ b.available → a.link ≡ b.link → a.open_lowers ≡ b.open_lowers → a.linked_lowers ≡ b.linked_lowers → FollowsCounts b
+    → FollowsCounts a
 right_same a b kind present carrier available link open_lowers linked_lowers h = record { available = cc (h.available); link = cc (h.link) }
 
 called_right : (was now is_made : Bool) (node : Node) (n : ℕ) → UseFollows node → UseFollows (after_upper was now is_made node n)
@@ -56,8 +61,10 @@ kept_down rank size edges place old new stand kept s =
     let available = stays (λ n. n.available) rank lowers place old new s refl (λ _ _ _ _ _. refl) in
     let link = stays (λ n. n.link) rank lowers place old new s refl (λ _ _ _ _ _. refl) in
     record {
-      open_lowers = λ k. stays (λ n. n.open_lowers) rank lowers place old new s refl (λ _ _ _ _ _. refl) k ∙ kept.open_lowers k ∙ sym (counted_same upper_end lower_end (available_at old) (available_at new) k edges (everywhere (λ e. available e.lower) edges));
-      linked_lowers = λ k. stays (λ n. n.linked_lowers) rank lowers place old new s refl (λ _ _ _ _ _. refl) k ∙ kept.linked_lowers k ∙ sym (counted_same upper_end lower_end (link_at old) (link_at new) k edges (everywhere (λ e. link e.lower) edges));
+      open_lowers = λ k. stays (λ n. n.open_lowers) rank lowers place old new s refl (λ _ _ _ _ _. refl) k ∙ kept.open_lowers k
+          ∙ sym (counted_same upper_end lower_end (available_at old) (available_at new) k edges (everywhere (λ e. available e.lower) edges));
+      linked_lowers = λ k. stays (λ n. n.linked_lowers) rank lowers place old new s refl (λ _ _ _ _ _. refl) k ∙ kept.linked_lowers k
+          ∙ sym (counted_same upper_end lower_end (link_at old) (link_at new) k edges (everywhere (λ e. link e.lower) edges));
       demand = demand_follows rank size edges place old new stand kept s;
       stale = λ k u. right_same (node_at new k) (node_at old k)
           (stays (λ n. n.kind) rank lowers place old new s refl (λ _ _ _ _ _. refl) k)
@@ -69,5 +76,6 @@ kept_down rank size edges place old new stand kept s =
           (kept.stale k (sym (stays (λ n. n.stale) rank lowers place old new s refl (λ _ _ _ _ _. refl) k) ∙ u));
       use_stale = at_each (λ k. UseFollows (node_at new k)) place
           (subst UseFollows (sym s.here) (λ _. refl))
-          (λ k ne. subst UseFollows (sym (s.others k ne)) (called_right (used_at old place) (used_at new place) (nat_lt 0 (rank k)) (node_at old k) (times (differs (used_at old place) (used_at new place)) (occurs k lowers)) (kept.use_stale k)));
+          (λ k ne. subst UseFollows (sym (s.others k ne)) (called_right (used_at old place) (used_at new place) (nat_lt 0 (rank k)) (node_at old k) (times (differs (used_at old place) (used_at new place)) (occurs k lowers))
+          (kept.use_stale k)));
     }

@@ -37,33 +37,40 @@ none_itself rank size edges place stand =
 pub used_kept : (rank : ℕ → ℕ) (uppers : List ℕ) (place : ℕ) (old new : List Node) → SettledAt rank uppers place old new → (k : ℕ) → 0 < rank k → used_at new k ≡ used_at old k
 used_kept rank uppers place old new s =
     at_each (λ k. 0 < rank k → used_at new k ≡ used_at old k) place
-    (λ h. ap (λ (n : Node). n.used) s.here ∙ ap (λ b. cond b (node_at old place).used (is_used (opens (node_at old place).kind (node_at old place).present (node_at old place).open_lowers) (node_at old place).demand)) (lt-ltb 0 (rank place) h))
+    (λ h. ap (λ (n : Node). n.used) s.here ∙ ap (λ b. cond b (node_at old place).used (is_used (opens (node_at old place).kind (node_at old place).present (node_at old place).open_lowers) (node_at old place).demand))
+    (lt-ltb 0 (rank place) h))
     (λ k ne h. ap (λ (n : Node). n.used) (s.others k ne))
 
-ready_kept : (rank : ℕ → ℕ) (size : ℕ) (edges : List Edge) (place : ℕ) (old new : List Node) → AllRunUp rank size edges → HoldsCounts edges old → SettledAt rank (uppers_of edges place) place old new → (k : ℕ) → (node_at new k).open_lowers ≡ counted upper_end lower_end (available_at new) edges k
+ready_kept : (rank : ℕ → ℕ) (size : ℕ) (edges : List Edge) (place : ℕ) (old new : List Node) → AllRunUp rank size edges → HoldsCounts edges old → SettledAt rank (uppers_of edges place) place old new → (k : ℕ) → (node_at new k).open_lowers
+    ≡ counted upper_end lower_end (available_at new) edges k
 ready_kept rank size edges place old new stand kept s =
     let m = moved (node_at old place) (node_at new place) in
-    let fact = λ (k : ℕ). count_follows upper_end lower_end edges place k 0 (available_at old) (available_at new) m (node_at old k).open_lowers (everywhere (λ e ne. ap (λ (x : Node). x.available) (s.others e.lower ne)) edges) (λ h. differs_not _ _ (or_left _ _ h)) (kept.open_lowers k ∙ sym (zero-add _)) ∙ zero-add _ in
+    let fact = λ (k : ℕ). count_follows upper_end lower_end edges place k 0 (available_at old) (available_at new) m (node_at old k).open_lowers (everywhere (λ e ne. ap (λ (x : Node). x.available) (s.others e.lower ne)) edges)
+    (λ h. differs_not _ _ (or_left _ _ h)) (kept.open_lowers k ∙ sym (zero-add _)) ∙ zero-add _ in
     at_each (λ k. (node_at new k).open_lowers ≡ counted upper_end lower_end (available_at new) edges k) place
     (ap (λ (x : Node). x.open_lowers) s.here ∙ sym (nothing (available_at old place) (available_at new place) m _ _ (none_itself rank size edges place stand)) ∙ fact place)
     (λ k ne. ap (λ (x : Node). x.open_lowers) (s.others k ne) ∙ fact k)
 
-linked_kept : (rank : ℕ → ℕ) (size : ℕ) (edges : List Edge) (place : ℕ) (old new : List Node) → AllRunUp rank size edges → HoldsCounts edges old → SettledAt rank (uppers_of edges place) place old new → (k : ℕ) → (node_at new k).linked_lowers ≡ counted upper_end lower_end (link_at new) edges k
+linked_kept : (rank : ℕ → ℕ) (size : ℕ) (edges : List Edge) (place : ℕ) (old new : List Node) → AllRunUp rank size edges → HoldsCounts edges old → SettledAt rank (uppers_of edges place) place old new → (k : ℕ)
+    → (node_at new k).linked_lowers ≡ counted upper_end lower_end (link_at new) edges k
 linked_kept rank size edges place old new stand kept s =
     let m = moved (node_at old place) (node_at new place) in
-    let fact = λ (k : ℕ). count_follows upper_end lower_end edges place k 0 (link_at old) (link_at new) m (node_at old k).linked_lowers (everywhere (λ e ne. ap (λ (x : Node). x.link) (s.others e.lower ne)) edges) (λ h. differs_not _ _ (or_right _ _ h)) (kept.linked_lowers k ∙ sym (zero-add _)) ∙ zero-add _ in
+    let fact = λ (k : ℕ). count_follows upper_end lower_end edges place k 0 (link_at old) (link_at new) m (node_at old k).linked_lowers (everywhere (λ e ne. ap (λ (x : Node). x.link) (s.others e.lower ne)) edges)
+    (λ h. differs_not _ _ (or_right _ _ h)) (kept.linked_lowers k ∙ sym (zero-add _)) ∙ zero-add _ in
     at_each (λ k. (node_at new k).linked_lowers ≡ counted upper_end lower_end (link_at new) edges k) place
     (ap (λ (x : Node). x.linked_lowers) s.here ∙ sym (nothing (link_at old place) (link_at new place) m _ _ (none_itself rank size edges place stand)) ∙ fact place)
     (λ k ne. ap (λ (x : Node). x.linked_lowers) (s.others k ne) ∙ fact k)
 
-demand_kept : (rank : ℕ → ℕ) (size : ℕ) (edges : List Edge) (place : ℕ) (old new : List Node) → AllRunUp rank size edges → HoldsCounts edges old → SettledAt rank (uppers_of edges place) place old new → (k : ℕ) → (node_at new k).demand ≡ (node_at new k).claims + counted lower_end upper_end (used_at new) edges k
+demand_kept : (rank : ℕ → ℕ) (size : ℕ) (edges : List Edge) (place : ℕ) (old new : List Node) → AllRunUp rank size edges → HoldsCounts edges old → SettledAt rank (uppers_of edges place) place old new → (k : ℕ) → (node_at new k).demand
+    ≡ (node_at new k).claims + counted lower_end upper_end (used_at new) edges k
 demand_kept rank size edges place old new stand kept s k =
     let same = counted_same lower_end upper_end (used_at old) (used_at new) k edges (each (λ e h. used_kept rank (uppers_of edges place) place old new s e.upper h.made_upper) edges stand) in
     let demand = at_each (λ n. (node_at new n).demand ≡ (node_at old n).demand) place (ap (λ (x : Node). x.demand) s.here) (λ n ne. ap (λ (x : Node). x.demand) (s.others n ne)) k in
     let claims = at_each (λ n. (node_at new n).claims ≡ (node_at old n).claims) place (ap (λ (x : Node). x.claims) s.here) (λ n ne. ap (λ (x : Node). x.claims) (s.others n ne)) k in
     omega (arith, same, demand, claims, kept.demand k)
 
-up_kept : (rank : ℕ → ℕ) (size : ℕ) (edges : List Edge) (place : ℕ) (old new : List Node) → AllRunUp rank size edges → HoldsCounts edges old → SettledAt rank (uppers_of edges place) place old new → (k : ℕ) → (node_at new k).stale ≡ false → FollowsCounts (node_at new k)
+up_kept : (rank : ℕ → ℕ) (size : ℕ) (edges : List Edge) (place : ℕ) (old new : List Node) → AllRunUp rank size edges → HoldsCounts edges old → SettledAt rank (uppers_of edges place) place old new → (k : ℕ) → (node_at new k).stale ≡ false
+    → FollowsCounts (node_at new k)
 up_kept rank size edges place old new stand kept s =
     at_each (λ k. (node_at new k).stale ≡ false → FollowsCounts (node_at new k)) place
     (λ _. subst FollowsCounts (sym s.here) (record { available = refl; link = refl }))

@@ -19,7 +19,8 @@ own_pass : (b : Bool) → ◌≡◌ {A = ℕ} (cond (b && true) 1 0) (cond b 1 0
 own_pass true = refl
 own_pass false = refl
 
-given_case : (t : Edge → Bool) (u : ℕ) (b : Bool) (e : Edge) (es : List Edge) (rest total : ℕ) → (b ≡ true → t (edge u e.lower) ≡ t e) → count_by t (map (edge u) (map lower_end es)) ≡ rest → total ≡ cond (t e && b) 1 0 + rest → count_by t (map (edge u) (map lower_end (cond b (e ∷ es) es))) ≡ total
+given_case : (t : Edge → Bool) (u : ℕ) (b : Bool) (e : Edge) (es : List Edge) (rest total : ℕ) → (b ≡ true → t (edge u e.lower) ≡ t e) → count_by t (map (edge u) (map lower_end es)) ≡ rest → total ≡ cond (t e && b) 1 0 + rest
+    → count_by t (map (edge u) (map lower_end (cond b (e ∷ es) es))) ≡ total
 given_case t u true e es rest total same r j =
     omega (arith, sum_by-cons (λ (x : Edge). cond (t x) 1 0) (edge u e.lower) (map (edge u) (map lower_end es)), ap (λ b. let n : ℕ = cond b 1 0 in n) (same refl), own_pass (t e), r, j)
 given_case t u false e es rest total same r j = omega (arith, no_pass (t e), r, j)
@@ -54,22 +55,48 @@ one_split : (b : Bool) (u n : ℕ) → cond (b && nat_lt u (n + 1)) 1 0 ≡ cond
 one_split b u n =
     ⊎_elim
     (λ (e : n ≡ u).
-    omega (arith, ap (λ x. let m : ℕ = cond (b && x) 1 0 in m) (lt-ltb u (n + 1) (omega (arith, e))), ap (λ x. let m : ℕ = cond (b && x) 1 0 in m) (eq-eqb n u e), ap (λ x. let m : ℕ = cond (b && x) 1 0 in m) (le-ltb (u + 1) (n + 1) (omega (arith, e))), no_pass b))
+    omega (
+      arith,
+      ap (λ x. let m : ℕ = cond (b && x) 1 0 in m) (lt-ltb u (n + 1) (omega (arith, e))),
+      ap (λ x. let m : ℕ = cond (b && x) 1 0 in m) (eq-eqb n u e),
+      ap (λ x. let m : ℕ = cond (b && x) 1 0 in m) (le-ltb (u + 1) (n + 1) (omega (arith, e))),
+      no_pass b,
+    ))
     (λ ne. ⊎_elim
-    (λ (h : u < n). omega (arith, ap (λ x. let m : ℕ = cond (b && x) 1 0 in m) (lt-ltb u (n + 1) (omega (arith, h))), ap (λ x. let m : ℕ = cond (b && x) 1 0 in m) (ne_eqb n u ne), ap (λ x. let m : ℕ = cond (b && x) 1 0 in m) (lt-ltb (u + 1) (n + 1) (omega (arith, h))), no_pass b))
-    (λ (h : n ≤ u). omega (arith, ap (λ x. let m : ℕ = cond (b && x) 1 0 in m) (le-ltb u (n + 1) (omega (arith, h, ne))), ap (λ x. let m : ℕ = cond (b && x) 1 0 in m) (ne_eqb n u ne), ap (λ x. let m : ℕ = cond (b && x) 1 0 in m) (le-ltb (u + 1) (n + 1) (omega (arith, h))), no_pass b))
+    (λ (h : u < n). omega (
+      arith,
+      ap (λ x. let m : ℕ = cond (b && x) 1 0 in m) (lt-ltb u (n + 1) (omega (arith, h))),
+      ap (λ x. let m : ℕ = cond (b && x) 1 0 in m) (ne_eqb n u ne),
+      ap (λ x. let m : ℕ = cond (b && x) 1 0 in m) (lt-ltb (u + 1) (n + 1) (omega (arith, h))),
+      no_pass b,
+    ))
+    (λ (h : n ≤ u). omega (
+      arith,
+      ap (λ x. let m : ℕ = cond (b && x) 1 0 in m) (le-ltb u (n + 1) (omega (arith, h, ne))),
+      ap (λ x. let m : ℕ = cond (b && x) 1 0 in m) (ne_eqb n u ne),
+      ap (λ x. let m : ℕ = cond (b && x) 1 0 in m) (le-ltb (u + 1) (n + 1) (omega (arith, h))),
+      no_pass b,
+    ))
     (cases_lt u n))
     (cases_eq n u)
 
 split_ports : (t : Edge → Bool) (u : ℕ) (es : List Edge) → count_by (λ e. t e && nat_lt u (e.upper + 1)) es ≡ count_by (λ e. t e && (e.upper == u)) es + count_by (λ e. t e && nat_lt (u + 1) (e.upper + 1)) es
 split_ports t u [] = refl
 split_ports t u (e ∷ es) =
-    omega (arith, sum_by-cons (λ (x : Edge). cond (t x && nat_lt u (x.upper + 1)) 1 0) e es, sum_by-cons (λ (x : Edge). cond (t x && (x.upper == u)) 1 0) e es, sum_by-cons (λ (x : Edge). cond (t x && nat_lt (u + 1) (x.upper + 1)) 1 0) e es, one_split (t e) u e.upper, split_ports t u es)
+    omega (
+      arith,
+      sum_by-cons (λ (x : Edge). cond (t x && nat_lt u (x.upper + 1)) 1 0) e es,
+      sum_by-cons (λ (x : Edge). cond (t x && (x.upper == u)) 1 0) e es,
+      sum_by-cons (λ (x : Edge). cond (t x && nat_lt (u + 1) (x.upper + 1)) 1 0) e es,
+      one_split (t e) u e.upper,
+      split_ports t u es,
+    )
 
 none_later : (t : Edge → Bool) (u : ℕ) (es : List Edge) → AllByRecursion (λ e. u ≤ e.upper → ◌≡◌ {A = Bool} false true) es → count_by (λ e. t e && nat_lt u (e.upper + 1)) es ≡ 0
 none_later t u [] h = refl
 none_later t u (e ∷ es) h =
-    let here : ◌≡◌ {A = ℕ} (cond (t e && nat_lt u (e.upper + 1)) 1 0) 0 = ⊎_elim (λ (d : e.upper < u). ap (λ b. let n : ℕ = cond (t e && b) 1 0 in n) (le-ltb u (e.upper + 1) (omega (arith, d))) ∙ no_pass (t e)) (λ d. absurd (false≢true (h.0 d))) (cases_lt e.upper u) in
+    let here : ◌≡◌ {A = ℕ} (cond (t e && nat_lt u (e.upper + 1)) 1 0) 0 =
+    ⊎_elim (λ (d : e.upper < u). ap (λ b. let n : ℕ = cond (t e && b) 1 0 in n) (le-ltb u (e.upper + 1) (omega (arith, d))) ∙ no_pass (t e)) (λ d. absurd (false≢true (h.0 d))) (cases_lt e.upper u) in
     omega (arith, sum_by-cons (λ (x : Edge). cond (t x && nat_lt u (x.upper + 1)) 1 0) e es, here, none_later t u es h.1)
 
 first_place : (s : Standing) (ss : List Standing) (u n : ℕ) → n ≡ u → standing_at (s ∷ ss) (n - u) ≡ s
@@ -97,7 +124,14 @@ all_given t u (s ∷ ss) ports h =
 all_later : (t : Edge → Bool) (es : List Edge) → count_by (λ e. t e && nat_lt 0 (e.upper + 1)) es ≡ count_by t es
 all_later t [] = refl
 all_later t (e ∷ es) =
-    omega (arith, sum_by-cons (λ (x : Edge). cond (t x && nat_lt 0 (x.upper + 1)) 1 0) e es, sum_by-cons (λ (x : Edge). cond (t x) 1 0) e es, ap (λ b. let n : ℕ = cond (t e && b) 1 0 in n) (lt-ltb 0 (e.upper + 1) (omega arith)), own_pass (t e), all_later t es)
+    omega (
+      arith,
+      sum_by-cons (λ (x : Edge). cond (t x && nat_lt 0 (x.upper + 1)) 1 0) e es,
+      sum_by-cons (λ (x : Edge). cond (t x) 1 0) e es,
+      ap (λ b. let n : ℕ = cond (t e && b) 1 0 in n) (lt-ltb 0 (e.upper + 1) (omega arith)),
+      own_pass (t e),
+      all_later t es,
+    )
 
 at_bridges : (rows : List Standing) (ports : List Edge) → AllByRecursion (λ e. is_bridge (standing_at rows e.upper) ≡ true) ports → AllByRecursion (λ e. 0 ≤ e.upper → is_bridge (standing_at rows (e.upper - 0)) ≡ true) ports
 at_bridges rows ports h = each (λ e is _. ap (λ n. is_bridge (standing_at rows n)) (let same : e.upper - 0 ≡ e.upper = omega arith in same) ∙ is) ports h

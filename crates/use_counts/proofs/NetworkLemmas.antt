@@ -57,12 +57,14 @@ level_in fixed ports nodes h k within =
     let same = ap (λ (p : Member). p.level) (at_points nodes k within) in
     (omega (arith, t.0, same), omega (arith, t.1, same))
 
-available_is : (fixed ports : List Edge) (nodes : List Node) → HasLevels (net fixed ports nodes) → IsCalm (fixed ++ ports) nodes → (levels k : ℕ) → k < length nodes → (node_at nodes k).level ≤ levels → available_at nodes k ≡ available_within levels (net fixed ports nodes) k
+available_is : (fixed ports : List Edge) (nodes : List Node) → HasLevels (net fixed ports nodes) → IsCalm (fixed ++ ports) nodes → (levels k : ℕ) → k < length nodes → (node_at nodes k).level ≤ levels → available_at nodes k
+    ≡ available_within levels (net fixed ports nodes) k
 unfolding available_within
 available_is fixed ports nodes h rest zero k within low = absurd (omega (arith, (level_in fixed ports nodes h k within).0))
 available_is fixed ports nodes h rest (suc levels) k within low =
     let below = available_within levels (net fixed ports nodes) in
-    let same = counted_agree upper_end lower_end below (available_at nodes) k (fixed ++ ports) (each (λ e r eq. available_is fixed ports nodes h rest levels e.lower r.lower_in (omega (arith, r.order, low, ap (λ n. (node_at nodes n).level) eq))) (fixed ++ ports) (edges_rise fixed ports nodes h)) in
+    let same = counted_agree upper_end lower_end below (available_at nodes) k (fixed ++ ports)
+    (each (λ e r eq. available_is fixed ports nodes h rest levels e.lower r.lower_in (omega (arith, r.order, low, ap (λ n. (node_at nodes n).level) eq))) (fixed ++ ports) (edges_rise fixed ports nodes h)) in
     (rest.kept.stale k (rest.ups k)).available ∙ ap (opens (node_at nodes k).kind (node_at nodes k).present) (rest.kept.open_lowers k ∙ same)
     ∙ ap (λ (p : Member). opens p.kind p.present (counted upper_end lower_end below (fixed ++ ports) k)) (sym (at_points nodes k within))
 
@@ -70,14 +72,16 @@ pub kept_available : (fixed ports : List Edge) (nodes : List Node) → HasLevels
 unfolding available
 kept_available fixed ports nodes h rest k within = available_is fixed ports nodes h rest 8 k within (level_in fixed ports nodes h k within).1
 
-link_is : (fixed ports : List Edge) (nodes : List Node) → HasLevels (net fixed ports nodes) → IsCalm (fixed ++ ports) nodes → (levels k : ℕ) → k < length nodes → (node_at nodes k).level ≤ levels → link_at nodes k ≡ link_within levels (net fixed ports nodes) k
+link_is : (fixed ports : List Edge) (nodes : List Node) → HasLevels (net fixed ports nodes) → IsCalm (fixed ++ ports) nodes → (levels k : ℕ) → k < length nodes → (node_at nodes k).level ≤ levels → link_at nodes k
+    ≡ link_within levels (net fixed ports nodes) k
 unfolding link_within
 link_is fixed ports nodes h rest zero k within low = absurd (omega (arith, (level_in fixed ports nodes h k within).0))
 link_is fixed ports nodes h rest (suc levels) k within low =
     let below = link_within levels (net fixed ports nodes) in
     let n = node_at nodes k in
     let here = available (net fixed ports nodes) k in
-    let same = counted_agree upper_end lower_end below (link_at nodes) k (fixed ++ ports) (each (λ e r eq. link_is fixed ports nodes h rest levels e.lower r.lower_in (omega (arith, r.order, low, ap (λ n. (node_at nodes n).level) eq))) (fixed ++ ports) (edges_rise fixed ports nodes h)) in
+    let same = counted_agree upper_end lower_end below (link_at nodes) k (fixed ++ ports)
+    (each (λ e r eq. link_is fixed ports nodes h rest levels e.lower r.lower_in (omega (arith, r.order, low, ap (λ n. (node_at nodes n).level) eq))) (fixed ++ ports) (edges_rise fixed ports nodes h)) in
     (rest.kept.stale k (rest.ups k)).link ∙ ap (λ b. links n.kind b (carries n) n.linked_lowers) (kept_available fixed ports nodes h rest k within)
     ∙ ap (links n.kind here (carries n)) (rest.kept.linked_lowers k ∙ same)
     ∙ ap (λ (p : Member). links p.kind here (p.present && p.carrier) (counted upper_end lower_end below (fixed ++ ports) k)) (sym (at_points nodes k within))
@@ -86,12 +90,14 @@ pub kept_link : (fixed ports : List Edge) (nodes : List Node) → HasLevels (net
 unfolding link
 kept_link fixed ports nodes h rest k within = link_is fixed ports nodes h rest 8 k within (level_in fixed ports nodes h k within).1
 
-used_is : (fixed ports : List Edge) (nodes : List Node) → HasLevels (net fixed ports nodes) → IsCalm (fixed ++ ports) nodes → (levels k : ℕ) → k < length nodes → 9 ≤ (node_at nodes k).level + levels → used_at nodes k ≡ used_within levels (net fixed ports nodes) k
+used_is : (fixed ports : List Edge) (nodes : List Node) → HasLevels (net fixed ports nodes) → IsCalm (fixed ++ ports) nodes → (levels k : ℕ) → k < length nodes → 9 ≤ (node_at nodes k).level + levels → used_at nodes k
+    ≡ used_within levels (net fixed ports nodes) k
 unfolding used_within
 used_is fixed ports nodes h rest zero k within high = absurd (omega (arith, (level_in fixed ports nodes h k within).1))
 used_is fixed ports nodes h rest (suc levels) k within high =
     let over = used_within levels (net fixed ports nodes) in
-    let same = counted_agree lower_end upper_end over (used_at nodes) k (fixed ++ ports) (each (λ e r eq. used_is fixed ports nodes h rest levels e.upper r.upper_in (omega (arith, r.order, high, ap (λ n. (node_at nodes n).level) eq))) (fixed ++ ports) (edges_rise fixed ports nodes h)) in
+    let same = counted_agree lower_end upper_end over (used_at nodes) k (fixed ++ ports)
+    (each (λ e r eq. used_is fixed ports nodes h rest levels e.upper r.upper_in (omega (arith, r.order, high, ap (λ n. (node_at nodes n).level) eq))) (fixed ++ ports) (edges_rise fixed ports nodes h)) in
     let claims = ap (λ (p : Member). p.claims) (at_points nodes k within) in
     let demand : (node_at nodes k).demand ≡ (member_at (map member_of nodes) k).claims + counted lower_end upper_end over (fixed ++ ports) k = omega (arith, rest.kept.demand k, same, claims) in
     rest.kept.use_stale k (rest.downs k) ∙ ap (λ b. is_used b (node_at nodes k).demand) (kept_available fixed ports nodes h rest k within) ∙ ap (is_used (available (net fixed ports nodes) k)) demand
@@ -100,7 +106,8 @@ pub kept_used : (fixed ports : List Edge) (nodes : List Node) → HasLevels (net
 unfolding used
 kept_used fixed ports nodes h rest k within = used_is fixed ports nodes h rest 8 k within (omega (arith, (level_in fixed ports nodes h k within).0))
 
-pub kept_users : (fixed ports : List Edge) (nodes : List Node) → HasLevels (net fixed ports nodes) → IsCalm (fixed ++ ports) nodes → (k : ℕ) → k < length nodes → cond (node_at nodes k).available (node_at nodes k).demand 0 ≡ users (net fixed ports nodes) k
+pub kept_users : (fixed ports : List Edge) (nodes : List Node) → HasLevels (net fixed ports nodes) → IsCalm (fixed ++ ports) nodes → (k : ℕ) → k < length nodes → cond (node_at nodes k).available (node_at nodes k).demand 0
+    ≡ users (net fixed ports nodes) k
 unfolding users
 kept_users fixed ports nodes h rest k within =
     let same = counted_agree lower_end upper_end (used (net fixed ports nodes)) (used_at nodes) k (fixed ++ ports) (each (λ e r eq. kept_used fixed ports nodes h rest e.upper r.upper_in) (fixed ++ ports) (edges_rise fixed ports nodes h)) in
@@ -135,17 +142,21 @@ or_second false b h = h
 both_same : (a a' b b' l l' m m' : Bool) → a ≡ a' → b ≡ b' → l ≡ l' → m ≡ m' → (differs a b || differs l m) ≡ (differs a' b' || differs l' m')
 both_same a a' b b' l l' m m' p q r s = cc
 
-moved_changed : (fixed ports : List Edge) (old new : List Node) → HasLevels (net fixed ports old) → HasLevels (net fixed ports new) → IsCalm (fixed ++ ports) old → IsCalm (fixed ++ ports) new → length new ≡ length old → (k : ℕ) → k < length old → moved (node_at old k) (node_at new k) ≡ true → changed (net fixed ports old) (net fixed ports new) k ≡ true
+moved_changed : (fixed ports : List Edge) (old new : List Node) → HasLevels (net fixed ports old) → HasLevels (net fixed ports new) → IsCalm (fixed ++ ports) old → IsCalm (fixed ++ ports) new → length new ≡ length old → (k : ℕ)
+    → k < length old → moved (node_at old k) (node_at new k) ≡ true → changed (net fixed ports old) (net fixed ports new) k ≡ true
 moved_changed fixed ports old new h i before after long k within t =
     let there : k < length new = omega arith in
-    or_first _ _ (sym (both_same _ _ _ _ _ _ _ _ (kept_available fixed ports old h before k within) (kept_available fixed ports new i after k there) (kept_link fixed ports old h before k within) (kept_link fixed ports new i after k there)) ∙ t)
+    or_first _ _ (sym (both_same _ _ _ _ _ _ _ _ (kept_available fixed ports old h before k within) (kept_available fixed ports new i after k there) (kept_link fixed ports old h before k within) (kept_link fixed ports new i after k there))
+    ∙ t)
 
-used_changed : (fixed ports : List Edge) (old new : List Node) → HasLevels (net fixed ports old) → HasLevels (net fixed ports new) → IsCalm (fixed ++ ports) old → IsCalm (fixed ++ ports) new → length new ≡ length old → (k : ℕ) → k < length old → differs (used_at old k) (used_at new k) ≡ true → changed (net fixed ports old) (net fixed ports new) k ≡ true
+used_changed : (fixed ports : List Edge) (old new : List Node) → HasLevels (net fixed ports old) → HasLevels (net fixed ports new) → IsCalm (fixed ++ ports) old → IsCalm (fixed ++ ports) new → length new ≡ length old → (k : ℕ)
+    → k < length old → differs (used_at old k) (used_at new k) ≡ true → changed (net fixed ports old) (net fixed ports new) k ≡ true
 used_changed fixed ports old new h i before after long k within t =
     let there : k < length new = omega arith in
     or_second _ _ (sym (ap (λ b. differs b (used_at new k)) (kept_used fixed ports old h before k within) ∙ ap (differs (used (net fixed ports old) k)) (kept_used fixed ports new i after k there)) ∙ t)
 
-pub payment_within : (fixed ports : List Edge) (old new : List Node) → HasLevels (net fixed ports old) → HasLevels (net fixed ports new) → IsCalm (fixed ++ ports) old → IsCalm (fixed ++ ports) new → length new ≡ length old → visits_due (fixed ++ ports) old new ≤ 2 * changed_edges (net fixed ports old) (net fixed ports new)
+pub payment_within : (fixed ports : List Edge) (old new : List Node) → HasLevels (net fixed ports old) → HasLevels (net fixed ports new) → IsCalm (fixed ++ ports) old → IsCalm (fixed ++ ports) new → length new ≡ length old
+    → visits_due (fixed ++ ports) old new ≤ 2 * changed_edges (net fixed ports old) (net fixed ports new)
 unfolding changed_edges
 payment_within fixed ports old new h i before after long =
     let ups = touching_among lower_end (λ k. moved (node_at old k) (node_at new k)) (λ e. changed (net fixed ports old) (net fixed ports new) e.lower || changed (net fixed ports old) (net fixed ports new) e.upper) (fixed ++ ports)
@@ -180,7 +191,8 @@ levels_kept n id p within h same claims =
       claims = All-set (λ q. q.claims ≤ 1024) n.members id p claims h.claims;
     }
 
-pub levels_after : (fixed ports : List Edge) (old new : List Node) (id : ℕ) (p : Member) → id < length old → HasLevels (net fixed ports old) → map member_of new ≡ slice_set (map member_of old) id p → row_of p ≡ row_of (member_of (node_at old id)) → p.claims ≤ 1024 → HasLevels (net fixed ports new)
+pub levels_after : (fixed ports : List Edge) (old new : List Node) (id : ℕ) (p : Member) → id < length old → HasLevels (net fixed ports old) → map member_of new ≡ slice_set (map member_of old) id p → row_of p
+    ≡ row_of (member_of (node_at old id)) → p.claims ≤ 1024 → HasLevels (net fixed ports new)
 levels_after fixed ports old new id p within h is same claims =
     let within_points : id < length (map member_of old) = omega (arith, length-map old member_of) in
     let P : List Member → Type 0 = λ ps. HasLevels (record { members = ps; fixed = fixed; ports = ports }) in

@@ -53,9 +53,24 @@ kept_fresh rank rows nodes edges f plain =
     let link : (k : ℕ) → link_at nodes k ≡ false = λ k. at_fresh rank rows nodes f (λ n. n.link ≡ false) k refl refl in
     let used : (k : ℕ) → used_at nodes k ≡ false = λ k. at_fresh rank rows nodes f (λ n. n.used ≡ false) k refl refl in
     record {
-      open_lowers = λ k. omega (arith, at_fresh rank rows nodes f (λ n. n.open_lowers ≡ 0) k refl refl, counted_same upper_end lower_end (λ _. false) (available_at nodes) k edges (everywhere (λ e. available e.lower) edges), counted_none upper_end lower_end k edges);
-      linked_lowers = λ k. omega (arith, at_fresh rank rows nodes f (λ n. n.linked_lowers ≡ 0) k refl refl, counted_same upper_end lower_end (λ _. false) (link_at nodes) k edges (everywhere (λ e. link e.lower) edges), counted_none upper_end lower_end k edges);
-      demand = λ k. omega (arith, at_fresh rank rows nodes f (λ n. n.demand ≡ n.claims) k refl refl, counted_same lower_end upper_end (λ _. false) (used_at nodes) k edges (everywhere (λ e. used e.upper) edges), counted_none lower_end upper_end k edges);
+      open_lowers = λ k. omega (
+        arith,
+        at_fresh rank rows nodes f (λ n. n.open_lowers ≡ 0) k refl refl,
+        counted_same upper_end lower_end (λ _. false) (available_at nodes) k edges (everywhere (λ e. available e.lower) edges),
+        counted_none upper_end lower_end k edges,
+      );
+      linked_lowers = λ k. omega (
+        arith,
+        at_fresh rank rows nodes f (λ n. n.linked_lowers ≡ 0) k refl refl,
+        counted_same upper_end lower_end (λ _. false) (link_at nodes) k edges (everywhere (λ e. link e.lower) edges),
+        counted_none upper_end lower_end k edges,
+      );
+      demand = λ k. omega (
+        arith,
+        at_fresh rank rows nodes f (λ n. n.demand ≡ n.claims) k refl refl,
+        counted_same lower_end upper_end (λ _. false) (used_at nodes) k edges (everywhere (λ e. used e.upper) edges),
+        counted_none lower_end upper_end k edges,
+      );
       stale = λ k. at_fresh rank rows nodes f (λ n. n.stale ≡ false → FollowsCounts n) k (right_fresh rank rows k plain) (λ _. right_blank);
       use_stale = λ k. at_fresh rank rows nodes f UseFollows k (λ _. refl) (λ _. refl);
     }
@@ -73,7 +88,8 @@ fresh_stale rank rows nodes f k = at_fresh rank rows nodes f (λ n. 0 < n.rank �
 pub fresh_ranks : (ranks : List ℕ) (rows : List Row) (nodes : List Node) → length ranks ≡ length rows → AreFresh (rank_of ranks) rows nodes → (k : ℕ) → rank_at nodes k ≡ rank_of ranks k
 unfolding no_node
 fresh_ranks ranks rows nodes same f k =
-    ⊎_elim (λ within. ap (λ (n : Node). n.rank) (f.each k within)) (λ past. ap (λ (n : Node). n.rank) (get_or_past nodes k no_node (omega (arith, f.size, past))) ∙ sym (get_or_past ranks k 0 (omega (arith, same, past)))) (cases_lt k (length rows))
+    ⊎_elim (λ within. ap (λ (n : Node). n.rank) (f.each k within)) (λ past. ap (λ (n : Node). n.rank) (get_or_past nodes k no_node (omega (arith, f.size, past))) ∙ sym (get_or_past ranks k 0 (omega (arith, same, past))))
+    (cases_lt k (length rows))
 
 pub fresh_down : (rank : ℕ → ℕ) (rows : List Row) (nodes : List Node) → AreFresh rank rows nodes → (k : ℕ) → (node_at nodes k).use_stale ≡ false
 unfolding no_node

@@ -1,5 +1,6 @@
 -- stored nodes and their marks, when one node is written
-use Rattle.std.proofs.Common.{arith, subst, ℕ, ◌+◌, ◌-◌, ◌<◌, ◌≤◌, ◌≡◌, ◌≢◌, ⊎_elim, Bool, true, false, cond, List, [], ◌∷◌, ◌++◌, ◌*◌, ◌⊎◌, inl, inr, length, slice_index, slice_set, Option, Some, None, IsSome, is_some, IfSome, IfNone, unwrap_or, get_or-set_same, get_or-set_other, length-set, refl, sym, ap, ◌∙◌}
+use Rattle.std.proofs.Common.{arith, subst, ℕ, ◌+◌, ◌-◌, ◌<◌, ◌≤◌, ◌≡◌, ◌≢◌, ⊎_elim, Bool, true, false, cond, List, [], ◌∷◌, ◌++◌, ◌*◌, ◌⊎◌, inl, inr, length, slice_index, slice_set, Option, Some, None, IsSome, is_some, IfSome, IfNone}
+use Rattle.std.proofs.Common.{unwrap_or, get_or-set_same, get_or-set_other, length-set, refl, sym, ap, ◌∙◌}
 use Rattle.std.proofs.lemmas.Bool.{cases_eq, cases_lt, false≢true}
 use Rattle.std.proofs.lemmas.List.{get_or-map, get_or_past, ext_get_or, length-map, length-append, get_or_append_left, get_or_push}
 use Rattle.slab.specs.Slab.{Slab, get, with_value, Updates}
@@ -33,7 +34,8 @@ put_list slab keys place node within are =
     (λ k h.
     let there : k < length keys = omega (arith, h, length-map keys (stored new)) in
     ⊎_elim
-    (λ e. subst (λ (n : ℕ). node_at (list_of new keys) n ≡ node_at (slice_set old place node) n) (sym e) (at_keys new keys place within ∙ stored_same slab key node (are.held place within) ∙ sym (get_or-set_same old place node no_node inside)))
+    (λ e. subst (λ (n : ℕ). node_at (list_of new keys) n ≡ node_at (slice_set old place node) n) (sym e)
+    (at_keys new keys place within ∙ stored_same slab key node (are.held place within) ∙ sym (get_or-set_same old place node no_node inside)))
     (λ ne. at_keys new keys k there ∙ stored_other slab key (slice_index keys k) node (λ e. ne (are.apart k place there within e)) ∙ sym (at_keys slab keys k there) ∙ sym (get_or-set_other old place k node no_node ne))
     (cases_eq k place))
 
@@ -97,7 +99,8 @@ module _ (index : ℕ → ℕ) (flag : Node → Bool) (nodes : List Node) (words
             subst (λ (x : Node). mark words (index x.rank) ≡ 1) (sym is) (are.all k (subst (λ (x : Node). 0 < x.rank) is made) (ap flag (sym is) ∙ flagged));
       }
 
-  pub marked_put : 0 < node.rank → ((k : ℕ) → 0 < rank_at nodes k → k ≢ place → index (rank_at nodes k) ≢ index node.rank) → mark words' (index node.rank) ≡ cond (flag node) 1 0 → ((n : ℕ) → n ≢ index node.rank → mark words' n ≡ mark words n) → AreMarked index flag (slice_set nodes place node) words'
+  pub marked_put : 0 < node.rank → ((k : ℕ) → 0 < rank_at nodes k → k ≢ place → index (rank_at nodes k) ≢ index node.rank) → mark words' (index node.rank) ≡ cond (flag node) 1 0
+      → ((n : ℕ) → n ≢ index node.rank → mark words' n ≡ mark words n) → AreMarked index flag (slice_set nodes place node) words'
   marked_put made apart put others =
       record {
         some = λ n h. ⊎_elim
@@ -120,14 +123,17 @@ module _ (index : ℕ → ℕ) (flag : Node → Bool) (nodes : List Node) (words
             (cases_eq k place);
       }
 
-upward_apart : (made : ℕ) (nodes : List Node) (place : ℕ) (node : Node) → AreRanked made nodes → node.rank ≡ rank_at nodes place → 0 < node.rank → (k : ℕ) → 0 < rank_at nodes k → k ≢ place → upward_index (rank_at nodes k) ≢ upward_index node.rank
+upward_apart : (made : ℕ) (nodes : List Node) (place : ℕ) (node : Node) → AreRanked made nodes → node.rank ≡ rank_at nodes place → 0 < node.rank → (k : ℕ) → 0 < rank_at nodes k → k ≢ place
+    → upward_index (rank_at nodes k) ≢ upward_index node.rank
 upward_apart made nodes place node are same some k there ne e = ne (are.one k place there (omega (arith, e, same, some, there)))
 
-downward_apart : (made : ℕ) (nodes : List Node) (place : ℕ) (node : Node) → AreRanked made nodes → node.rank ≡ rank_at nodes place → 0 < node.rank → (k : ℕ) → 0 < rank_at nodes k → k ≢ place → downward_index made (rank_at nodes k) ≢ downward_index made node.rank
+downward_apart : (made : ℕ) (nodes : List Node) (place : ℕ) (node : Node) → AreRanked made nodes → node.rank ≡ rank_at nodes place → 0 < node.rank → (k : ℕ) → 0 < rank_at nodes k → k ≢ place
+    → downward_index made (rank_at nodes k) ≢ downward_index made node.rank
 downward_apart made nodes place node are same some k there ne e = ne (are.one k place there (omega (arith, e, same, some, there, are.top k, are.top place)))
 
 -- the marks after a write of a node that is not made, and of one that is
-pub sound_plain : (slab : Slab Node) (keys : List ℕ) (made : ℕ) (stale use_stale : List ℕ) (place : ℕ) (node : Node) → AreSound slab keys made stale use_stale → place < length keys → node.rank ≡ rank_at (list_of slab keys) place → node.rank ≡ 0 → AreSound (with_value slab (slice_index keys place) node) keys made stale use_stale
+pub sound_plain : (slab : Slab Node) (keys : List ℕ) (made : ℕ) (stale use_stale : List ℕ) (place : ℕ) (node : Node) → AreSound slab keys made stale use_stale → place < length keys → node.rank ≡ rank_at (list_of slab keys) place → node.rank
+    ≡ 0 → AreSound (with_value slab (slice_index keys place) node) keys made stale use_stale
 sound_plain slab keys made stale use_stale place node s within same none =
     let nodes = list_of slab keys in
     let inside : place < length nodes = omega (arith, within, length-map keys (stored slab)) in
@@ -141,7 +147,9 @@ sound_plain slab keys made stale use_stale place node s within same none =
       use_marks = subst (λ (ns : List Node). AreMarked (downward_index made) is_use_stale ns use_stale) is (marked_plain (downward_index made) is_use_stale nodes use_stale use_stale place node inside same s.use_marks none);
     }
 
-pub sound_put : (slab : Slab Node) (keys : List ℕ) (made : ℕ) (stale use_stale stale' use_stale' : List ℕ) (place : ℕ) (node : Node) → AreSound slab keys made stale use_stale → place < length keys → node.rank ≡ rank_at (list_of slab keys) place → 0 < node.rank → length stale' ≡ length stale → length use_stale' ≡ length use_stale → mark stale' (node.rank - 1) ≡ cond node.stale 1 0 → ((n : ℕ) → n ≢ node.rank - 1 → mark stale' n ≡ mark stale n) → mark use_stale' (made - node.rank) ≡ cond node.use_stale 1 0 → ((n : ℕ) → n ≢ made - node.rank → mark use_stale' n ≡ mark use_stale n) → AreSound (with_value slab (slice_index keys place) node) keys made stale' use_stale'
+pub sound_put : (slab : Slab Node) (keys : List ℕ) (made : ℕ) (stale use_stale stale' use_stale' : List ℕ) (place : ℕ) (node : Node) → AreSound slab keys made stale use_stale → place < length keys → node.rank
+    ≡ rank_at (list_of slab keys) place → 0 < node.rank → length stale' ≡ length stale → length use_stale' ≡ length use_stale → mark stale' (node.rank - 1) ≡ cond node.stale 1 0 → ((n : ℕ) → n ≢ node.rank - 1 → mark stale' n ≡ mark stale n)
+    → mark use_stale' (made - node.rank) ≡ cond node.use_stale 1 0 → ((n : ℕ) → n ≢ made - node.rank → mark use_stale' n ≡ mark use_stale n) → AreSound (with_value slab (slice_index keys place) node) keys made stale' use_stale'
 sound_put slab keys made stale use_stale stale' use_stale' place node s within same some long use_long put others use_put use_others =
     let nodes = list_of slab keys in
     let inside : place < length nodes = omega (arith, within, length-map keys (stored slab)) in
@@ -151,8 +159,10 @@ sound_put slab keys made stale use_stale stale' use_stale' place node s within s
       ranked = subst (λ (ns : List Node). AreRanked made ns) is (ranked_put made nodes place node inside same s.ranked);
       stale_room = omega (arith, s.stale_room, long);
       use_room = omega (arith, s.use_room, use_long);
-      stale_marks = subst (λ (ns : List Node). AreMarked upward_index is_stale ns stale') is (marked_put upward_index is_stale nodes stale stale' place node inside same s.stale_marks some (upward_apart made nodes place node s.ranked same some) put others);
-      use_marks = subst (λ (ns : List Node). AreMarked (downward_index made) is_use_stale ns use_stale') is (marked_put (downward_index made) is_use_stale nodes use_stale use_stale' place node inside same s.use_marks some (downward_apart made nodes place node s.ranked same some) use_put use_others);
+      stale_marks = subst (λ (ns : List Node). AreMarked upward_index is_stale ns stale') is
+          (marked_put upward_index is_stale nodes stale stale' place node inside same s.stale_marks some (upward_apart made nodes place node s.ranked same some) put others);
+      use_marks = subst (λ (ns : List Node). AreMarked (downward_index made) is_use_stale ns use_stale') is
+          (marked_put (downward_index made) is_use_stale nodes use_stale use_stale' place node inside same s.use_marks some (downward_apart made nodes place node s.ranked same some) use_put use_others);
     }
 
 not_flagged : (b : Bool) → (b ≡ true → ⊥) → b ≡ false
@@ -160,7 +170,8 @@ not_flagged true h = absurd (h refl)
 not_flagged false h = refl
 
 -- the first mark is that of the least rank
-pub first_found : (slab : Slab Node) (keys : List ℕ) (made : ℕ) (stale use_stale : List ℕ) (result : Option ℕ) → AreSound slab keys made stale use_stale → IfSome result (λ n. mark stale n ≡ 1) → IfSome result (λ n. (m : ℕ) → m < n → mark stale m ≡ 0) → IfSome result (IsFirstStale (list_of slab keys))
+pub first_found : (slab : Slab Node) (keys : List ℕ) (made : ℕ) (stale use_stale : List ℕ) (result : Option ℕ) → AreSound slab keys made stale use_stale → IfSome result (λ n. mark stale n ≡ 1)
+    → IfSome result (λ n. (m : ℕ) → m < n → mark stale m ≡ 0) → IfSome result (IsFirstStale (list_of slab keys))
 first_found slab keys made stale use_stale None s found least = tt
 first_found slab keys made stale use_stale (Some n) s found least =
     let m = s.stale_marks.some n found in
@@ -172,11 +183,13 @@ first_found slab keys made stale use_stale (Some n) s found least =
       least = λ k some flagged. ⊎_elim (λ (h : n < rank_at nodes k). h) (λ past. absurd (omega (arith, s.stale_marks.all k some flagged, least (rank_at nodes k - 1) (omega (arith, past, some))))) (cases_lt n (rank_at nodes k));
     }
 
-pub first_none : (slab : Slab Node) (keys : List ℕ) (made : ℕ) (stale use_stale : List ℕ) (result : Option ℕ) → AreSound slab keys made stale use_stale → IfNone result ((m : ℕ) → mark stale m ≡ 0) → IfNone result ((k : ℕ) → 0 < rank_at (list_of slab keys) k → (node_at (list_of slab keys) k).stale ≡ false)
+pub first_none : (slab : Slab Node) (keys : List ℕ) (made : ℕ) (stale use_stale : List ℕ) (result : Option ℕ) → AreSound slab keys made stale use_stale → IfNone result ((m : ℕ) → mark stale m ≡ 0)
+    → IfNone result ((k : ℕ) → 0 < rank_at (list_of slab keys) k → (node_at (list_of slab keys) k).stale ≡ false)
 first_none slab keys made stale use_stale (Some n) s none = tt
 first_none slab keys made stale use_stale None s none = λ k some. not_flagged (node_at (list_of slab keys) k).stale (λ flagged. omega (arith, s.stale_marks.all k some flagged, none (rank_at (list_of slab keys) k - 1)))
 
-pub last_found : (slab : Slab Node) (keys : List ℕ) (made : ℕ) (stale use_stale : List ℕ) (n turn : ℕ) → AreSound slab keys made stale use_stale → mark use_stale n ≡ 1 → ((m : ℕ) → m < n → mark use_stale m ≡ 0) → turn ≡ made - 1 - n → IsLastUseStale (list_of slab keys) turn
+pub last_found : (slab : Slab Node) (keys : List ℕ) (made : ℕ) (stale use_stale : List ℕ) (n turn : ℕ) → AreSound slab keys made stale use_stale → mark use_stale n ≡ 1 → ((m : ℕ) → m < n → mark use_stale m ≡ 0) → turn ≡ made - 1 - n
+    → IsLastUseStale (list_of slab keys) turn
 last_found slab keys made stale use_stale n turn s found least is =
     let m = s.use_marks.some n found in
     let nodes = list_of slab keys in
@@ -184,13 +197,15 @@ last_found slab keys made stale use_stale n turn s found least is =
       place = m.place;
       rank = omega (arith, m.is, m.made, s.ranked.top m.place, is);
       use_stale = m.flagged;
-      greatest = λ k some flagged. ⊎_elim (λ (h : turn + 1 < rank_at nodes k). absurd (omega (arith, s.use_marks.all k some flagged, least (made - rank_at nodes k) (omega (arith, h, m.is, m.made, s.ranked.top k, s.ranked.top m.place, is))))) (λ h. h) (cases_lt (turn + 1) (rank_at nodes k));
+      greatest = λ k some flagged. ⊎_elim (λ (h : turn + 1 < rank_at nodes k). absurd
+          (omega (arith, s.use_marks.all k some flagged, least (made - rank_at nodes k) (omega (arith, h, m.is, m.made, s.ranked.top k, s.ranked.top m.place, is))))) (λ h. h) (cases_lt (turn + 1) (rank_at nodes k));
     }
 
 pub last_within : (slab : Slab Node) (keys : List ℕ) (made : ℕ) (stale use_stale : List ℕ) (n : ℕ) → AreSound slab keys made stale use_stale → mark use_stale n ≡ 1 → n < made
 last_within slab keys made stale use_stale n s found = let m = s.use_marks.some n found in omega (arith, m.is, m.made, s.ranked.top m.place)
 
-pub last_none : (slab : Slab Node) (keys : List ℕ) (made : ℕ) (stale use_stale : List ℕ) → AreSound slab keys made stale use_stale → ((m : ℕ) → mark use_stale m ≡ 0) → (k : ℕ) → 0 < rank_at (list_of slab keys) k → (node_at (list_of slab keys) k).use_stale ≡ false
+pub last_none : (slab : Slab Node) (keys : List ℕ) (made : ℕ) (stale use_stale : List ℕ) → AreSound slab keys made stale use_stale → ((m : ℕ) → mark use_stale m ≡ 0) → (k : ℕ) → 0 < rank_at (list_of slab keys) k
+    → (node_at (list_of slab keys) k).use_stale ≡ false
 last_none slab keys made stale use_stale s none k some = not_flagged (node_at (list_of slab keys) k).use_stale (λ flagged. omega (arith, s.use_marks.all k some flagged, none (made - rank_at (list_of slab keys) k)))
 
 -- one node more is stored
@@ -217,7 +232,8 @@ keys_push slab new keys key node are vacant updates =
           (cases j h);
     }
 
-pub nodes_push : (slab new : Slab Node) (keys : List ℕ) (key : ℕ) (node : Node) → AreKeys slab keys → get slab key ≡ None → Updates slab new key (Some node) → (k : ℕ) → k < length keys → node_at (list_of new (keys ++ key ∷ [])) k ≡ node_at (list_of slab keys) k
+pub nodes_push : (slab new : Slab Node) (keys : List ℕ) (key : ℕ) (node : Node) → AreKeys slab keys → get slab key ≡ None → Updates slab new key (Some node) → (k : ℕ) → k < length keys → node_at (list_of new (keys ++ key ∷ [])) k
+    ≡ node_at (list_of slab keys) k
 nodes_push slab new keys key node are vacant updates k h =
     let there : k < length (keys ++ key ∷ []) = omega (arith, h, length-append keys (key ∷ [])) in
     at_keys new (keys ++ key ∷ []) k there ∙ ap (stored new) (get_or_append_left keys (key ∷ []) 0 k h)
@@ -229,7 +245,9 @@ node_pushed slab new keys key node updates =
     ∙ ap (λ o. unwrap_or o no_node) updates.changed
 
 -- new nodes, of which each made one is stale
-pub sound_new : (slab : Slab Node) (keys ranks : List ℕ) (made : ℕ) (stale use_stale : List ℕ) (rows : List Row) → AreKeys slab keys → AreFresh (rank_of ranks) rows (list_of slab keys) → length ranks ≡ length rows → ((k : ℕ) → rank_of ranks k ≤ made) → ((j k : ℕ) → 0 < rank_of ranks j → rank_of ranks j ≡ rank_of ranks k → j ≡ k) → ((turn : ℕ) → turn < made → HasRank ranks turn) → made ≤ 64 * length stale → made ≤ 64 * length use_stale → ((n : ℕ) → mark stale n ≡ 1 → n < made) → ((n : ℕ) → n < made → mark stale n ≡ 1) → ((n : ℕ) → mark use_stale n ≡ 0) → AreSound slab keys made stale use_stale
+pub sound_new : (slab : Slab Node) (keys ranks : List ℕ) (made : ℕ) (stale use_stale : List ℕ) (rows : List Row) → AreKeys slab keys → AreFresh (rank_of ranks) rows (list_of slab keys) → length ranks ≡ length rows
+    → ((k : ℕ) → rank_of ranks k ≤ made) → ((j k : ℕ) → 0 < rank_of ranks j → rank_of ranks j ≡ rank_of ranks k → j ≡ k) → ((turn : ℕ) → turn < made → HasRank ranks turn) → made ≤ 64 * length stale → made ≤ 64 * length use_stale
+    → ((n : ℕ) → mark stale n ≡ 1 → n < made) → ((n : ℕ) → n < made → mark stale n ≡ 1) → ((n : ℕ) → mark use_stale n ≡ 0) → AreSound slab keys made stale use_stale
 sound_new slab keys ranks made stale use_stale rows are fresh same top one all room use_room within marked none =
     let nodes = list_of slab keys in
     let is = fresh_ranks ranks rows nodes same fresh in

@@ -1,5 +1,6 @@
 -- the order of made nodes and their ranks
-use Rattle.std.proofs.Common.{arith, ⊎_elim, ℕ, ◌+◌, ◌-◌, ◌<◌, ◌≤◌, ◌≡◌, ◌≢◌, ◌==◌, ◌&&◌, subst, zero, suc, take, replicate, Bool, true, false, List, [], ◌∷◌, ◌++◌, length, map, get_or, slice_index, slice_set, get_or-set_same, get_or-set_other, length-set, refl, sym, ap, ◌∙◌}
+use Rattle.std.proofs.Common.{arith, ⊎_elim, ℕ, ◌+◌, ◌-◌, ◌<◌, ◌≤◌, ◌≡◌, ◌≢◌, ◌==◌, ◌&&◌, subst, zero, suc, take, replicate, Bool, true, false, List, [], ◌∷◌, ◌++◌, length, map, get_or, slice_index, slice_set, get_or-set_same}
+use Rattle.std.proofs.Common.{get_or-set_other, length-set, refl, sym, ap, ◌∙◌}
 use Rattle.std.proofs.lemmas.Bool.{cases_eq, cases_lt, eq-eqb, true≢false}
 use Rattle.std.proofs.lemmas.List.{get_or_past, length-map, length-append, length-replicate, get_or-replicate, get_or_append_left, get_or_push}
 use Rattle.use_counts.specs.declared.node.Edge.{Edge}
@@ -22,7 +23,8 @@ row_past : (rows : List Row) (k : ℕ) → length rows ≤ k → is_made (row_at
 row_past rows k past = ap (λ (r : Row). is_made r.kind) (get_or_past rows k (record { kind = Broken; level = 0 }) past)
 
 -- a row that is not of the level, or not made, is passed over
-pub placed_skip : (rows : List Row) (level place : ℕ) (places ranks : List ℕ) → (is_made (row_at rows place).kind && (level_at rows place == level)) ≡ false → ArePlaced rows level place places ranks → ArePlaced rows level (place + 1) places ranks
+pub placed_skip : (rows : List Row) (level place : ℕ) (places ranks : List ℕ) → (is_made (row_at rows place).kind && (level_at rows place == level)) ≡ false → ArePlaced rows level place places ranks
+    → ArePlaced rows level (place + 1) places ranks
 placed_skip rows level place places ranks other p =
     record {
       long = p.long;
@@ -33,7 +35,8 @@ placed_skip rows level place places ranks other p =
           let b = before up in (
             b.0,
             ⊎_elim
-                (λ (e : k ≡ place). absurd (true≢false (sym (both (is_made (row_at rows k).kind) (level_at rows k == level) made (eq-eqb (level_at rows k) level b.0)) ∙ ap (λ n. is_made (row_at rows n).kind && (level_at rows n == level)) e ∙ other)))
+                (λ (e : k ≡ place). absurd (true≢false (sym (both (is_made (row_at rows k).kind) (level_at rows k == level) made (eq-eqb (level_at rows k) level b.0)) ∙ ap (λ n. is_made (row_at rows n).kind && (level_at rows n == level)) e
+                ∙ other)))
                 (λ ne. omega (arith, b.1, ne))
                 (cases_eq k place),
           ));

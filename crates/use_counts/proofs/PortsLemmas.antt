@@ -72,7 +72,8 @@ rises_again ms es h =
     All-weaker (Rises ms) (Rises (map loaded (map row_of ms))) (rises_as ms (map loaded (map row_of ms)) (length-map (map row_of ms) loaded ∙ length-map ms row_of) (again_at ms)) es h
 
 -- what can be joined to a network can be loaded with its rows
-pub loads_again : (n : ℕ) (edges ports : List Edge) (ms : List Member) → HasLevels (record { members = ms; fixed = take n edges; ports = drop n edges }) → CanJoin (record { members = ms; fixed = take n edges; ports = drop n edges }) ports → CanLoad (map row_of ms) (take n edges) ports
+pub loads_again : (n : ℕ) (edges ports : List Edge) (ms : List Member) → HasLevels (record { members = ms; fixed = take n edges; ports = drop n edges }) → CanJoin (record { members = ms; fixed = take n edges; ports = drop n edges }) ports
+    → CanLoad (map row_of ms) (take n edges) ports
 loads_again n edges ports ms levels join =
     record {
       levels = All-map HasLevel row_of ms levels.levels;

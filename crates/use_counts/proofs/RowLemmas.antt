@@ -7,7 +7,8 @@ use Rattle.use_counts.specs.NodeRule.{opens, links, is_used, occurs}
 use Rattle.use_counts.specs.Edges.{lower_end, upper_end, counted}
 use Rattle.use_counts.specs.Network.{Network, edges_of, member_at, available_within, link_within, available, link, used_within, used, users}
 use Rattle.use_counts.proofs.EdgeLemmas.{everywhere, counted_same}
-use Rattle.use_counts.specs.Rows.{Standing, Faulty, Alone, Over, Ports, lowers_of, kind_of, standing_at, edge, edges_from, by_levels, row_opens, present_at, carries_at, row_available, row_links, row_link, names, standing_on, row_used, row_users}
+use Rattle.use_counts.specs.Rows.{Standing, Faulty, Alone, Over, Ports, lowers_of, kind_of, standing_at, edge, edges_from, by_levels, row_opens, present_at, carries_at, row_available, row_links, row_link, names, standing_on, row_used}
+use Rattle.use_counts.specs.Rows.{row_users}
 
 some_more : (b t : Bool) (n c : ℕ) → c ≡ cond b 1 0 + n → nat_lt 0 n ≡ t → nat_lt 0 c ≡ (b || t)
 some_more true t n c e h = lt-ltb 0 c (omega arith)
@@ -144,7 +145,8 @@ pub link_row : (rows : List Standing) (net : Network) → AreEdges rows net → 
 unfolding link
 link_row rows net r k = link_rows rows net r 8 k
 
-used_rows : (rows : List Standing) (net : Network) → AreEdges rows net → (levels k : ℕ) → used_within levels net k ≡ by_levels levels (λ above n. is_used (row_available rows net n) ((member_at net.members n).claims + standing_on above n 0 rows)) k
+used_rows : (rows : List Standing) (net : Network) → AreEdges rows net → (levels k : ℕ) → used_within levels net k
+    ≡ by_levels levels (λ above n. is_used (row_available rows net n) ((member_at net.members n).claims + standing_on above n 0 rows)) k
 unfolding used_within by_levels
 used_rows rows net r zero k = refl
 used_rows rows net r (suc levels) k =

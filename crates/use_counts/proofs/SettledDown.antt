@@ -22,17 +22,21 @@ pub demand_fits : (edges : List Edge) (nodes : List Node) (place k : ℕ) → Ho
 demand_fits edges nodes place k kept claims few =
     omega (arith, kept.demand k, counted-le-length lower_end upper_end (used_at nodes) edges k, occurs_ends lower_end upper_end edges place k, joining-le-length lower_end upper_end edges place k)
 
-pub here_called : (rank : ℕ → ℕ) (lowers : List ℕ) (place : ℕ) (old new : List Node) (now : Node) → place < length old → occurs place lowers ≡ 0 → ((k : ℕ) → node_at new k ≡ after_upper (node_at old place).used now.used (nat_lt 0 (rank k)) (node_at (slice_set old place now) k) (occurs k lowers)) → node_at new place ≡ now
+pub here_called : (rank : ℕ → ℕ) (lowers : List ℕ) (place : ℕ) (old new : List Node) (now : Node) → place < length old → occurs place lowers ≡ 0
+    → ((k : ℕ) → node_at new k ≡ after_upper (node_at old place).used now.used (nat_lt 0 (rank k)) (node_at (slice_set old place now) k) (occurs k lowers)) → node_at new place ≡ now
 here_called rank lowers place old new now within none all =
-    all place ∙ ap (after_upper (node_at old place).used now.used (nat_lt 0 (rank place)) (node_at (slice_set old place now) place)) none ∙ called_none (node_at old place).used now.used (nat_lt 0 (rank place)) _ ∙ get_or-set_same old place now no_node within
+    all place ∙ ap (after_upper (node_at old place).used now.used (nat_lt 0 (rank place)) (node_at (slice_set old place now) place)) none ∙ called_none (node_at old place).used now.used (nat_lt 0 (rank place)) _
+    ∙ get_or-set_same old place now no_node within
 
-pub calls_changed : (rank : ℕ → ℕ) (lowers : List ℕ) (place : ℕ) (old new : List Node) (now : Node) → place < length old → occurs place lowers ≡ 0 → now ≡ use_settled (node_at old place) → differs (node_at old place).used now.used ≡ true → ((k : ℕ) → node_at new k ≡ after_upper (node_at old place).used now.used (nat_lt 0 (rank k)) (node_at (slice_set old place now) k) (occurs k lowers)) → UseSettledAt rank lowers place old new
+pub calls_changed : (rank : ℕ → ℕ) (lowers : List ℕ) (place : ℕ) (old new : List Node) (now : Node) → place < length old → occurs place lowers ≡ 0 → now ≡ use_settled (node_at old place) → differs (node_at old place).used now.used ≡ true
+    → ((k : ℕ) → node_at new k ≡ after_upper (node_at old place).used now.used (nat_lt 0 (rank k)) (node_at (slice_set old place now) k) (occurs k lowers)) → UseSettledAt rank lowers place old new
 calls_changed rank lowers place old new now within none is went all =
     let here = here_called rank lowers place old new now within none all in
     record {
       here = here ∙ is;
       others = λ k ne. subst (λ (n : Node). node_at new k ≡ after_upper (used_at old place) n.used (nat_lt 0 (rank k)) (node_at old k) (times (differs (used_at old place) n.used) (occurs k lowers))) (sym here)
-          (all k ∙ ap (λ n. after_upper (used_at old place) now.used (nat_lt 0 (rank k)) n (occurs k lowers)) (get_or-set_other old place k now no_node ne) ∙ ap (λ b. after_upper (used_at old place) now.used (nat_lt 0 (rank k)) (node_at old k) (times b (occurs k lowers))) (sym went));
+          (all k ∙ ap (λ n. after_upper (used_at old place) now.used (nat_lt 0 (rank k)) n (occurs k lowers)) (get_or-set_other old place k now no_node ne)
+          ∙ ap (λ b. after_upper (used_at old place) now.used (nat_lt 0 (rank k)) (node_at old k) (times b (occurs k lowers))) (sym went));
     }
 
 pub differs_true : (a b : Bool) → not (beq a b) ≡ true → differs a b ≡ true

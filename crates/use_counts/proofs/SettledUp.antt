@@ -37,15 +37,18 @@ pub linked_fits : (edges : List Edge) (nodes : List Node) (place k : ℕ) → Ho
 linked_fits edges nodes place k kept few =
     omega (arith, kept.linked_lowers k, counted-le-length upper_end lower_end (link_at nodes) edges k, occurs_ends upper_end lower_end edges place k, joining-le-length upper_end lower_end edges place k)
 
-pub here_moved : (rank : ℕ → ℕ) (uppers : List ℕ) (place : ℕ) (old new : List Node) (now : Node) → place < length old → occurs place uppers ≡ 0 → ((k : ℕ) → node_at new k ≡ after_lower (change_of (node_at old place) now) (node_at (slice_set old place now) k) (occurs k uppers)) → node_at new place ≡ now
+pub here_moved : (rank : ℕ → ℕ) (uppers : List ℕ) (place : ℕ) (old new : List Node) (now : Node) → place < length old → occurs place uppers ≡ 0
+    → ((k : ℕ) → node_at new k ≡ after_lower (change_of (node_at old place) now) (node_at (slice_set old place now) k) (occurs k uppers)) → node_at new place ≡ now
 here_moved rank uppers place old new now within none all =
     all place ∙ ap (after_lower (change_of (node_at old place) now) (node_at (slice_set old place now) place)) none ∙ told_none _ _ ∙ get_or-set_same old place now no_node within
 
-pub spreads_moved : (rank : ℕ → ℕ) (uppers : List ℕ) (place : ℕ) (old new : List Node) (now : Node) → place < length old → occurs place uppers ≡ 0 → now ≡ settled (nat_lt 0 (rank place)) (node_at old place) → moved (node_at old place) now ≡ true → ((k : ℕ) → node_at new k ≡ after_lower (change_of (node_at old place) now) (node_at (slice_set old place now) k) (occurs k uppers)) → SettledAt rank uppers place old new
+pub spreads_moved : (rank : ℕ → ℕ) (uppers : List ℕ) (place : ℕ) (old new : List Node) (now : Node) → place < length old → occurs place uppers ≡ 0 → now ≡ settled (nat_lt 0 (rank place)) (node_at old place) → moved (node_at old place) now
+    ≡ true → ((k : ℕ) → node_at new k ≡ after_lower (change_of (node_at old place) now) (node_at (slice_set old place now) k) (occurs k uppers)) → SettledAt rank uppers place old new
 spreads_moved rank uppers place old new now within none is went all =
     let here = here_moved rank uppers place old new now within none all in
     record {
       here = here ∙ is;
       others = λ k ne. subst (λ (n : Node). node_at new k ≡ after_lower (change_of (node_at old place) n) (node_at old k) (times (moved (node_at old place) n) (occurs k uppers))) (sym here)
-          (all k ∙ ap (λ n. after_lower (change_of (node_at old place) now) n (occurs k uppers)) (get_or-set_other old place k now no_node ne) ∙ ap (λ b. after_lower (change_of (node_at old place) now) (node_at old k) (times b (occurs k uppers))) (sym went));
+          (all k ∙ ap (λ n. after_lower (change_of (node_at old place) now) n (occurs k uppers)) (get_or-set_other old place k now no_node ne)
+          ∙ ap (λ b. after_lower (change_of (node_at old place) now) (node_at old k) (times b (occurs k uppers))) (sym went));
     }

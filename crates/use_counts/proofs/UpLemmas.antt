@@ -36,7 +36,8 @@ pub scaled_some : (m : Bool) (n : ℕ) → 0 < times m n → 0 < n
 scaled_some true n h = h
 scaled_some false n h = absurd (omega arith)
 
-told_mark : (rank : ℕ → ℕ) (size : ℕ) (edges : List Edge) (q place : ℕ) (before old : List Node) (started spent : ℕ) → AllRunUp rank size edges → UpToBut edges rank q place before old started spent → (k : ℕ) (m : Bool) → nat_lt 0 (times m (occurs k (uppers_of edges place))) ≡ true → q < rank k
+told_mark : (rank : ℕ → ℕ) (size : ℕ) (edges : List Edge) (q place : ℕ) (before old : List Node) (started spent : ℕ) → AllRunUp rank size edges → UpToBut edges rank q place before old started spent → (k : ℕ) (m : Bool)
+    → nat_lt 0 (times m (occurs k (uppers_of edges place))) ≡ true → q < rank k
 told_mark rank size edges q place before old started spent stand r k m h =
     let some : 0 < occurs k (uppers_of edges place) = scaled_some m _ (ltb-true 0 _ h) in
     let st = joined_edge upper_end lower_end (RunsUp rank size) place k edges stand (omega (arith, some, occurs_ends upper_end lower_end edges place k)) in
@@ -45,17 +46,20 @@ told_mark rank size edges q place before old started spent stand r k m h =
 still_touching : (edges : List Edge) (place : ℕ) (f g : ℕ → Bool) → ((k : ℕ) → k ≢ place → g k ≡ f k) → f place ≡ false → g place ≡ false → edges_at lower_end g edges ≡ edges_at lower_end f edges
 still_touching edges place f g same was now = touching_same lower_end f g edges (everywhere (λ e. at_each (λ k. g k ≡ f k) place (now ∙ sym was) same e.lower) edges)
 
-paid : (edges : List Edge) (place : ℕ) (f g : ℕ → Bool) (m : Bool) → ((k : ℕ) → k ≢ place → g k ≡ f k) → f place ≡ false → g place ≡ m → edges_at lower_end g edges ≡ edges_at lower_end f edges + times m (edges_at lower_end (λ k. k == place) edges)
+paid : (edges : List Edge) (place : ℕ) (f g : ℕ → Bool) (m : Bool) → ((k : ℕ) → k ≢ place → g k ≡ f k) → f place ≡ false → g place ≡ m → edges_at lower_end g edges ≡ edges_at lower_end f edges
+    + times m (edges_at lower_end (λ k. k == place) edges)
 paid edges place f g true same was now = touching_more lower_end f g place edges (everywhere (λ e. same e.lower) edges) was now
 paid edges place f g false same was now = omega (arith, still_touching edges place f g same was now)
 
-new_marks : (rank : ℕ → ℕ) (size : ℕ) (edges : List Edge) (q place : ℕ) (before old new : List Node) (started spent : ℕ) → AllRunUp rank size edges → UpToBut edges rank q place before old started spent → SettledAt rank (uppers_of edges place) place old new → (k : ℕ) → (node_at new k).stale ≡ true → q < rank k
+new_marks : (rank : ℕ → ℕ) (size : ℕ) (edges : List Edge) (q place : ℕ) (before old new : List Node) (started spent : ℕ) → AllRunUp rank size edges → UpToBut edges rank q place before old started spent
+    → SettledAt rank (uppers_of edges place) place old new → (k : ℕ) → (node_at new k).stale ≡ true → q < rank k
 new_marks rank size edges q place before old new started spent stand r s =
     at_each (λ k. (node_at new k).stale ≡ true → q < rank k) place
     (λ h. absurd (false≢true (sym (ap (λ (n : Node). n.stale) s.here) ∙ h)))
     (λ k ne h. ⊎_elim (r.marks k ne) (λ h. told_mark rank size edges q place before old started spent stand r k (moved (node_at old place) (node_at new place)) h) (or_cases _ _ (sym (ap (λ (n : Node). n.stale) (s.others k ne)) ∙ h)))
 
-pub rising_more : (rank : ℕ → ℕ) (size : ℕ) (edges : List Edge) (q place : ℕ) (before old new : List Node) (started spent now : ℕ) → AllRunUp rank size edges → length new ≡ length before → UpToBut edges rank q place before old started spent → SettledAt rank (uppers_of edges place) place old new → now ≡ spent + times (moved (node_at old place) (node_at new place)) (edges_at lower_end (λ k. k == place) edges) → UpTo edges rank q before new started now
+pub rising_more : (rank : ℕ → ℕ) (size : ℕ) (edges : List Edge) (q place : ℕ) (before old new : List Node) (started spent now : ℕ) → AllRunUp rank size edges → length new ≡ length before → UpToBut edges rank q place before old started spent
+    → SettledAt rank (uppers_of edges place) place old new → now ≡ spent + times (moved (node_at old place) (node_at new place)) (edges_at lower_end (λ k. k == place) edges) → UpTo edges rank q before new started now
 rising_more rank size edges q place before old new started spent now stand same_size r s ticks =
     record {
       kept = kept_up rank size edges place old new stand r.kept s;
@@ -68,10 +72,17 @@ rising_more rank size edges q place before old new started spent now stand same_
       untouched = λ k a. subst (λ (n : Node). moved (node_at before k) n ≡ false) (sym (s.others k (r.beyond k a))) (r.untouched k a);
       members = at_each (λ k. member_of (node_at new k) ≡ member_of (node_at before k)) place (ap member_of s.here ∙ r.members place) (λ k ne. ap member_of (s.others k ne) ∙ r.members k);
       used = λ k h. used_kept rank (uppers_of edges place) place old new s k h ∙ r.used k h;
-      cost = omega (arith, ticks, r.cost, paid edges place (λ k. moved (node_at before k) (node_at old k)) (λ k. moved (node_at before k) (node_at new k)) _ (λ k ne. ap (moved (node_at before k)) (s.others k ne)) r.here (moved_from (node_at before place) (node_at old place) (node_at new place) r.here));
+      cost = omega (
+        arith,
+        ticks,
+        r.cost,
+        paid edges place (λ k. moved (node_at before k) (node_at old k)) (λ k. moved (node_at before k) (node_at new k)) _ (λ k ne. ap (moved (node_at before k)) (s.others k ne)) r.here
+            (moved_from (node_at before place) (node_at old place) (node_at new place) r.here),
+      );
     }
 
-pub but_start : (edges : List Edge) (rank : ℕ → ℕ) (place : ℕ) (nodes : List Node) (started : ℕ) → HoldsCounts edges nodes → ((k : ℕ) → rank_at nodes k ≡ rank k) → ((k : ℕ) → k ≢ place → (node_at nodes k).stale ≡ true → rank place < rank k) → ((k : ℕ) → (node_at nodes k).use_stale ≡ true → 0 < rank k) → UpToBut edges rank (rank place) place nodes nodes started started
+pub but_start : (edges : List Edge) (rank : ℕ → ℕ) (place : ℕ) (nodes : List Node) (started : ℕ) → HoldsCounts edges nodes → ((k : ℕ) → rank_at nodes k ≡ rank k) → ((k : ℕ) → k ≢ place → (node_at nodes k).stale ≡ true → rank place < rank k)
+    → ((k : ℕ) → (node_at nodes k).use_stale ≡ true → 0 < rank k) → UpToBut edges rank (rank place) place nodes nodes started started
 but_start edges rank place nodes started kept ranks marks use_marks =
     record {
       kept = kept;
@@ -92,7 +103,8 @@ one_turn order rank size turn k t e =
     let turn_is : rank k - 1 ≡ turn = omega arith in
     sym ((t.turn_of k (omega arith)).1) ∙ ap (slice_index order) turn_is
 
-pub but_next : (edges : List Edge) (order : List ℕ) (rank : ℕ → ℕ) (size turn : ℕ) (before nodes : List Node) (started spent : ℕ) → IsOrder order rank size → turn < length order → UpTo edges rank turn before nodes started spent → UpToBut edges rank (turn + 1) (slice_index order turn) before nodes started spent
+pub but_next : (edges : List Edge) (order : List ℕ) (rank : ℕ → ℕ) (size turn : ℕ) (before nodes : List Node) (started spent : ℕ) → IsOrder order rank size → turn < length order → UpTo edges rank turn before nodes started spent
+    → UpToBut edges rank (turn + 1) (slice_index order turn) before nodes started spent
 but_next edges order rank size turn before nodes started spent t h r =
     let place = slice_index order turn in
     let mine = (t.made_at turn h).1 in
@@ -127,7 +139,8 @@ skip_up edges rank turn next before nodes started spent found r =
     }
 
 -- none is stale
-pub done_up : (edges : List Edge) (rank : ℕ → ℕ) (turn last : ℕ) (before nodes : List Node) (started spent : ℕ) → ((k : ℕ) → 0 < rank_at nodes k → (node_at nodes k).stale ≡ false) → turn ≤ last → UpTo edges rank turn before nodes started spent → UpTo edges rank last before nodes started spent
+pub done_up : (edges : List Edge) (rank : ℕ → ℕ) (turn last : ℕ) (before nodes : List Node) (started spent : ℕ) → ((k : ℕ) → 0 < rank_at nodes k → (node_at nodes k).stale ≡ false) → turn ≤ last
+    → UpTo edges rank turn before nodes started spent → UpTo edges rank last before nodes started spent
 done_up edges rank turn last before nodes started spent none on r =
     record {
       kept = r.kept;
@@ -142,7 +155,8 @@ done_up edges rank turn last before nodes started spent none on r =
     }
 
 -- the place of the first stale one in the order
-pub next_within : (edges : List Edge) (order : List ℕ) (rank : ℕ → ℕ) (size turn next : ℕ) (before nodes : List Node) (started spent : ℕ) → IsOrder order rank size → IsFirstStale nodes next → UpTo edges rank turn before nodes started spent → next < length order
+pub next_within : (edges : List Edge) (order : List ℕ) (rank : ℕ → ℕ) (size turn next : ℕ) (before nodes : List Node) (started spent : ℕ) → IsOrder order rank size → IsFirstStale nodes next → UpTo edges rank turn before nodes started spent
+    → next < length order
 next_within edges order rank size turn next before nodes started spent t found r =
     let is : rank found.place ≡ next + 1 = sym (r.ranks found.place) ∙ found.rank in
     omega (arith, is, (t.turn_of found.place (omega (arith, is))).0)

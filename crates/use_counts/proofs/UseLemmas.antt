@@ -53,7 +53,8 @@ marked_more before mid after old between new s t =
     }
 
 -- one node is written, and marked where its use changed
-marked_put : (nodes : List Node) (place : ℕ) (now : Node) (old new : Marking) → place < length nodes → (differs (used_at nodes place) now.used ≡ true → Contains new.ids place) → ((k : ℕ) → Contains new.ids k → Contains old.ids k ⊎ (k ≡ place)) → Stay old new → AreMarked nodes (slice_set nodes place now) old new
+marked_put : (nodes : List Node) (place : ℕ) (now : Node) (old new : Marking) → place < length nodes → (differs (used_at nodes place) now.used ≡ true → Contains new.ids place)
+    → ((k : ℕ) → Contains new.ids k → Contains old.ids k ⊎ (k ≡ place)) → Stay old new → AreMarked nodes (slice_set nodes place now) old new
 marked_put nodes place now old new within here only stay =
     record {
       all = at_each (λ k. differs (used_at nodes k) (used_at (slice_set nodes place now) k) ≡ true → Contains new.ids k) place
@@ -65,7 +66,8 @@ marked_put nodes place now old new within here only stay =
     }
 
 -- the same, as a body writes and marks it
-pub noted_put : (nodes written : List Node) (place : ℕ) (was now : Node) (old new : Marking) → place < length nodes → written ≡ slice_set nodes place now → was ≡ node_at nodes place → (not (beq was.used now.used) ≡ true → Contains new.ids place) → ((k : ℕ) → Contains new.ids k → Contains old.ids k ⊎ (k ≡ place)) → Stay old new → AreMarked nodes written old new
+pub noted_put : (nodes written : List Node) (place : ℕ) (was now : Node) (old new : Marking) → place < length nodes → written ≡ slice_set nodes place now → was ≡ node_at nodes place
+    → (not (beq was.used now.used) ≡ true → Contains new.ids place) → ((k : ℕ) → Contains new.ids k → Contains old.ids k ⊎ (k ≡ place)) → Stay old new → AreMarked nodes written old new
 noted_put nodes written place was now old new within is read here only stay =
     subst (λ (ns : List Node). AreMarked nodes ns old new) (sym is)
     (marked_put nodes place now old new within (λ h. here (differ_so was.used now.used (ap (λ (n : Node). differs n.used now.used) read ∙ h))) only stay)

@@ -1,12 +1,14 @@
 -- What holds of nodes and their counts while an event is worked off.
-use Rattle.std.specs.Prelude.{ℕ, ◌+◌, ◌<◌, ◌≤◌, ◌≡◌, ◌≢◌, ◌||◌, Bool, true, false, not, if◌then◌else◌, List, length, nat_lt, slice_index, ◌-◌, [], slice_get, Option, Some, None, Vec}
+use Rattle.std.specs.Prelude.{ℕ, ◌+◌, ◌<◌, ◌≤◌, ◌≡◌, ◌≢◌, ◌||◌, Bool, true, false, not, if◌then◌else◌, List, length}
+use Rattle.std.specs.Prelude.{nat_lt, slice_index, ◌-◌, [], slice_get, Option, Some, None, Vec}
 use Rattle.std.specs.declared.alloc.Global.{Global}
 use Rattle.use_counts.specs.declared.node.Kind.{Kind}
 use Rattle.std.specs.List.{AllByRecursion}
 use Rattle.use_counts.specs.declared.node.Edge.{Edge}
 use Rattle.use_counts.specs.declared.node.Node.{Node}
 use Rattle.use_counts.specs.declared.node.Change.{Change}
-use Rattle.use_counts.specs.NodeRule.{opens, links, carries, is_used, rank_at, times, node_at, occurs, after_lower, after_upper}
+use Rattle.use_counts.specs.NodeRule.{opens, links, carries, is_used, rank_at, times, node_at, occurs, after_lower}
+use Rattle.use_counts.specs.NodeRule.{after_upper}
 use Rattle.use_counts.specs.Edges.{lower_end, upper_end, counted, edges_at}
 
 -- the kept answers by number
@@ -55,7 +57,8 @@ pub record HoldsCounts (edges : List Edge) (nodes : List Node) : Type 0 where
   pub demand : (k : ℕ) → (node_at nodes k).demand ≡ (node_at nodes k).claims
       + counted lower_end upper_end (used_at nodes) edges k
   pub stale : (k : ℕ) → (node_at nodes k).stale ≡ false → FollowsCounts (node_at nodes k)
-  pub use_stale : (k : ℕ) → (node_at nodes k).use_stale ≡ false → (node_at nodes k).used ≡ is_used (node_at nodes k).available (node_at nodes k).demand
+  pub use_stale : (k : ℕ) → (node_at nodes k).use_stale ≡ false → (node_at nodes k).used
+      ≡ is_used (node_at nodes k).available (node_at nodes k).demand
 
 -- exactly one of two is true
 abbrev pub differs : Bool → Bool → Bool

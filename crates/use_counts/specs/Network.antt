@@ -1,5 +1,6 @@
 -- The answers of a network by plain recursion over its edges.
-use Rattle.std.specs.Prelude.{ℕ, ◌+◌, ◌^◌, ◌<◌, ◌≤◌, ◌≡◌, map, ◌&&◌, ◌||◌, ◌++◌, ◌≢◌, Bool, true, false, if◌then◌else◌, zero, suc, List, length, count_by, slice_set, slice_index_or, All}
+use Rattle.std.specs.Prelude.{ℕ, ◌+◌, ◌^◌, ◌<◌, ◌≤◌, ◌≡◌, map, ◌&&◌, ◌||◌, ◌++◌, ◌≢◌, Bool, true, false, if◌then◌else◌}
+use Rattle.std.specs.Prelude.{zero, suc, List, length, count_by, slice_set, slice_index_or, All}
 use Rattle.use_counts.specs.declared.node.Edge.{Edge}
 use Rattle.use_counts.specs.declared.node.Kind.TheVariants.{Broken}
 use Rattle.use_counts.specs.declared.node.Row.{Row}

@@ -1,5 +1,6 @@
 -- What a node answers by its own counts, and what moves of its neighbours do to it.
-use Rattle.std.specs.Prelude.{ℕ, ◌≡◌, slice_index, ◌+◌, ◌-◌, ◌==◌, ◌&&◌, ◌||◌, Bool, true, false, not, if◌then◌else◌, List, count_by, slice_index_or, nat_lt}
+use Rattle.std.specs.Prelude.{ℕ, ◌≡◌, slice_index, ◌+◌, ◌-◌, ◌==◌, ◌&&◌, ◌||◌, Bool, true, false, not, if◌then◌else◌}
+use Rattle.std.specs.Prelude.{List, count_by, slice_index_or, nat_lt}
 use Rattle.use_counts.specs.declared.node.Kind.{Kind}
 use Rattle.use_counts.specs.declared.node.Kind.TheVariants.{Broken, Plain, Vlan, Bridge}
 use Rattle.use_counts.specs.declared.node.Node.{Node}

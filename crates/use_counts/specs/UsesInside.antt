@@ -1,5 +1,6 @@
 -- How marked ids are kept.
-use Rattle.std.specs.Prelude.{◌≡◌, ◌<◌, ◌≤◌, ℕ, Bool, true, false, All, Contains, List, length, filter, slice_index_or, vec_capacity}
+use Rattle.std.specs.Prelude.{◌≡◌, ◌<◌, ◌≤◌, ℕ, Bool, true, false, All, Contains, List, length, filter, slice_index_or}
+use Rattle.std.specs.Prelude.{vec_capacity}
 use Rattle.use_counts.specs.declared.uses.MarkedIds.TheInside.{Inside}
 use Rattle.use_counts.specs.Uses.{Marking}
 

@@ -1,4 +1,5 @@
-ghost use Rattle.std.specs.Prelude.{◌≡◌, ◌≤◌, ◌<◌, ◌+◌, ◌^◌, ◌==◌, ℕ, length, All, nat_lt, vec_len, true, false};
+ghost use Rattle.std.specs.Prelude.{◌≡◌, ◌≤◌, ◌<◌, ◌+◌, ◌^◌, ◌==◌, ℕ, length, All, nat_lt, vec_len};
+ghost use Rattle.std.specs.Prelude.{true, false};
 ghost use Rattle.use_counts.specs.NodeRule.{node_at, after_upper, occurs, times, rank_at, rank_of};
 ghost use Rattle.use_counts.specs.Edges.{lower_end, upper_end, far_ends, edges_at};
 ghost use Rattle.use_counts.specs.Held.{UseSettledAt, DownTo, HoldsCounts, differs, used_at};

@@ -1,8 +1,11 @@
-ghost use Rattle.std.specs.Prelude.{◌≡◌, ◌↔◌, ◌≤◌, ◌<◌, ◌+◌, ◌*◌, ◌++◌, ◌∷◌, [], ℕ, IfOk, IsTrue, OnErr, OnOk, length, map, true, false, vec_len};
+ghost use Rattle.std.specs.Prelude.{◌≡◌, ◌↔◌, ◌≤◌, ◌<◌, ◌+◌, ◌*◌, ◌++◌, ◌∷◌, [], ℕ, IfOk, IsTrue};
+ghost use Rattle.std.specs.Prelude.{OnErr, OnOk, length, map, true, false, vec_len};
 ghost use Rattle.use_counts.specs.Held.{IsCalm, HoldsCounts, member_of};
 ghost use Rattle.use_counts.specs.NodeRule.{is_made, node_at, rank_at, rank_of};
 ghost use Rattle.use_counts.specs.Order.{CanLoad, HasLevel};
-ghost use Rattle.use_counts.specs.Network.{CanJoin, IsLoadable, available, changed_edges, link, loaded, member_at, network_from, row_of, used, users, with_carrier, with_claim, with_device, with_ports};
+ghost use Rattle.use_counts.specs.Network.{CanJoin, IsLoadable, available, changed_edges, link};
+ghost use Rattle.use_counts.specs.Network.{loaded, member_at, network_from, row_of, used, users};
+ghost use Rattle.use_counts.specs.Network.{with_carrier, with_claim, with_device, with_ports};
 ghost use Rattle.use_counts.specs.Uses.{TellsUses};
 
 use crate::node::{Edge, Row};
@@ -73,8 +76,8 @@ fn settle_all<L: Ledger>(topology: &Topology, nodes: &mut Nodes, uses: &mut Mark
 }
 
 impl Graph {
-    /// The graph of some rows, of their edges, and of the edges to the ports of radios. No device is there, and nothing is
-    /// claimed.
+    /// The graph of some rows, of their edges, and of the edges to the ports of radios. No device
+    /// is there, and nothing is claimed.
     pub fn load(
         alloc: Global,
         rows: &[Row],
@@ -118,7 +121,8 @@ impl Graph {
         ports.len() < (1 << 20) - self.fixed && self.nodes.all_rise(ports)
     }
 
-    /// Writes for each node the device and the claims that it has in another graph of the same rows.
+    /// Writes for each node the device and the claims that it has in another graph of the same
+    /// rows.
     fn repeat<L: Ledger>(&mut self, told: &Graph, uses: &mut MarkedIds, blank: Blank)
         requires name { blank.name ≡ L.name }
         requires parts { blank.parts ≡ L.parts }
@@ -150,7 +154,8 @@ impl Graph {
         Ok(())
     }
 
-    /// One more node at no edge, without a device and without claims. Its number is the next one. Where memory lacks, all stays.
+    /// One more node at no edge, without a device and without claims. Its number is the next one.
+    /// Where memory lacks, all stays.
     pub fn add(&mut self, alloc: Global, row: Row) -> Result<(), Memory>
         requires plain { is_made row.kind ≡ false }
         requires level { HasLevel row }

@@ -1,6 +1,7 @@
 ghost use Rattle.std.specs.Prelude.{◌≡◌, ◌≤◌, ◌<◌, ◌+◌, ◌-◌, ◌^◌, ◌&&◌, if◌then◌else◌};
 ghost use Rattle.use_counts.specs.Held.{settled, use_settled, moved};
-ghost use Rattle.use_counts.specs.NodeRule.{opens, links, carries, is_made, is_used, times, after_lower, after_upper, with_claims, new_node};
+ghost use Rattle.use_counts.specs.NodeRule.{opens, links, carries, is_made, is_used, times};
+ghost use Rattle.use_counts.specs.NodeRule.{after_lower, after_upper, with_claims, new_node};
 
 /// What a node is, by its row.
 #[derive(Clone, Copy)]

@@ -1,4 +1,6 @@
-ghost use Rattle.std.specs.Prelude.{◌≡◌, ◌↔◌, All, IsTrue, ◌<◌, ◌≤◌, ◌+◌, ◌-◌, ◌*◌, ◌++◌, ◌∷◌, ◌^◌, ℕ, [], map, length, vec_len, slice_set, nat_lt, IfOk, IfSome, IfNone, OnErr, OnOk, true, false};
+ghost use Rattle.std.specs.Prelude.{◌≡◌, ◌↔◌, All, IsTrue, ◌<◌, ◌≤◌, ◌+◌, ◌-◌, ◌*◌, ◌++◌, ◌∷◌, ◌^◌};
+ghost use Rattle.std.specs.Prelude.{ℕ, [], map, length, vec_len, slice_set, nat_lt, IfOk, IfSome};
+ghost use Rattle.std.specs.Prelude.{IfNone, OnErr, OnOk, true, false};
 ghost use Rattle.use_counts.specs.Marked.{mark, IsFirstStale, IsLastUseStale};
 ghost use Rattle.use_counts.specs.NodeRule.{HasRank, node_at, rank_at, rank_of, row_at, new_node};
 ghost use Rattle.use_counts.specs.NodesInside.{AreKeys, list_of};
@@ -11,7 +13,8 @@ use slab::Slab;
 use std::alloc::{AllocError, Global};
 use std::marker::Model;
 
-/// The nodes by number. The ranks of those that are stale are marked, so that the next is found by words.
+/// The nodes by number. The ranks of those that are stale are marked, so that the next is found by
+/// words.
 #[derive(Drop)]
 pub struct Nodes {
     slab: Slab<Node>,

@@ -1,4 +1,5 @@
-ghost use Rattle.std.specs.Prelude.{◌≡◌, ◌≢◌, ◌≤◌, ◌<◌, ◌+◌, ℕ, length, map, slice_set, vec_len, false, true};
+ghost use Rattle.std.specs.Prelude.{◌≡◌, ◌≢◌, ◌≤◌, ◌<◌, ◌+◌, ℕ, length, map, slice_set, vec_len};
+ghost use Rattle.std.specs.Prelude.{false, true};
 ghost use Rattle.use_counts.specs.Held.{IsCalm, HoldsCounts, Settles, visits_due, member_of};
 ghost use Rattle.use_counts.specs.NodeRule.{node_at, rank_at, rank_of};
 ghost use Rattle.use_counts.specs.Uses.{AreMarked};

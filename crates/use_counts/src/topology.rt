@@ -1,4 +1,5 @@
-ghost use Rattle.std.specs.Prelude.{◌≡◌, ◌≤◌, ◌<◌, ◌+◌, ◌++◌, ◌∷◌, ◌^◌, ℕ, All, length, slice_index, vec_capacity, vec_len, IfOk, OnOk, []};
+ghost use Rattle.std.specs.Prelude.{◌≡◌, ◌≤◌, ◌<◌, ◌+◌, ◌++◌, ◌∷◌, ◌^◌, ℕ, All, length};
+ghost use Rattle.std.specs.Prelude.{slice_index, vec_capacity, vec_len, IfOk, OnOk, []};
 ghost use Rattle.use_counts.specs.NodeRule.{rank_of};
 ghost use Rattle.use_counts.specs.Edges.{lower_end, upper_end, far_ends};
 ghost use Rattle.use_counts.specs.Held.{IsOrder, RunsUp, items_at};

@@ -1,12 +1,13 @@
-ghost use Rattle.std.specs.Prelude.{◌≡◌, ◌<◌, ◌≤◌, ◌+◌, ◌⊎◌, ℕ, All, Contains, [], IfOk, OnOk, OnErr, IsTrue, length};
+ghost use Rattle.std.specs.Prelude.{◌≡◌, ◌<◌, ◌≤◌, ◌+◌, ◌⊎◌, ℕ, All, Contains, [], IfOk, OnOk};
+ghost use Rattle.std.specs.Prelude.{OnErr, IsTrue, length};
 ghost use Rattle.use_counts.specs.Uses.{Stay};
 
 use plane_io::Memory;
 use std::alloc::Global;
 use std::marker::Model;
 
-/// Marked ids in the order in which they came. There is room for all below a number, so marking one takes no memory, and looking
-/// through them or dropping them costs as much as are marked.
+/// Marked ids in the order in which they came. There is room for all below a number, so marking one
+/// takes no memory, and looking through them or dropping them costs as much as are marked.
 #[derive(Drop)]
 pub struct MarkedIds {
     /// For each id whether it is marked.

@@ -3,7 +3,7 @@ use Rattle.step_net.specs.Taken.{telled_of}
 use Rattle.rpc_objects.specs.Kept.{faults_of}
 use Rattle.rpc_objects.specs.Object.{of_path}
 use Rattle.bus_lines.specs.declared.callers.Callers.{Callers}
-use Rattle.bus_lines.specs.Words.{supply_of}
+use Rattle.plane_outside.specs.Supply.{supply_of}
 use Rattle.bus_lines.specs.Cut.{CallLineCuts}
 use Rattle.bus_lines.specs.Passed.{CallLinePasses}
 use Rattle.bus_lines.specs.Ended.{world_of}

@@ -1,7 +1,7 @@
 use Rattle.std.proofs.Common.{refl}
 use Rattle.step_net.specs.Taken.{telled_of}
 use Rattle.rpc_objects.specs.Kept.{faults_of}
-use Rattle.bus_lines.specs.Words.{supply_of}
+use Rattle.plane_outside.specs.Supply.{supply_of}
 use Rattle.bus_lines.specs.CallLine.{CallLineDoes, ForDoes}
 use Rattle.bus_lines.specs.Cut.{CallLineCuts}
 use Rattle.bus_lines.specs.Passed.{CallLinePasses}

@@ -4,7 +4,7 @@ use Rattle.rpc_objects.specs.Passed.{CallPasses}
 use Rattle.rpc_objects.specs.Cut.{CallCuts}
 use Rattle.rpc_objects.specs.Kept.{faults_of}
 use Rattle.bus_lines.specs.declared.callers.Callers.{Callers}
-use Rattle.bus_lines.specs.Words.{supply_of}
+use Rattle.plane_outside.specs.Supply.{supply_of}
 use Rattle.bus_lines.specs.Ended.{world_of}
 use Rattle.bus_lines.specs.Calling.{seen_by, ObjectCuts, ObjectPasses}
 use Rattle.bus_lines.proofs.WordLemmas.{used_up}

@@ -5,7 +5,7 @@ use Rattle.rpc_objects.specs.Kept.{faults_of}
 use Rattle.rpc_objects.specs.Passed.{StaysOrStopsIn}
 use Rattle.bus_lines.specs.declared.caller_line.CallerLine.{CallerLine}
 use Rattle.bus_lines.specs.declared.callers.Callers.{Callers}
-use Rattle.bus_lines.specs.Words.{supply_of}
+use Rattle.plane_outside.specs.Supply.{supply_of}
 use Rattle.bus_lines.specs.CallerLine.{LineDoes}
 use Rattle.bus_lines.specs.Passed.{LinePasses}
 use Rattle.bus_lines.specs.Cut.{LineCuts}

@@ -5,7 +5,7 @@ use Rattle.step_net.specs.Taken.{telled_of}
 use Rattle.bus_clients.specs.Bus.{part_of}
 use Rattle.rpc_objects.specs.Kept.{faults_of}
 use Rattle.bus_lines.specs.declared.callers.Callers.{Callers}
-use Rattle.bus_lines.specs.Words.{supply_of}
+use Rattle.plane_outside.specs.Supply.{supply_of}
 use Rattle.bus_lines.specs.Passed.{FramesPass, BytesPass}
 use Rattle.bus_lines.specs.Ended.{world_of}
 use Rattle.bus_lines.specs.Calling.{seen_by}

@@ -4,7 +4,7 @@ use Rattle.bus_clients.specs.Bus.{BusPart}
 use Rattle.rpc_objects.specs.Kept.{faults_of}
 use Rattle.bus_lines.specs.declared.callers.Callers.{Callers}
 use Rattle.bus_lines.specs.declared.gathered.Gathered.{Gathered}
-use Rattle.bus_lines.specs.Words.{supply_of}
+use Rattle.plane_outside.specs.Supply.{supply_of}
 use Rattle.bus_lines.specs.Cut.{FrameCuts}
 use Rattle.bus_lines.specs.Passed.{HandedPasses, FramePasses}
 use Rattle.bus_lines.specs.Ended.{world_of}

@@ -4,7 +4,7 @@ use Rattle.step_net.specs.Taken.{telled_of}
 use Rattle.rpc_objects.specs.Kept.{faults_of}
 use Rattle.bus_lines.specs.Passed.{FramePasses, FramesPass}
 use Rattle.bus_lines.specs.Ended.{world_of}
-use Rattle.bus_lines.specs.Words.{supply_of}
+use Rattle.plane_outside.specs.Supply.{supply_of}
 use Rattle.bus_lines.specs.Calling.{seen_by}
 use Rattle.bus_lines.specs.Frames.{HasServed}
 use Rattle.bus_lines.proofs.WordLemmas.{uses_none}

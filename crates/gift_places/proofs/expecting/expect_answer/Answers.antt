@@ -9,7 +9,8 @@ use Rattle.gift_places.proofs.expecting.expect_answer.Goals as goal
 
 pub returns-clause-ok : goal.returns-clause-ok
 returns-clause-ok c = on_ok_then c.expect_answer_routes.result (λ made.
-    both_places c.args.gifts.now c.expect_addresses.new.gifts c.expect_answer_routes.new.gifts (map (object.Address c.args.dev.now) c.args.answer.now.addresses) (map (answer_route c.args.dev.now) c.args.answer.now.routes) (map (object.Address c.args.dev.now) c.as_slice.result.now) (map (answer_route c.args.dev.now) c.as_slice-2.result.now)
+    both_places c.args.gifts.now c.expect_addresses.new.gifts c.expect_answer_routes.new.gifts (map (object.Address c.args.dev.now) c.args.answer.now.addresses) (map (answer_route c.args.dev.now) c.args.answer.now.routes)
+    (map (object.Address c.args.dev.now) c.as_slice.result.now) (map (answer_route c.args.dev.now) c.as_slice-2.result.now)
     (ap (λ (z : List (Addr × ℕ)). map (object.Address c.args.dev.now) z) c.as_slice.ensures)
     (ap (λ (z : List AnswerRoute). map (answer_route c.args.dev.now) z) c.as_slice-2.ensures)
     c.in_ok-expect_addresses.ensures.ok made) c.expect_answer_routes.ensures.ok

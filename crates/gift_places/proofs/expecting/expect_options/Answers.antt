@@ -8,7 +8,8 @@ use Rattle.gift_places.proofs.expecting.expect_options.Goals as goal
 
 pub returns-clause-ok : goal.returns-clause-ok
 returns-clause-ok c = on_ok_then c.expect_gateways.result (λ made.
-    both_places c.args.gifts.now c.expect_addresses.new.gifts c.expect_gateways.new.gifts (map (object.Address c.args.dev.now) c.args.row.now.addresses) (map (default_route c.args.dev.now c.args.row.now.metric) c.args.row.now.gateways) (map (object.Address c.args.dev.now) c.as_slice.result.now) (map (default_route c.args.dev.now c.args.row.now.metric) c.as_slice-2.result.now)
+    both_places c.args.gifts.now c.expect_addresses.new.gifts c.expect_gateways.new.gifts (map (object.Address c.args.dev.now) c.args.row.now.addresses) (map (default_route c.args.dev.now c.args.row.now.metric) c.args.row.now.gateways)
+    (map (object.Address c.args.dev.now) c.as_slice.result.now) (map (default_route c.args.dev.now c.args.row.now.metric) c.as_slice-2.result.now)
     (ap (λ (z : List (Addr × ℕ)). map (object.Address c.args.dev.now) z) c.as_slice.ensures)
     (ap (λ (z : List Addr). map (default_route c.args.dev.now c.args.row.now.metric) z) c.as_slice-2.ensures)
     c.in_ok-expect_addresses.ensures.ok made) c.expect_gateways.ensures.ok

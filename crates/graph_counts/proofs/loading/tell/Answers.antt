@@ -44,6 +44,7 @@ loop-id-preserved g c =
     let id = c.loop-id.id in
     let within : id < length c.args.names.now = omega (arith, c.loop-id-test.true, c.len-id-end.ensures.length) in
     record {
-      counts = told_more c.args.counts.now c.loop-id.counts c.set_claim.new.self c.args.names.now id _ _ _ c.requires.size within (ap is_some c.device.ensures) (ap (λ d. option_map_or (λ (x : Device). x.carrier) d false) c.device.ensures) c.claims.ensures c.loop-id.invariant.counts (c.set_claim.ensures.net ∙ ap (λ net. with_claim net id c.claims.result) c.tell_device.ensures.device);
+      counts = told_more c.args.counts.now c.loop-id.counts c.set_claim.new.self c.args.names.now id _ _ _ c.requires.size within (ap is_some c.device.ensures) (ap (λ d. option_map_or (λ (x : Device). x.carrier) d false) c.device.ensures)
+          c.claims.ensures c.loop-id.invariant.counts (c.set_claim.ensures.net ∙ ap (λ net. with_claim net id c.claims.result) c.tell_device.ensures.device);
       room = c.set_claim.ensures.uses.stay.room ∙ c.tell_device.ensures.stay.room ∙ c.loop-id.invariant.room;
     }

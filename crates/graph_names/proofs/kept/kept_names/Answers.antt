@@ -14,7 +14,8 @@ loop-name-preserved c =
     let name = c.name-item.result in
     c.in_ok-add.ensures.ok
     ∙ ap (λ ns. with_told ns name c.told.result) c.loop-name.invariant
-    ∙ kept_more c.args.old.now front c.args.plain.now c.loop-name.name-index name c.told.result c.loop-name-test.true (item_there c.args.plain.now c.loop-name.name-index name c.loop-name-test.true c.name-item.is) c.told.ensures.device c.told.ensures.claims
+    ∙ kept_more c.args.old.now front c.args.plain.now c.loop-name.name-index name c.told.result c.loop-name-test.true (item_there c.args.plain.now c.loop-name.name-index name c.loop-name-test.true c.name-item.is) c.told.ensures.device
+    c.told.ensures.claims
 
 pub add-requires : goal.add-requires
 add-requires c =

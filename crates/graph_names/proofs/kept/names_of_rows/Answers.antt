@@ -13,7 +13,8 @@ loop-row-preserved c =
     let within : c.loop-row.row-index < length (map (λ (r : NameRow). r.name) rows) = omega (arith, c.loop-row-test.true, length-map rows (λ (r : NameRow). r.name)) in
     c.in_ok-add.ensures.ok
     ∙ ap (λ ns. with_told ns row.name c.told.result) c.loop-row.invariant
-    ∙ kept_more c.args.old.now [] (map (λ (r : NameRow). r.name) rows) c.loop-row.row-index row.name c.told.result within (name_there (λ (r : NameRow). r.name) rows c.loop-row.row-index row c.loop-row-test.true c.row-item.is) c.told.ensures.device c.told.ensures.claims
+    ∙ kept_more c.args.old.now [] (map (λ (r : NameRow). r.name) rows) c.loop-row.row-index row.name c.told.result within (name_there (λ (r : NameRow). r.name) rows c.loop-row.row-index row c.loop-row-test.true c.row-item.is)
+    c.told.ensures.device c.told.ensures.claims
 
 pub add-requires : goal.add-requires
 add-requires c =

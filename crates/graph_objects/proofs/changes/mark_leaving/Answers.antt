@@ -25,7 +25,8 @@ index_mut-requires c =
 
 pub loop-index-preserved : goal.loop-index-preserved
 loop-index-preserved c =
-    more_marked c.args.slots.now.entries c.loop-index.slots.entries c.args.name.now c.loop-index.index c.index_mut.result.now c.index.result.now c.leaves-is_leaving.result c.loop-index.invariant c.index.ensures c.index_mut.ensures.value c.leaves-is_leaving.ensures
+    more_marked c.args.slots.now.entries c.loop-index.slots.entries c.args.name.now c.loop-index.index c.index_mut.result.now c.index.result.now c.leaves-is_leaving.result c.loop-index.invariant c.index.ensures c.index_mut.ensures.value
+    c.leaves-is_leaving.ensures
 
 pub returns : goal.returns
 returns c =

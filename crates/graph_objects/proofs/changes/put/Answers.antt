@@ -22,7 +22,8 @@ pub returns-clause-slots : goal.returns-clause-slots
 returns-clause-slots c =
     let es = c.args.slots.now.entries in
     let at = entry_at key_eq key_same key_itself c.key_of.result es c.in-Some.index c.index.result.now (sym c.in-Some.ensures.index) c.index.ensures in
-    subst AreSlots (sym c.write.ensures.slots) (put_slots key_eq key_same key_itself es c.requires.slots c.get_index_of.ensures.unique c.in-Some.index c.key_of.result c.index.result.now at c.args.object.now c.key_of.ensures c.requires.wanted c.requires.taken)
+    subst AreSlots (sym c.write.ensures.slots) (put_slots key_eq key_same key_itself es c.requires.slots c.get_index_of.ensures.unique c.in-Some.index c.key_of.result c.index.result.now at c.args.object.now c.key_of.ensures
+    c.requires.wanted c.requires.taken)
 
 pub returns-clause-marked : goal.returns-clause-marked
 returns-clause-marked c =
@@ -38,7 +39,8 @@ pub returns-clause-held : goal.returns-clause-held
 returns-clause-held c =
     let es = c.args.slots.now.entries in
     let at = entry_at key_eq key_same key_itself c.key_of.result es c.in-Some.index c.index.result.now (sym c.in-Some.ensures.index) c.index.ensures in
-    ap (set_on Held) c.write.ensures.slots ∙ put_held key_eq key_same key_itself es c.requires.slots c.get_index_of.ensures.unique c.in-Some.index c.key_of.result c.index.result.now at c.args.object.now c.key_of.ensures c.requires.wanted c.requires.taken
+    ap (set_on Held) c.write.ensures.slots ∙ put_held key_eq key_same key_itself es c.requires.slots c.get_index_of.ensures.unique c.in-Some.index c.key_of.result c.index.result.now at c.args.object.now c.key_of.ensures c.requires.wanted
+    c.requires.taken
 
 pub returns-clause-wishes : goal.returns-clause-wishes
 returns-clause-wishes c =

@@ -42,5 +42,6 @@ pub returns-clause-due : goal.returns-clause-due
 returns-clause-due c =
     let es = c.args.slots.now.entries in
     let none = c.in_default.ensures.none in
-    let skipped = count_skipped es c.loop-index.start (length es) c.loop-index.invariant.within (λ k e above below at. alone_unmarked c.args.marks.now es c.requires.marked k e at (none k above (omega (arith, below, c.len-end.ensures.len)))) in
+    let skipped = count_skipped es c.loop-index.start (length es) c.loop-index.invariant.within (λ k e above below at. alone_unmarked c.args.marks.now es c.requires.marked k e at (none k above (omega (arith, below, c.len-end.ensures.len))))
+    in
     c.loop-index.invariant.count ∙ sym skipped ∙ counted_all es ∙ counted_is_due key_eq key_same key_itself es c.requires.slots c.len-end.ensures.unique

@@ -11,7 +11,8 @@ returns-then-is_on_taken c had = taken_by_place (set_on Held c.args.slots.now.en
 pub returns-in-Some : goal.returns-in-Some
 returns-in-Some c had =
     ap (λ b. not c.same-stays.result && not b) c.replaces-is_replaced.ensures
-    ∙ taken_by_found (set_on Held c.args.slots.now.entries) (listed Wanted c.args.slots.now.entries) c.args.object.now c.in-Some.wanted c.same-stays.result c.in-Some.ensures.found c.same-stays.ensures (sym c.is_on_taken.ensures ∙ c.if-is_on_taken.false) had
+    ∙ taken_by_found (set_on Held c.args.slots.now.entries) (listed Wanted c.args.slots.now.entries) c.args.object.now c.in-Some.wanted c.same-stays.result c.in-Some.ensures.found c.same-stays.ensures
+    (sym c.is_on_taken.ensures ∙ c.if-is_on_taken.false) had
 
 pub returns-in-None : goal.returns-in-None
 returns-in-None c had = taken_by_none (set_on Held c.args.slots.now.entries) (listed Wanted c.args.slots.now.entries) c.args.object.now c.in-None.ensures.found (sym c.is_on_taken.ensures ∙ c.if-is_on_taken.false) had

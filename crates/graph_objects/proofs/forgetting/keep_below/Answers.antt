@@ -18,7 +18,8 @@ index_mut-requires c =
     omega (arith, c.len-index-end.ensures.len)
 
 pub loop-index-preserved : goal.loop-index-preserved
-loop-index-preserved c = more_below c.args.count c.args.slots.now.entries c.loop-index.slots.entries c.loop-index.index c.index_mut.result.now c.index.result.now c.wish_below-wish.result c.loop-index.invariant c.index.ensures c.index_mut.ensures.value c.wish_below-wish.ensures
+loop-index-preserved c = more_below c.args.count c.args.slots.now.entries c.loop-index.slots.entries c.loop-index.index c.index_mut.result.now c.index.result.now c.wish_below-wish.result c.loop-index.invariant c.index.ensures
+    c.index_mut.ensures.value c.wish_below-wish.ensures
 
 pub returns : goal.returns
 returns c =

@@ -16,7 +16,8 @@ pub put-requires : goal.put-requires
 put-requires c = let inside = within c.slot_of_wish.new.slots.entries c.in-Ok.index _ c.in-Ok.ensures.ok.there in omega (arith, inside, c.in-Ok.ensures.room)
 
 pub returns-in-Ok-clause-slots : goal.returns-in-Ok-clause-slots
-returns-in-Ok-clause-slots c = expected_slots c.args.slots.now.entries c.slot_of_wish.new.slots.entries (key_of c.args.wish.object) c.in-Ok.index c.in-Ok.ensures.ok c.requires.slots c.index_mut.result.now c.index_mut.ensures.value c.args.wish refl c.requires.fits (c.has_form.ensures c.requires.fits.lower)
+returns-in-Ok-clause-slots c = expected_slots c.args.slots.now.entries c.slot_of_wish.new.slots.entries (key_of c.args.wish.object) c.in-Ok.index c.in-Ok.ensures.ok c.requires.slots c.index_mut.result.now c.index_mut.ensures.value
+    c.args.wish refl c.requires.fits (c.has_form.ensures c.requires.fits.lower)
 
 pub returns-in-Ok-clause-marked : goal.returns-in-Ok-clause-marked
 returns-in-Ok-clause-marked c =
@@ -30,10 +31,12 @@ returns-in-Ok-clause-marked c =
     (λ v member. (more v).1 (inl (subst (λ (ws : List Wish). Contains ws v) (same_wishes old new key c.in-Ok.index has) member))) grown c.put.ensures
 
 pub returns-in-Ok-clause-held : goal.returns-in-Ok-clause-held
-returns-in-Ok-clause-held c = expected_held c.args.slots.now.entries c.slot_of_wish.new.slots.entries (key_of c.args.wish.object) c.in-Ok.index c.in-Ok.ensures.ok c.requires.slots c.index_mut.result.now c.index_mut.ensures.value c.args.wish refl c.requires.fits (c.has_form.ensures c.requires.fits.lower)
+returns-in-Ok-clause-held c = expected_held c.args.slots.now.entries c.slot_of_wish.new.slots.entries (key_of c.args.wish.object) c.in-Ok.index c.in-Ok.ensures.ok c.requires.slots c.index_mut.result.now c.index_mut.ensures.value c.args.wish
+    refl c.requires.fits (c.has_form.ensures c.requires.fits.lower)
 
 pub returns-in-Ok-clause-ok : goal.returns-in-Ok-clause-ok
-returns-in-Ok-clause-ok c = expected_more c.args.slots.now.entries c.slot_of_wish.new.slots.entries (key_of c.args.wish.object) c.in-Ok.index c.in-Ok.ensures.ok c.requires.slots c.index_mut.result.now c.index_mut.ensures.value c.args.wish refl c.requires.fits (c.has_form.ensures c.requires.fits.lower)
+returns-in-Ok-clause-ok c = expected_more c.args.slots.now.entries c.slot_of_wish.new.slots.entries (key_of c.args.wish.object) c.in-Ok.index c.in-Ok.ensures.ok c.requires.slots c.index_mut.result.now c.index_mut.ensures.value c.args.wish
+    refl c.requires.fits (c.has_form.ensures c.requires.fits.lower)
 
 pub returns-in-Ok-clause-listed : goal.returns-in-Ok-clause-listed
 returns-in-Ok-clause-listed c = wish_listed_at c.slot_of_wish.new.by_id.items c.slot_of_wish.new.slots.entries c.in-Ok.index c.index_mut.result.now c.args.wish c.in-Ok.ensures.listed c.in-Ok.ensures.first c.in-Ok.ensures.second

@@ -21,7 +21,8 @@ keep_held-requires-clause-fits c =
 pub loop-index-preserved : goal.loop-index-preserved
 loop-index-preserved c = record {
   slots = c.in_ok-keep_held.ensures.slots;
-  held = holds_more c.args.old.now.entries c.requires.old c.len-index-end.ensures.unique c.loop-index.slots.entries c.loop-index.index c.loop-index.invariant.held c.index.result.now c.index.ensures c.keep_held.new.slots.entries c.in_ok-keep_held.ensures.ok;
+  held = holds_more c.args.old.now.entries c.requires.old c.len-index-end.ensures.unique c.loop-index.slots.entries c.loop-index.index c.loop-index.invariant.held c.index.result.now c.index.ensures c.keep_held.new.slots.entries
+      c.in_ok-keep_held.ensures.ok;
   room = c.in_ok-keep_held.ensures.room;
   stay = c.in_ok-keep_held.ensures.wishes ∙ c.loop-index.invariant.stay;
   few = omega (arith, c.in_ok-keep_held.ensures.few, c.loop-index.invariant.few);

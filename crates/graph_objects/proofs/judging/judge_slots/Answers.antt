@@ -17,7 +17,8 @@ index_mut-requires c =
     omega (arith, c.len-index-end.ensures.len)
 
 pub loop-index-preserved : goal.loop-index-preserved
-loop-index-preserved c = more_judged c.args.used.now c.args.slots.now.entries c.loop-index.slots.entries c.loop-index.index c.index_mut.result.now c.index.result.now c.judged_wish-wish.result c.loop-index.invariant c.index.ensures c.index_mut.ensures.value c.judged_wish-wish.ensures
+loop-index-preserved c = more_judged c.args.used.now c.args.slots.now.entries c.loop-index.slots.entries c.loop-index.index c.index_mut.result.now c.index.result.now c.judged_wish-wish.result c.loop-index.invariant c.index.ensures
+    c.index_mut.ensures.value c.judged_wish-wish.ensures
 
 pub returns : goal.returns
 returns c =

@@ -31,4 +31,5 @@ pub returns-clause-due : goal.returns-clause-due
 returns-clause-due c =
     let es = c.args.slots.now.entries in
     filled_all c.args.turn es (length es) c.loop-index.list.items refl
-    (filled_to c.args.turn es c.args.marks.now c.loop-index.start (length es) c.loop-index.list.items c.requires.marked (λ k above below. c.in_default.ensures.none k above (omega (arith, below, c.len-end.ensures.len))) c.loop-index.invariant.filled)
+    (filled_to c.args.turn es c.args.marks.now c.loop-index.start (length es) c.loop-index.list.items c.requires.marked (λ k above below. c.in_default.ensures.none k above (omega (arith, below, c.len-end.ensures.len)))
+    c.loop-index.invariant.filled)

@@ -14,4 +14,5 @@ pub returns-then-steps-eq0 : goal.returns-then-steps-eq0
 returns-then-steps-eq0 t c few = absurd (not_so_high (set_on Held c.args.slots.now.entries) c.in-Some.ensures.steady c.args.name.now c.in-Some.lower c.in-Some.ensures.some (omega arith))
 
 pub returns : goal.returns
-returns t c few = over_by_more (set_on Held c.args.slots.now.entries) c.in-Some.ensures.steady c.same.result c.args.base.now c.args.name.now c.in-Some.lower c.args.steps c.is_over.result c.same.ensures c.if-same.false c.in-Some.ensures.some c.is_over.ensures few
+returns t c few = over_by_more (set_on Held c.args.slots.now.entries) c.in-Some.ensures.steady c.same.result c.args.base.now c.args.name.now c.in-Some.lower c.args.steps c.is_over.result c.same.ensures c.if-same.false c.in-Some.ensures.some
+    c.is_over.ensures few

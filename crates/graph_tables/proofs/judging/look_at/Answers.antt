@@ -29,5 +29,6 @@ loop-id-preserved c =
     let inside = c.requires.ids (get_or ids k 0) (Contains-get_or ids k 0 c.loop-id-test.true) in
     record {
       size = length-set c.loop-id.used.items (get_or ids k 0) c.used-is_used.result ∙ c.loop-id.invariant.size;
-      seen = one_seen c.args.names.now ids k (get_or ids k 0) c.args.used.now.items c.loop-id.used.items c.used-is_used.result c.loop-id.invariant.seen c.loop-id-test.true refl (omega (arith, inside, c.loop-id.invariant.size)) c.used-is_used.ensures;
+      seen = one_seen c.args.names.now ids k (get_or ids k 0) c.args.used.now.items c.loop-id.used.items c.used-is_used.result c.loop-id.invariant.seen c.loop-id-test.true refl (omega (arith, inside, c.loop-id.invariant.size))
+          c.used-is_used.ensures;
     }

@@ -13,8 +13,10 @@ returns c =
     elim c.match-cidr.branch [
       | in-V4 w ↦
           let count : length w.clear_hosts.new.octets ≡ length w.in-V4.v4.0 = search rules in
-          subst P (sym w.addr-is) (network_from_octets c.args.cidr (Family.V4 w.in-V4.v4) (Family.V4 (record { 0 = w.clear_hosts.new.octets })) c.cidr.inside.length (ap pair (sym w.in-V4.is) ∙ c.cidr.view_is) refl count w.clear_hosts.ensures)
+          subst P (sym w.addr-is) (network_from_octets c.args.cidr (Family.V4 w.in-V4.v4) (Family.V4 (record { 0 = w.clear_hosts.new.octets })) c.cidr.inside.length (ap pair (sym w.in-V4.is) ∙ c.cidr.view_is) refl count
+          w.clear_hosts.ensures)
       | in-V6 w ↦
           let count : length w.clear_hosts-in-V6.new.octets ≡ length w.in-V6.v6.0 = search rules in
-          subst P (sym w.addr-is) (network_from_octets c.args.cidr (Family.V6 w.in-V6.v6) (Family.V6 (record { 0 = w.clear_hosts-in-V6.new.octets })) c.cidr.inside.length (ap pair (sym w.in-V6.is) ∙ c.cidr.view_is) refl count w.clear_hosts-in-V6.ensures)
+          subst P (sym w.addr-is) (network_from_octets c.args.cidr (Family.V6 w.in-V6.v6) (Family.V6 (record { 0 = w.clear_hosts-in-V6.new.octets })) c.cidr.inside.length (ap pair (sym w.in-V6.is) ∙ c.cidr.view_is) refl count
+          w.clear_hosts-in-V6.ensures)
     ]

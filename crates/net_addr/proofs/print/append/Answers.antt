@@ -8,6 +8,7 @@ returns c =
     let size : length c.copy_from_slice.new.self ≡ length c.args.text.now = ap length copied in
     record {
       ends = refl;
-      written = take-put_mid c.args.at (c.args.at + length c.args.text.now - c.args.at) c.args.into.now c.copy_from_slice.new.self (c.args.at + length c.args.text.now) (omega arith) (omega arith) ∙ ap (λ (xs : List ℕ). take c.args.at c.args.into.now ++ xs) copied;
+      written = take-put_mid c.args.at (c.args.at + length c.args.text.now - c.args.at) c.args.into.now c.copy_from_slice.new.self (c.args.at + length c.args.text.now) (omega arith) (omega arith)
+          ∙ ap (λ (xs : List ℕ). take c.args.at c.args.into.now ++ xs) copied;
       behind = drop-put_mid c.args.at (c.args.at + length c.args.text.now - c.args.at) c.args.into.now c.copy_from_slice.new.self (c.args.at + length c.args.text.now) (omega arith) (omega arith) (omega arith);
     }

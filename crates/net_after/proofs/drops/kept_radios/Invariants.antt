@@ -8,4 +8,5 @@ use Rattle.net_after.proofs.drops.kept_radios.Given as goal
 
 -- the asks so far that stay, and those of the others
 abbrev pub invariant-loop-asked : goal.invariant-loop-asked
-invariant-loop-asked l = l.kept ++ filter (λ o. is_same_need same_radio_ask (named (λ ask. ask.name) l.needs o.ask.name) o.ask) (into_iter_items l.asked-iterator) ≡ filter (λ o. is_same_need same_radio_ask (named (λ ask. ask.name) l.needs o.ask.name) o.ask) l.fn.current
+invariant-loop-asked l = l.kept ++ filter (λ o. is_same_need same_radio_ask (named (λ ask. ask.name) l.needs o.ask.name) o.ask) (into_iter_items l.asked-iterator)
+    ≡ filter (λ o. is_same_need same_radio_ask (named (λ ask. ask.name) l.needs o.ask.name) o.ask) l.fn.current

@@ -10,4 +10,5 @@ loop-place-preserved c numbers has =
     let p : ℕ = c.loop-place.place in
     let number : ℕ = get_or before (p - 1) 0 in
     let within : p - 1 < length before = omega (arith, c.loop-place-test.true, c.loop-place.auto.place) in
-    lost_more numbers before p number c.args.current.now _ c.loop-place.lost.keys c.note_lost.new.lost.keys has (drop_before before p number c.loop-place-test.true c.loop-place.auto.place (get_or_default before (p - 1) 0 number within)) refl (c.loop-place.invariant numbers has) c.in_ok-note_lost.ensures
+    lost_more numbers before p number c.args.current.now _ c.loop-place.lost.keys c.note_lost.new.lost.keys has (drop_before before p number c.loop-place-test.true c.loop-place.auto.place (get_or_default before (p - 1) 0 number within))
+    refl (c.loop-place.invariant numbers has) c.in_ok-note_lost.ensures

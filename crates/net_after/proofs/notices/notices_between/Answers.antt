@@ -13,4 +13,5 @@ pub returns : goal.returns
 returns c before numbers next =
     let dropped : c.loop-number.notices ≡ map notice.Dropped (ordered nat_cmp (lost_of (numbers_of c.args.now.now) c.args.numbers.now)) =
     sym (append-nil c.loop-number.notices) ∙ ap (λ (rest : List ℕ). c.loop-number.notices ++ map notice.Dropped rest) (sym c.in-None.ensures.steps.0) ∙ c.loop-number.invariant in
-    told before c.args.now.now c.args.numbers.now c.args.next _ _ c.loop-number.notices c.add_interfaces.new.notices c.add_radios.new.notices numbers next c.as_slice.ensures c.as_slice-2.ensures dropped c.in_ok-add_interfaces.ensures c.in_ok-add_radios.ensures
+    told before c.args.now.now c.args.numbers.now c.args.next _ _ c.loop-number.notices c.add_interfaces.new.notices c.add_radios.new.notices numbers next c.as_slice.ensures c.as_slice-2.ensures dropped c.in_ok-add_interfaces.ensures
+    c.in_ok-add_radios.ensures

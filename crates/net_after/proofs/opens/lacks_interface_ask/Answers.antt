@@ -7,4 +7,5 @@ use Rattle.net_after.proofs.AskedLemmas.{none_is_not_some}
 use Rattle.net_after.proofs.opens.lacks_interface_ask.Goals as goal
 
 pub returns : goal.returns
-returns c = ap not (c.contains_key.ensures ∙ ap is_some (c.requires c.args.name.now) ∙ place_is_found (λ (o : OpenInterface). o.ask.name) c.args.current.now c.args.name.now) ∙ none_is_not_some (open_interface c.args.current.now c.args.name.now)
+returns c = ap not (c.contains_key.ensures ∙ ap is_some (c.requires c.args.name.now) ∙ place_is_found (λ (o : OpenInterface). o.ask.name) c.args.current.now c.args.name.now)
+    ∙ none_is_not_some (open_interface c.args.current.now c.args.name.now)

@@ -14,10 +14,12 @@ pub asks_opened-requires-clause-countable : goal.asks_opened-requires-clause-cou
 asks_opened-requires-clause-countable c = still_countable c.args.inputs c.in_ok-left.left (next_now c.args.inputs c.in_ok-dropped.dropped c.in_ok-left.left c.in_ok-dropped.ensures c.in_ok-left.ensures) c.requires
 
 pub asks_opened-requires-clause-interfaces : goal.asks_opened-requires-clause-interfaces
-asks_opened-requires-clause-interfaces c = needs_now c.in_ok-dropped.dropped c.in_ok-left.left c.in_ok-for_interfaces.for_interfaces c.in_ok-left.ensures (c.in_ok-for_interfaces.ensures ∙ ap (λ (z : List InterfaceRow). filter_map (interface_need (facts_of c.in_ok-dropped.dropped)) (firsts (λ row. row.name) z)) c.as_slice-rows.ensures)
+asks_opened-requires-clause-interfaces c = needs_now c.in_ok-dropped.dropped c.in_ok-left.left c.in_ok-for_interfaces.for_interfaces c.in_ok-left.ensures
+    (c.in_ok-for_interfaces.ensures ∙ ap (λ (z : List InterfaceRow). filter_map (interface_need (facts_of c.in_ok-dropped.dropped)) (firsts (λ row. row.name) z)) c.as_slice-rows.ensures)
 
 pub asks_opened-requires-clause-radios : goal.asks_opened-requires-clause-radios
-asks_opened-requires-clause-radios c = c.in_ok-for_radios.ensures ∙ ap (λ (z : List RadioRow). filter_map radio_need (firsts (λ row. row.name) z)) c.as_slice.ensures ∙ ap (λ (z : Conf). filter_map radio_need (radios_of z)) (sym (conf_now c.args.inputs c.in_ok-dropped.dropped c.in_ok-left.left c.in_ok-dropped.ensures c.in_ok-left.ensures))
+asks_opened-requires-clause-radios c = c.in_ok-for_radios.ensures ∙ ap (λ (z : List RadioRow). filter_map radio_need (firsts (λ row. row.name) z)) c.as_slice.ensures
+    ∙ ap (λ (z : Conf). filter_map radio_need (radios_of z)) (sym (conf_now c.args.inputs c.in_ok-dropped.dropped c.in_ok-left.left c.in_ok-dropped.ensures c.in_ok-left.ensures))
 
 pub returns : goal.returns
 returns c = asked_ok c.args.inputs c.in_ok-dropped.dropped c.in_ok-left.left c.asks_opened.result c.in_ok-dropped.ensures c.in_ok-left.ensures c.asks_opened.ensures

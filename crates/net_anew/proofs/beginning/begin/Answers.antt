@@ -13,7 +13,8 @@ returns-clause-step g c =
     let states = c.refresh_all.new.self in
     let settled = c.refresh_all.new.settling in
     let alone = c.refresh_all.ensures.stays in
-    let history = history_settled c.args.follower.now found.0 c.replace.new.follower found.1 c.args.made c.forget_claims.new.graph found.2 found.3 c.forget_claims.ensures.none c.forget_claims.ensures.stays c.replace.ensures settled alone c.requires.history in
+    let history = history_settled c.args.follower.now found.0 c.replace.new.follower found.1 c.args.made c.forget_claims.new.graph found.2 found.3 c.forget_claims.ensures.none c.forget_claims.ensures.stays c.replace.ensures settled alone
+    c.requires.history in
     step_begun c.args.follower.now found.0 c.replace.new.follower found.1 c.args.made c.forget_claims.new.graph found.2 found.3 c.forget_claims.ensures.none c.forget_claims.ensures.stays c.replace.ensures settled alone
     states c.look.new.settling c.refresh_all.ensures.states
     (c.look.ensures.counted c.replace.new.follower.inputs.inputs states.list.items c.refresh_all.ensures.counted)

@@ -8,7 +8,8 @@ pub loop-row-init : goal.loop-row-init
 loop-row-init c = no_row_room c.args.inputs.now (take 0 c.args.rows.now) c.args.gifts.now (none_taken c.args.rows.now)
 
 pub loop-row-preserved : goal.loop-row-preserved
-loop-row-preserved c = row_room_more c.args.inputs.now c.args.rows.now c.args.gifts.now c.loop-row.gifts c.expect_row.new.gifts c.loop-row.row-index c.row-item.result c.loop-row-test.true c.row-item.is c.loop-row.invariant c.in_ok-expect_row.ensures.room c.in_ok-expect_row.ensures.more
+loop-row-preserved c = row_room_more c.args.inputs.now c.args.rows.now c.args.gifts.now c.loop-row.gifts c.expect_row.new.gifts c.loop-row.row-index c.row-item.result c.loop-row-test.true c.row-item.is c.loop-row.invariant
+    c.in_ok-expect_row.ensures.room c.in_ok-expect_row.ensures.more
 
 pub returns-clause-room : goal.returns-clause-room
 returns-clause-room c =

@@ -12,7 +12,8 @@ loop-place-preserved c =
     let p : ℕ = c.loop-place.place in
     let section : Section = c.index-sections-place.result in
     let more : drop (p - 1) sections ≡ section ∷ drop p sections = drop_before sections p section c.loop-place-test.true c.loop-place.auto.place c.index-sections-place.is in
-    let names : AreNamesOf c.add_said.new.names (section ∷ drop p sections) = subst (λ (z : List (List ℕ)). AreNamesOf z (section ∷ drop p sections)) (sym c.in_ok-add_said.ensures.names) (names_before c.loop-place.names section (drop p sections) c.loop-place.invariant.names) in
+    let names : AreNamesOf c.add_said.new.names (section ∷ drop p sections) =
+    subst (λ (z : List (List ℕ)). AreNamesOf z (section ∷ drop p sections)) (sym c.in_ok-add_said.ensures.names) (names_before c.loop-place.names section (drop p sections) c.loop-place.invariant.names) in
     record {
       said = ap reverse c.in_ok-add_said.ensures.said ∙ (said_before c.loop-place.names section (drop p sections) c.loop-place.said.items c.loop-place.invariant.names c.loop-place.invariant.said ∙ ap all_said (sym more));
       names = subst (AreNamesOf c.add_said.new.names) (sym more) names;

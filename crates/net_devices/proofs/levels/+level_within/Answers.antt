@@ -15,10 +15,15 @@ returns-in-Some-clause-bound t c =
 pub returns-clause-level : goal.returns-clause-level
 returns-clause-level t c =
     let some : 0 < c.args.more = omega arith in
-    c.level_over-level.ensures.level ∙ (ap (λ (z : Bool). level_over z c.loop-lower.highest) c.is_bridge.ensures ∙ level_is c.args.said.now c.args.more c.args.name.now c.as_slice-lowers.result.now c.loop-lower.lower-index c.loop-lower.highest some (c.as_slice-lowers.ensures ∙ c.in_ok-names.ensures) c.loop-lower-test.false c.loop-lower.invariant.highest)
+    c.level_over-level.ensures.level ∙ (ap (λ (z : Bool). level_over z c.loop-lower.highest) c.is_bridge.ensures
+    ∙ level_is c.args.said.now c.args.more c.args.name.now c.as_slice-lowers.result.now c.loop-lower.lower-index c.loop-lower.highest some (c.as_slice-lowers.ensures ∙ c.in_ok-names.ensures) c.loop-lower-test.false
+    c.loop-lower.invariant.highest)
 
 pub returns-clause-kept : goal.returns-clause-kept
 returns-clause-kept t c =
     let some : 0 < c.args.more = omega arith in
-    let is : c.level_over-level.result ≡ level_within c.args.said.now c.args.more c.args.name.now = c.level_over-level.ensures.level ∙ (ap (λ (z : Bool). level_over z c.loop-lower.highest) c.is_bridge.ensures ∙ level_is c.args.said.now c.args.more c.args.name.now c.as_slice-lowers.result.now c.loop-lower.lower-index c.loop-lower.highest some (c.as_slice-lowers.ensures ∙ c.in_ok-names.ensures) c.loop-lower-test.false c.loop-lower.invariant.highest) in
+    let is : c.level_over-level.result ≡ level_within c.args.said.now c.args.more c.args.name.now = c.level_over-level.ensures.level
+    ∙ (ap (λ (z : Bool). level_over z c.loop-lower.highest) c.is_bridge.ensures
+    ∙ level_is c.args.said.now c.args.more c.args.name.now c.as_slice-lowers.result.now c.loop-lower.lower-index c.loop-lower.highest some (c.as_slice-lowers.ensures ∙ c.in_ok-names.ensures) c.loop-lower-test.false
+    c.loop-lower.invariant.highest) in
     levels_more c.args.said.now c.loop-lower.levels.found c.insert.new.self c.args.name.now c.args.more c.level_over-level.result c.loop-lower.invariant.kept is c.in_ok-insert.ensures.updates.0

@@ -9,4 +9,5 @@ pub loop-saying-preserved : goal.loop-saying-preserved
 loop-saying-preserved c =
     let saying = c.saying-item.result in
     let said : List Said = c.args.said.now in
-    subst (HasOwners c.add_owned_by.new.owners) (sym (take_more said c.loop-saying.saying-index saying c.loop-saying-test.true c.saying-item.is)) (owners_more c.loop-saying.owners c.add_owned_by.new.owners (take c.loop-saying.saying-index said) saying c.loop-saying.invariant c.in_ok-add_owned_by.ensures)
+    subst (HasOwners c.add_owned_by.new.owners) (sym (take_more said c.loop-saying.saying-index saying c.loop-saying-test.true c.saying-item.is))
+    (owners_more c.loop-saying.owners c.add_owned_by.new.owners (take c.loop-saying.saying-index said) saying c.loop-saying.invariant c.in_ok-add_owned_by.ensures)

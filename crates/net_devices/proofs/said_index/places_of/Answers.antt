@@ -11,4 +11,5 @@ loop-place-preserved c =
     let saying = c.index-said-place.result in
     let said : List Said = c.args.said.now in
     let place : c.loop-place.place ≡ length (take c.loop-place.place said) = sym (length-take-le c.loop-place.place said (omega (arith, c.loop-place-test.true))) in
-    subst (HasPlaces c.note_saying.new.places) (sym (take_more said c.loop-place.place saying c.loop-place-test.true c.index-said-place.is)) (places_more c.loop-place.places c.note_saying.new.places (take c.loop-place.place said) saying c.loop-place.place place c.loop-place.invariant c.in_ok-note_saying.ensures)
+    subst (HasPlaces c.note_saying.new.places) (sym (take_more said c.loop-place.place saying c.loop-place-test.true c.index-said-place.is))
+    (places_more c.loop-place.places c.note_saying.new.places (take c.loop-place.place said) saying c.loop-place.place place c.loop-place.invariant c.in_ok-note_saying.ensures)

@@ -48,7 +48,8 @@ pub returns-in-Remove-clause-held : goal.returns-in-Remove-clause-held
 returns-in-Remove-clause-held g c = gone_held c.args.settling.now c.leave.new.self c.args.id.0 c.args.event.now c.in-Remove.name c.in-Remove.is c.requires.known c.leave.ensures.graph c.leave.ensures.gifts c.leave.ensures.held
 
 pub returns-in-Remove-clause-calm : goal.returns-in-Remove-clause-calm
-returns-in-Remove-clause-calm g c = gone_calm c.args.settling.now c.leave.new.self c.args.id.0 c.args.event.now c.in-Remove.name c.in-Remove.is c.requires.known c.leave.ensures.graph c.leave.ensures.gifts c.leave.ensures.may_fall c.requires.ready
+returns-in-Remove-clause-calm g c = gone_calm c.args.settling.now c.leave.new.self c.args.id.0 c.args.event.now c.in-Remove.name c.in-Remove.is c.requires.known c.leave.ensures.graph c.leave.ensures.gifts c.leave.ensures.may_fall
+    c.requires.ready
 
 pub returns-in-Remove-clause-loads : goal.returns-in-Remove-clause-loads
 returns-in-Remove-clause-loads g c = ap (λ (s : State). s.loads) c.leave.ensures.graph

@@ -11,4 +11,5 @@ pub returns-in_default-read_length : goal.returns-in_default-read_length
 returns-in_default-read_length c = no_length_is c.args.family c.args.alone c.args.text.now c.in-Some.address.now c.in-Some.digits.now c.in-Some.ensures c.in_default-read_length.ensures.value
 
 pub returns : goal.returns
-returns c = c.with_length-2.ensures ∙ (ap (both (addr_of c.args.family c.in-Some.address.now)) c.in-Some-read_length.ensures.value ∙ cut_is c.args.family c.args.alone c.args.text.now c.in-Some.address.now c.in-Some.digits.now c.in-Some.ensures)
+returns c = c.with_length-2.ensures ∙ (ap (both (addr_of c.args.family c.in-Some.address.now)) c.in-Some-read_length.ensures.value
+    ∙ cut_is c.args.family c.args.alone c.args.text.now c.in-Some.address.now c.in-Some.digits.now c.in-Some.ensures)

@@ -15,4 +15,5 @@ pub returns : goal.returns
 returns c =
     let within : c.args.place < length c.args.rows.now.items = search rules in
     let old : RadioRow = c.index_mut-radio.result.now in
-    on_ok_then c.push.result (λ pushed. ap (λ (z : List WifiRow). set c.args.rows.now.items c.args.place (record old { rows = z })) pushed ∙ with_row_set c.args.rows.now.items c.args.place c.args.row old within c.index_mut-radio.ensures.value) c.push.ensures.ok
+    on_ok_then c.push.result (λ pushed. ap (λ (z : List WifiRow). set c.args.rows.now.items c.args.place (record old { rows = z })) pushed
+    ∙ with_row_set c.args.rows.now.items c.args.place c.args.row old within c.index_mut-radio.ensures.value) c.push.ensures.ok

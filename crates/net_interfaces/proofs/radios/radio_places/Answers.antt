@@ -3,4 +3,5 @@ use Rattle.net_interfaces.proofs.NameLemmas.{places_go_on}
 use Rattle.net_interfaces.proofs.radios.radio_places.Goals as goal
 
 pub loop-place-preserved : goal.loop-place-preserved
-loop-place-preserved c = places_go_on (λ (row : RadioRow). row.name) c.loop-place.places c.note.new.places c.args.radios.now c.loop-place.place c.index-radios-place.result c.loop-place.invariant c.in_ok-note.ensures c.loop-place-test.true c.index-radios-place.is
+loop-place-preserved c = places_go_on (λ (row : RadioRow). row.name) c.loop-place.places c.note.new.places c.args.radios.now c.loop-place.place c.index-radios-place.result c.loop-place.invariant c.in_ok-note.ensures c.loop-place-test.true
+    c.index-radios-place.is

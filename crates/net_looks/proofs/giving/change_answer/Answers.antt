@@ -7,10 +7,15 @@ use Rattle.net_looks.proofs.GivingLemmas.{first_can, second_can, two_done}
 use Rattle.net_looks.proofs.giving.change_answer.Goals as goal
 
 pub change_addresses-requires : goal.change_addresses-requires
-change_addresses-requires c = first_can c.args.change c.args.gifts.now (map (object.Address c.args.dev.now) c.args.answer.now.addresses) (map (answer_route c.args.dev.now) c.args.answer.now.routes) (map (object.Address c.args.dev.now) c.as_slice.result.now) (ap (λ (z : List (Addr × ℕ)). map (object.Address c.args.dev.now) z) c.as_slice.ensures) c.requires
+change_addresses-requires c = first_can c.args.change c.args.gifts.now (map (object.Address c.args.dev.now) c.args.answer.now.addresses) (map (answer_route c.args.dev.now) c.args.answer.now.routes)
+    (map (object.Address c.args.dev.now) c.as_slice.result.now) (ap (λ (z : List (Addr × ℕ)). map (object.Address c.args.dev.now) z) c.as_slice.ensures) c.requires
 
 pub change_answer_routes-requires : goal.change_answer_routes-requires
-change_answer_routes-requires c = second_can c.args.change c.args.gifts.now c.change_addresses.new.gifts (map (object.Address c.args.dev.now) c.args.answer.now.addresses) (map (answer_route c.args.dev.now) c.args.answer.now.routes) (map (object.Address c.args.dev.now) c.as_slice.result.now) (map (answer_route c.args.dev.now) c.as_slice-2.result.now) (ap (λ (z : List (Addr × ℕ)). map (object.Address c.args.dev.now) z) c.as_slice.ensures) (ap (λ (z : List AnswerRoute). map (answer_route c.args.dev.now) z) c.as_slice-2.ensures) c.change_addresses.ensures c.requires
+change_answer_routes-requires c = second_can c.args.change c.args.gifts.now c.change_addresses.new.gifts (map (object.Address c.args.dev.now) c.args.answer.now.addresses) (map (answer_route c.args.dev.now) c.args.answer.now.routes)
+    (map (object.Address c.args.dev.now) c.as_slice.result.now) (map (answer_route c.args.dev.now) c.as_slice-2.result.now) (ap (λ (z : List (Addr × ℕ)). map (object.Address c.args.dev.now) z) c.as_slice.ensures)
+    (ap (λ (z : List AnswerRoute). map (answer_route c.args.dev.now) z) c.as_slice-2.ensures) c.change_addresses.ensures c.requires
 
 pub returns : goal.returns
-returns c = two_done c.args.change c.args.gifts.now c.change_addresses.new.gifts c.change_answer_routes.new.gifts (map (object.Address c.args.dev.now) c.args.answer.now.addresses) (map (answer_route c.args.dev.now) c.args.answer.now.routes) (map (object.Address c.args.dev.now) c.as_slice.result.now) (map (answer_route c.args.dev.now) c.as_slice-2.result.now) (ap (λ (z : List (Addr × ℕ)). map (object.Address c.args.dev.now) z) c.as_slice.ensures) (ap (λ (z : List AnswerRoute). map (answer_route c.args.dev.now) z) c.as_slice-2.ensures) c.change_addresses.ensures c.change_answer_routes.ensures
+returns c = two_done c.args.change c.args.gifts.now c.change_addresses.new.gifts c.change_answer_routes.new.gifts (map (object.Address c.args.dev.now) c.args.answer.now.addresses) (map (answer_route c.args.dev.now) c.args.answer.now.routes)
+    (map (object.Address c.args.dev.now) c.as_slice.result.now) (map (answer_route c.args.dev.now) c.as_slice-2.result.now) (ap (λ (z : List (Addr × ℕ)). map (object.Address c.args.dev.now) z) c.as_slice.ensures)
+    (ap (λ (z : List AnswerRoute). map (answer_route c.args.dev.now) z) c.as_slice-2.ensures) c.change_addresses.ensures c.change_answer_routes.ensures

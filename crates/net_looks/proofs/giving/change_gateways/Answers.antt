@@ -7,10 +7,13 @@ pub loop-gateway-init : goal.loop-gateway-init
 loop-gateway-init c = all_left c.args.change c.args.gifts.now (map (default_route c.args.dev.now c.args.metric) c.args.gateways.now) c.requires
 
 pub change_one-requires : goal.change_one-requires
-change_one-requires c = item_can (default_route c.args.dev.now c.args.metric) c.args.change c.args.gifts.now c.loop-gateway.gifts (map (default_route c.args.dev.now c.args.metric) c.args.gateways.now) c.args.gateways.now c.loop-gateway.gateway-index _ c.default_route.result c.loop-gateway-test.true c.default_route.ensures c.loop-gateway.invariant
+change_one-requires c = item_can (default_route c.args.dev.now c.args.metric) c.args.change c.args.gifts.now c.loop-gateway.gifts (map (default_route c.args.dev.now c.args.metric) c.args.gateways.now) c.args.gateways.now
+    c.loop-gateway.gateway-index _ c.default_route.result c.loop-gateway-test.true c.default_route.ensures c.loop-gateway.invariant
 
 pub loop-gateway-preserved : goal.loop-gateway-preserved
-loop-gateway-preserved c = item_done (default_route c.args.dev.now c.args.metric) c.args.change c.args.gifts.now c.loop-gateway.gifts c.change_one.new.gifts (map (default_route c.args.dev.now c.args.metric) c.args.gateways.now) c.args.gateways.now c.loop-gateway.gateway-index _ c.default_route.result c.loop-gateway-test.true c.default_route.ensures c.loop-gateway.invariant c.change_one.ensures
+loop-gateway-preserved c = item_done (default_route c.args.dev.now c.args.metric) c.args.change c.args.gifts.now c.loop-gateway.gifts c.change_one.new.gifts (map (default_route c.args.dev.now c.args.metric) c.args.gateways.now)
+    c.args.gateways.now c.loop-gateway.gateway-index _ c.default_route.result c.loop-gateway-test.true c.default_route.ensures c.loop-gateway.invariant c.change_one.ensures
 
 pub returns : goal.returns
-returns c = all_done (map (default_route c.args.dev.now c.args.metric)) c.args.change c.args.gifts.now c.loop-gateway.gifts (map (default_route c.args.dev.now c.args.metric) c.args.gateways.now) c.args.gateways.now c.loop-gateway.gateway-index refl c.loop-gateway-test.false c.loop-gateway.invariant
+returns c = all_done (map (default_route c.args.dev.now c.args.metric)) c.args.change c.args.gifts.now c.loop-gateway.gifts (map (default_route c.args.dev.now c.args.metric) c.args.gateways.now) c.args.gateways.now
+    c.loop-gateway.gateway-index refl c.loop-gateway-test.false c.loop-gateway.invariant

@@ -13,7 +13,8 @@ pub add_row-requires-clause-fresh : goal.add_row-requires-clause-fresh
 add_row-requires-clause-fresh c = groups_below (stands_on c.args.inputs.now) c.args.rows.now c.loop-place.above c.loop-place.place (omega (arith, c.loop-place-test.true)) c.loop-place.invariant
 
 pub loop-place-preserved : goal.loop-place-preserved
-loop-place-preserved c = groups_more (stands_on c.args.inputs.now) c.args.rows.now c.loop-place.above c.add_row.new.above c.loop-place.place c.index-rows-place.result c.loop-place-test.true c.index-rows-place.is c.loop-place.invariant c.in_ok-add_row.ensures
+loop-place-preserved c = groups_more (stands_on c.args.inputs.now) c.args.rows.now c.loop-place.above c.add_row.new.above c.loop-place.place c.index-rows-place.result c.loop-place-test.true c.index-rows-place.is c.loop-place.invariant
+    c.in_ok-add_row.ensures
 
 pub returns : goal.returns
 returns c = λ q. c.loop-place.invariant q ∙ ap (λ (z : List NameRow). places_by (stands_on c.args.inputs.now q) z) (take_all c.loop-place.place c.args.rows.now c.loop-place-test.false)

@@ -13,7 +13,8 @@ returns-in-Some-clause-above c name named =
     subst (λ (z : List ℕ). Leads c.args.above.now z c.add_all.new.self) same (leads_to c.args.above.now c.in-Some.name.now c.args.rows.now c.add_all.new.self c.places_at.result.now c.places_at.ensures c.add_all.ensures)
 
 pub returns-in-Some-clause-only : goal.returns-in-Some-clause-only
-returns-in-Some-clause-only c = λ base member climbed. climbed_further c.args.above.now c.args.names.now base c.args.rows.now c.add_all.new.self c.places_at.result.now c.args.lower c.in-Some.name.now member (read_some c.args.names.now c.args.lower c.get.result c.in-Some.name c.get.ensures.lookup c.in-Some.is) c.places_at.ensures c.add_all.ensures climbed
+returns-in-Some-clause-only c = λ base member climbed. climbed_further c.args.above.now c.args.names.now base c.args.rows.now c.add_all.new.self c.places_at.result.now c.args.lower c.in-Some.name.now member
+    (read_some c.args.names.now c.args.lower c.get.result c.in-Some.name c.get.ensures.lookup c.in-Some.is) c.places_at.ensures c.add_all.ensures climbed
 
 pub returns-in-None-clause-stays : goal.returns-in-None-clause-stays
 returns-in-None-clause-stays c = stays_itself c.args.rows.now

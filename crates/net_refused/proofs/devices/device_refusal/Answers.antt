@@ -14,7 +14,8 @@ returns-in-Add c = λ held told.
     let name = c.in-Add.name in
     let here = told ∙ ap (λ what. spec.is_held_link held (name_of what)) c.in-Add.is in
     c.add_refusal.ensures
-    ∙ ap (λ b. spec.or_else (spec.refused_if (is_some (device_in inputs.devices name) || (not (is_plain inputs.conf name) || b)) refused.Known) (spec.refused_if (nat_le MOST_DEVICES (length inputs.devices)) (refused.Limit MOST_DEVICES))) here
+    ∙ ap (λ b. spec.or_else (spec.refused_if (is_some (device_in inputs.devices name) || (not (is_plain inputs.conf name) || b)) refused.Known) (spec.refused_if (nat_le MOST_DEVICES (length inputs.devices)) (refused.Limit MOST_DEVICES)))
+    here
     ∙ ap (spec.device_refusal (record { inputs = inputs; held = held })) (sym c.in-Add.is)
 
 pub returns-in-Remove : goal.returns-in-Remove

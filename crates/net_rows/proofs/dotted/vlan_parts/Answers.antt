@@ -12,4 +12,5 @@ pub returns-in_default-vlan_id : goal.returns-in_default-vlan_id
 returns-in_default-vlan_id c = sym (by_cut c.args.name.now c.text.result.now c.in-Some.front.now c.in-Some.digits.now c.text.ensures.bytes c.in-Some.ensures ∙ no_id c.in-Some.front.now _ (sym c.in_default-vlan_id.ensures))
 
 pub returns : goal.returns
-returns c = sym (by_cut c.args.name.now c.text.result.now c.in-Some.front.now c.in-Some.digits.now c.text.ensures.bytes c.in-Some.ensures ∙ both_parts c.in-Some.front.now c.in-Some-read_name.lower _ c.in-Some-vlan_id.id c.in-Some-read_name.ensures.some.1 c.in-Some-read_name.ensures.some.0 (sym c.in-Some-vlan_id.ensures))
+returns c = sym (by_cut c.args.name.now c.text.result.now c.in-Some.front.now c.in-Some.digits.now c.text.ensures.bytes c.in-Some.ensures
+    ∙ both_parts c.in-Some.front.now c.in-Some-read_name.lower _ c.in-Some-vlan_id.id c.in-Some-read_name.ensures.some.1 c.in-Some-read_name.ensures.some.0 (sym c.in-Some-vlan_id.ensures))

@@ -12,7 +12,8 @@ pub idle_state-requires-clause-at : goal.idle_state-requires-clause-at
 idle_state-requires-clause-at c = row_at c.args.rows.now c.args.inputs.now.conf.interfaces c.loop-place.place c.index-rows-place.result c.requires.rows c.loop-place-test.true c.index-rows-place.is
 
 pub loop-place-preserved : goal.loop-place-preserved
-loop-place-preserved c = pushed_beside (IsNotedIdle c.args.inputs.now) c.args.rows.now c.loop-place.states.items c.push.new.self.items c.loop-place.place c.index-rows-place.result c.idle_state.result c.loop-place-test.true c.index-rows-place.is c.loop-place.invariant c.idle_state.ensures c.in_ok-push.ensures.items
+loop-place-preserved c = pushed_beside (IsNotedIdle c.args.inputs.now) c.args.rows.now c.loop-place.states.items c.push.new.self.items c.loop-place.place c.index-rows-place.result c.idle_state.result c.loop-place-test.true
+    c.index-rows-place.is c.loop-place.invariant c.idle_state.ensures c.in_ok-push.ensures.items
 
 pub returns : goal.returns
 returns c = subst (λ (z : List InterfaceRow). AreBeside (IsNotedIdle c.args.inputs.now) z c.loop-place.states.items) (take_all c.loop-place.place c.args.rows.now c.loop-place-test.false) c.loop-place.invariant

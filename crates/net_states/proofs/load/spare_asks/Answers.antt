@@ -16,7 +16,8 @@ loop-place-preserved c =
     let within = c.loop-place-test.true in
     let size = c.requires in
     let spare = spare_of states c.loop-place.place c.index-rows-place.result c.index-states-place.result c.in_ok-spare_ask.field-0 (omega arith) c.index-states-place.is c.in_ok-spare_ask.ensures in
-    pushed_beside (IsSpare states) rows c.loop-place.asks.items c.push.new.self.items c.loop-place.place c.index-rows-place.result c.in_ok-spare_ask.field-0 within c.index-rows-place.is c.loop-place.invariant spare c.in_ok-push.ensures.items
+    pushed_beside (IsSpare states) rows c.loop-place.asks.items c.push.new.self.items c.loop-place.place c.index-rows-place.result c.in_ok-spare_ask.field-0 within c.index-rows-place.is c.loop-place.invariant spare
+    c.in_ok-push.ensures.items
 
 pub returns : goal.returns
 returns c = subst (λ (z : List InterfaceRow). AreBeside (IsSpare c.args.states.now) z c.loop-place.asks.items) (take_all c.loop-place.place c.args.rows.now c.loop-place-test.false) c.loop-place.invariant

@@ -8,4 +8,5 @@ pub loop-level-init : goal.loop-level-init
 loop-level-init c = c.in_ok-told.ensures (facts_of c.args.inputs.now) c.as_slice.ensures
 
 pub loop-level-preserved : goal.loop-level-preserved
-loop-level-preserved c = one_level_more (facts_of c.args.inputs.now) asked.Available c.loop-level.level c.loop-level.told _ c.as_slice-in-loop-level.result.now c.loop-level.invariant c.as_slice-in-loop-level.ensures refl refl c.in_ok-by_row.ensures
+loop-level-preserved c = one_level_more (facts_of c.args.inputs.now) asked.Available c.loop-level.level c.loop-level.told _ c.as_slice-in-loop-level.result.now c.loop-level.invariant c.as_slice-in-loop-level.ensures
+    refl refl c.in_ok-by_row.ensures

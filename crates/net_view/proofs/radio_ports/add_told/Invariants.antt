@@ -6,4 +6,5 @@ use Rattle.net_view.proofs.radio_ports.add_told.Given as goal
 
 -- the ports so far, and then those of the other rows
 abbrev pub invariant-loop-row : goal.invariant-loop-row
-invariant-loop-row l = map as_answered l.ports.items ++ filter_map (port_of_pair (facts_of l.inputs)) (zip (enabled (drop l.row-index l.rows)) l.rest) ≡ map as_answered l.initial.ports.items ++ filter_map (port_of_pair (facts_of l.inputs)) (zip (enabled l.rows) l.told)
+invariant-loop-row l = map as_answered l.ports.items ++ filter_map (port_of_pair (facts_of l.inputs)) (zip (enabled (drop l.row-index l.rows)) l.rest) ≡ map as_answered l.initial.ports.items
+    ++ filter_map (port_of_pair (facts_of l.inputs)) (zip (enabled l.rows) l.told)

@@ -18,7 +18,8 @@ loop-place-preserved c =
     let rows : List InterfaceRow = c.args.interfaces.now in
     let i : ℕ = c.loop-place.place in
     let row : InterfaceRow = c.index-interfaces-place.result in
-    let has : HasPlaces c.args.levels.now.ports.index.interfaces (map key rows) = subst (λ (z : List InterfaceRow). HasPlaces c.args.levels.now.ports.index.interfaces (map key z)) (sym c.requires.interfaces) c.requires.levels.ports.index.interfaces in
+    let has : HasPlaces c.args.levels.now.ports.index.interfaces (map key rows) =
+    subst (λ (z : List InterfaceRow). HasPlaces c.args.levels.now.ports.index.interfaces (map key z)) (sym c.requires.interfaces) c.requires.levels.ports.index.interfaces in
     let test : List ℕ → InterfaceRow → Bool = uses (facts_of c.args.inputs.now) in
     names_more c.loop-place.names c.add_uses_if_first.new.names
     (λ q. list_any (test q) (firsts key (take i rows)))

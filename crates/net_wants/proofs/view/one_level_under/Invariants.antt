@@ -11,4 +11,5 @@ use Rattle.net_wants.proofs.view.one_level_under.Given as goal
 
 -- the names under those of the rows so far that are used
 abbrev pub invariant-loop-row : goal.invariant-loop-row
-invariant-loop-row l = (k : ℕ) → HasAbove (facts_of l.inputs) k l.under → HasNames l.more (λ q. list_any (λ upper. stands (facts_of l.inputs) q upper && by_levels (k + 1) (serves_at (facts_of l.inputs)) upper) (map (λ row. row.name) (take l.row-index l.names)))
+invariant-loop-row l = (k : ℕ) → HasAbove (facts_of l.inputs) k l.under
+    → HasNames l.more (λ q. list_any (λ upper. stands (facts_of l.inputs) q upper && by_levels (k + 1) (serves_at (facts_of l.inputs)) upper) (map (λ row. row.name) (take l.row-index l.names)))

@@ -21,7 +21,8 @@ returns c =
       λ _. record {
         some = omega (arith, c.if-names-lt2.false);
         gates = name_read names 0 c.index-names-0.result (omega (arith, c.if-names-lt2.false)) c.index-names-0.is ∙ (sym c.as_bytes.ensures ∙ (same_text c.as_bytes.result.now c.as_slice.result.now c.if-ne.ensures ∙ c.as_slice.ensures));
-        snapshot = name_read names 1 c.index-names-1.result (omega (arith, c.if-names-lt2.false)) c.index-names-1.is ∙ (sym c.as_bytes-2.ensures ∙ (same_text c.as_bytes-2.result.now c.as_slice-2.result.now c.if-ne-2.ensures ∙ c.as_slice-2.ensures));
+        snapshot = name_read names 1 c.index-names-1.result (omega (arith, c.if-names-lt2.false)) c.index-names-1.is
+            ∙ (sym c.as_bytes-2.ensures ∙ (same_text c.as_bytes-2.result.now c.as_slice-2.result.now c.if-ne-2.ensures ∙ c.as_slice-2.ensures));
         packages = λ file low within. c.loop-file.invariant file (omega (arith, within, c.loop-file-test.false)) low;
       },
       λ _. refl,

@@ -31,7 +31,8 @@ returns-in-Uci-clause-cause g c =
     let asked : AskFor words c.in-Ok-Some.command = rw c.in-Ok-Some.field-0-is at c.in-Ok-Some.ensures.found in
     let streams = streams_of g.S.Source c.args.input.now c.run_uci-status.new.input g.O.Sink c.args.out.now c.run_uci-status.new.out g.E.Sink c.args.err.now c.run_uci-status.new.err in
     of_command (Uci c.in-Uci.words) (subst (AskFor words) c.in-Uci.is asked) (
-      subst (λ ws. RunEnds ws (g.C.Clock.moments c.args.clock.now) streams (g.D.Disk.view c.args.files.now) (g.D.Disk.view c.run_uci-status.new.files) (g.T.Disk.view c.args.staged.now) (g.T.Disk.view c.run_uci-status.new.staged) c.run_uci-status.result)
+      subst (λ ws. RunEnds ws (g.C.Clock.moments c.args.clock.now) streams (g.D.Disk.view c.args.files.now) (g.D.Disk.view c.run_uci-status.new.files) (g.T.Disk.view c.args.staged.now) (g.T.Disk.view c.run_uci-status.new.staged)
+          c.run_uci-status.result)
           c.as_slice-words.ensures c.run_uci-status.ensures.ended,
       record { same = c.run_uci-status.ensures.same; follows = c.run_uci-status.ensures.follows },
     )

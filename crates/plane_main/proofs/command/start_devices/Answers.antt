@@ -8,14 +8,17 @@ use Rattle.plane_main.proofs.WordLemmas.{no_start_at, no_start_twice}
 use Rattle.plane_main.proofs.command.start_devices.Goals as goal
 
 pub returns-in_default-read_plain_name-clause-none : goal.returns-in_default-read_plain_name-clause-none
-returns-in_default-read_plain_name-clause-none c names = no_start_at string_bytes c.args.words.now c.in-Some.rest.now c.in-Some.command.now c.word-item.result c.loop-word.word-index names c.in-Some.ensures.cases.0 c.loop-word-test.true c.word-item.is (λ h. c.in_default-read_plain_name.ensures.none (subst IsPlainName (sym c.as_bytes-in-loop-word.ensures.value) h))
+returns-in_default-read_plain_name-clause-none c names = no_start_at string_bytes c.args.words.now c.in-Some.rest.now c.in-Some.command.now c.word-item.result c.loop-word.word-index names c.in-Some.ensures.cases.0 c.loop-word-test.true
+    c.word-item.is (λ h. c.in_default-read_plain_name.ensures.none (subst IsPlainName (sym c.as_bytes-in-loop-word.ensures.value) h))
 
 pub returns-then-not-branch-clause-none : goal.returns-then-not-branch-clause-none
 returns-then-not-branch-clause-none c names =
     let inv = c.loop-word.invariant in
     let name : c.in-Some-read_plain_name.name ≡ string_bytes c.word-item.result = cc (c.in-Some-read_plain_name.ensures.found.0, c.as_bytes-in-loop-word.ensures.value) in
-    let seen : Contains c.loop-word.names.items c.in-Some-read_plain_name.name = was_seen c.loop-word.seen c.loop-word.names.items c.in-Some-read_plain_name.name c.in_ok-insert.field-0 inv.seen (c.in_ok-insert.ensures.added) c.if-not-branch.true in
-    let twice : Contains (map string_bytes (take c.loop-word.word-index c.in-Some.rest.now)) (string_bytes c.word-item.result) = subst (λ (z : List ℕ). Contains (map string_bytes (take c.loop-word.word-index c.in-Some.rest.now)) z) name (subst (λ (zs : List (List ℕ)). Contains zs c.in-Some-read_plain_name.name) inv.same seen) in
+    let seen : Contains c.loop-word.names.items c.in-Some-read_plain_name.name =
+    was_seen c.loop-word.seen c.loop-word.names.items c.in-Some-read_plain_name.name c.in_ok-insert.field-0 inv.seen (c.in_ok-insert.ensures.added) c.if-not-branch.true in
+    let twice : Contains (map string_bytes (take c.loop-word.word-index c.in-Some.rest.now)) (string_bytes c.word-item.result) =
+    subst (λ (z : List ℕ). Contains (map string_bytes (take c.loop-word.word-index c.in-Some.rest.now)) z) name (subst (λ (zs : List (List ℕ)). Contains zs c.in-Some-read_plain_name.name) inv.same seen) in
     no_start_twice string_bytes c.args.words.now c.in-Some.rest.now c.in-Some.command.now c.word-item.result c.loop-word.word-index names c.in-Some.ensures.cases.0 c.loop-word-test.true c.word-item.is twice
 
 pub loop-word-preserved : goal.loop-word-preserved

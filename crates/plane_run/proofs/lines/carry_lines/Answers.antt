@@ -6,7 +6,7 @@ use Rattle.uci_tool.specs.Ends.{Stream}
 use Rattle.uci_tool.proofs.FolderRunLemmas.{held}
 use Rattle.rpc_objects.specs.Passed.{StaysOrStopsIn}
 use Rattle.bus_lines.specs.Ended.{world_of}
-use Rattle.bus_lines.specs.Words.{supply_of}
+use Rattle.plane_outside.specs.Supply.{supply_of}
 use Rattle.plane_step.specs.Kept.{faults_of}
 use Rattle.plane_step.specs.ScriptPasses.{ScriptPasses}
 use Rattle.plane_run.specs.Run.{Stage, IsKernelFailed}

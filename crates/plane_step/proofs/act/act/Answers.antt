@@ -9,7 +9,7 @@ use Rattle.rpc_objects.specs.Kept.{faults_of}
 use Rattle.rpc_objects.specs.Passed.{StaysOrStopsIn}
 use Rattle.bus_lines.specs.declared.callers.SpareWord.{SpareWord}
 use Rattle.bus_lines.specs.declared.handled.Handled.{Handled}
-use Rattle.bus_lines.specs.Words.{supply_of}
+use Rattle.plane_outside.specs.Supply.{supply_of}
 use Rattle.bus_lines.specs.Passed.{LinePasses as CallerPasses}
 use Rattle.bus_lines.specs.Ended.{Seen, world_of}
 use Rattle.plane_step.specs.Passed.{Passes, PlainPasses}

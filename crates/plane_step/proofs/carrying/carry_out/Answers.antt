@@ -3,7 +3,7 @@ use Rattle.net_settle.specs.Outside.{outside_of}
 use Rattle.net_plane.specs.Network.{moment_of}
 use Rattle.step_net.specs.Taken.{telled_of}
 use Rattle.rpc_objects.specs.Kept.{faults_of}
-use Rattle.bus_lines.specs.Words.{supply_of}
+use Rattle.plane_outside.specs.Supply.{supply_of}
 use Rattle.bus_lines.specs.Ended.{Seen, world_of}
 use Rattle.plane_step.specs.Kept.{faults_of as disks_of}
 use Rattle.plane_step.proofs.LineLemmas.{carried_out, cut_short, cut_in_sends, halted}

@@ -5,7 +5,7 @@ use Rattle.step_net.proofs.AskLemmas.{asks_nothing}
 use Rattle.rpc_objects.specs.Kept.{faults_of}
 use Rattle.rpc_objects.specs.Passed.{StaysOrStopsIn}
 use Rattle.step_net.specs.Taken.{telled_of}
-use Rattle.bus_lines.specs.Words.{supply_of}
+use Rattle.plane_outside.specs.Supply.{supply_of}
 use Rattle.bus_lines.specs.Ended.{Seen, world_of}
 use Rattle.plane_step.specs.Plain.{IsPlain}
 use Rattle.plane_step.specs.Passed.{Passes}

@@ -3,7 +3,7 @@ use Rattle.std.specs.Prelude.{Ok, Err}
 use Rattle.net_settle.specs.Outside.{outside_of}
 use Rattle.plane_step.proofs.StoreLemmas.{stays_itself, stays_both, stays_as}
 use Rattle.rpc_objects.specs.Passed.{StaysOrStopsIn}
-use Rattle.bus_lines.specs.Words.{supply_of}
+use Rattle.plane_outside.specs.Supply.{supply_of}
 use Rattle.bus_lines.specs.Ended.{world_of}
 use Rattle.plane_step.specs.Passed.{LinePasses}
 use Rattle.plane_step.specs.Plain.{ArePlain}

@@ -6,7 +6,7 @@ use Rattle.net_settle.specs.Outside.{outside_of}
 use Rattle.step_net.specs.Finished.{HoldsOrFailed}
 use Rattle.net_plane.specs.Network.{IsOf}
 use Rattle.rpc_objects.specs.Passed.{StaysOrStopsIn}
-use Rattle.bus_lines.specs.Words.{supply_of}
+use Rattle.plane_outside.specs.Supply.{supply_of}
 use Rattle.bus_lines.specs.Ended.{world_of}
 use Rattle.plane_step.specs.Plain.{ArePlain}
 use Rattle.plane_step.specs.ScriptPasses.{ScriptPasses}

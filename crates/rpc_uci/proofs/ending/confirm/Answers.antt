@@ -11,11 +11,13 @@ use Rattle.rpc_uci.proofs.ending.confirm.Goals as goal
 pub returns-in-Err-clause-done : goal.returns-in-Err-clause-done
 returns-in-Err-clause-done g c =
     let rests : Rests c.args.store.now c.confirm.new.self = record { files = c.in-Err.ensures.kept; staged = c.in-Err.ensures.staged } in
-    let both = end_refused (quiet []) (ConfirmsTo c.args.store.now c.args.holder) c.args.store.now c.confirm.new.self c.args.holder (has_failed c.confirm.new.self) (g.D.Disk.view c.args.files.now) (g.D.Disk.view c.confirm.new.files) c.in-Err.error c.requires.ready c.requires.own rests c.in-Err.ensures.closes c.in-Err.ensures.refused in
+    let both = end_refused (quiet []) (ConfirmsTo c.args.store.now c.args.holder) c.args.store.now c.confirm.new.self c.args.holder (has_failed c.confirm.new.self) (g.D.Disk.view c.args.files.now) (g.D.Disk.view c.confirm.new.files)
+    c.in-Err.error c.requires.ready c.requires.own rests c.in-Err.ensures.closes c.in-Err.ensures.refused in
     subst (λ (e : RpcError). EndDone (quiet []) (ConfirmsTo c.args.store.now c.args.holder) c.args.store.now c.confirm.new.self (Err e)) (sym c.refused.ensures) both.0
 
 pub returns-in-Err-clause-cause : goal.returns-in-Err-clause-cause
 returns-in-Err-clause-cause g c =
     let rests : Rests c.args.store.now c.confirm.new.self = record { files = c.in-Err.ensures.kept; staged = c.in-Err.ensures.staged } in
-    let both = end_refused (quiet []) (ConfirmsTo c.args.store.now c.args.holder) c.args.store.now c.confirm.new.self c.args.holder (has_failed c.confirm.new.self) (g.D.Disk.view c.args.files.now) (g.D.Disk.view c.confirm.new.files) c.in-Err.error c.requires.ready c.requires.own rests c.in-Err.ensures.closes c.in-Err.ensures.refused in
+    let both = end_refused (quiet []) (ConfirmsTo c.args.store.now c.args.holder) c.args.store.now c.confirm.new.self c.args.holder (has_failed c.confirm.new.self) (g.D.Disk.view c.args.files.now) (g.D.Disk.view c.confirm.new.files)
+    c.in-Err.error c.requires.ready c.requires.own rests c.in-Err.ensures.closes c.in-Err.ensures.refused in
     subst (λ (e : RpcError). HasCause {X = Reply} (Err e) (has_failed c.confirm.new.self) (g.D.Disk.view c.args.files.now) (g.D.Disk.view c.confirm.new.files)) (sym c.refused.ensures) both.1

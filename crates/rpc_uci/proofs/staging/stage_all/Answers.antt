@@ -21,4 +21,5 @@ returns-in-Err-clause-cut g c =
 pub returns-in-Err-clause-cause : goal.returns-in-Err-clause-cause
 returns-in-Err-clause-cause g c =
     subst (λ (e : RpcError). HasCause {X = Unit {0}} (Err e) (has_failed c.stage_all.new.self) (g.T.Disk.view c.args.staged.now) (g.T.Disk.view c.stage_all.new.staged)) (sym c.refused.ensures)
-    (batch_cause c.args.store.now c.args.holder c.args.name.now c.args.deltas.items (has_failed c.stage_all.new.self) (g.T.Disk.view c.args.staged.now) (g.T.Disk.view c.stage_all.new.staged) c.in-Err.error c.requires.ready c.in-Err.ensures.closes c.requires.fits c.in-Err.ensures.refused)
+    (batch_cause c.args.store.now c.args.holder c.args.name.now c.args.deltas.items (has_failed c.stage_all.new.self) (g.T.Disk.view c.args.staged.now) (g.T.Disk.view c.stage_all.new.staged) c.in-Err.error c.requires.ready
+    c.in-Err.ensures.closes c.requires.fits c.in-Err.ensures.refused)

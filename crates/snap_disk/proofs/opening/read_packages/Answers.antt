@@ -16,5 +16,6 @@ loop-file-preserved g c =
       quiet = quiet_join _ _ _ so_far.quiet c.in-Ok.ensures.quiet;
       long = omega (arith, long, e, so_far.long);
       small = small_push _ _ c.in-Ok.bytes pushed so_far.small c.in-Ok.ensures.small;
-      bytes = λ files seen. package_read _ _ c.in-Ok.bytes c.loop-file.file files pushed so_far.long (within_files _ (g.met.D.Disk.sound c.args.disk.now) files c.loop-file.file seen (omega arith)) (so_far.bytes files seen) (c.in-Ok.ensures.bytes files (so_far.quiet.seen ∙ seen));
+      bytes = λ files seen. package_read _ _ c.in-Ok.bytes c.loop-file.file files pushed so_far.long (within_files _ (g.met.D.Disk.sound c.args.disk.now) files c.loop-file.file seen (omega arith)) (so_far.bytes files seen)
+          (c.in-Ok.ensures.bytes files (so_far.quiet.seen ∙ seen));
     }

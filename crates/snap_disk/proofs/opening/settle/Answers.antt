@@ -31,12 +31,14 @@ returns-in-Ok-restore-clause-open g c =
 pub returns-in-Ok-restore-clause-images : goal.returns-in-Ok-restore-clause-images
 returns-in-Ok-restore-clause-images g c =
     let l = read_as c.args.gates c.args.body.now c.args.packages.items in
-    restored_images c.args.now c.in-Ok.kept _ l _ _ _ _ c.in-Ok-restore.ensures.phase c.as_slice.ensures c.requires.on (record { gate = c.if-gates-ne-OPEN.false; second_gate = c.if-gates-ne-OPEN-2.true; body = c.in-Ok.ensures.reads }) c.requires.within
+    restored_images c.args.now c.in-Ok.kept _ l _ _ _ _ c.in-Ok-restore.ensures.phase c.as_slice.ensures c.requires.on (record { gate = c.if-gates-ne-OPEN.false; second_gate = c.if-gates-ne-OPEN-2.true; body = c.in-Ok.ensures.reads })
+    c.requires.within
 
 pub returns-in-Err-restore-clause-images : goal.returns-in-Err-restore-clause-images
 returns-in-Err-restore-clause-images g c =
     let l = read_as c.args.gates c.args.body.now c.args.packages.items in
-    restored_images c.args.now c.in-Ok.kept _ l _ _ _ _ c.in-Err-restore.ensures.phase c.as_slice.ensures c.requires.on (record { gate = c.if-gates-ne-OPEN.false; second_gate = c.if-gates-ne-OPEN-2.true; body = c.in-Ok.ensures.reads }) c.requires.within
+    restored_images c.args.now c.in-Ok.kept _ l _ _ _ _ c.in-Err-restore.ensures.phase c.as_slice.ensures c.requires.on (record { gate = c.if-gates-ne-OPEN.false; second_gate = c.if-gates-ne-OPEN-2.true; body = c.in-Ok.ensures.reads })
+    c.requires.within
 
 pub returns-then-now-kept-clause-open : goal.returns-then-now-kept-clause-open
 returns-then-now-kept-clause-open g c =
@@ -61,12 +63,14 @@ returns-in-Ok-undo-clause-open g c =
 pub returns-in-Ok-undo-clause-images : goal.returns-in-Ok-undo-clause-images
 returns-in-Ok-undo-clause-images g c =
     let l = read_as c.args.gates c.args.body.now c.args.packages.items in
-    undone_images c.args.now c.in-Ok.kept _ l _ _ _ _ c.in-Ok-undo.ensures.phase c.as_slice-2.ensures c.requires.on (record { gate = c.if-gates-ne-OPEN.false; second_gate = c.if-gates-ne-OPEN-2.false; body = c.in-Ok.ensures.reads }) c.requires.within (omega (arith, c.if-now-kept.false))
+    undone_images c.args.now c.in-Ok.kept _ l _ _ _ _ c.in-Ok-undo.ensures.phase c.as_slice-2.ensures c.requires.on (record { gate = c.if-gates-ne-OPEN.false; second_gate = c.if-gates-ne-OPEN-2.false; body = c.in-Ok.ensures.reads })
+    c.requires.within (omega (arith, c.if-now-kept.false))
 
 pub returns-in-Err-undo-clause-images : goal.returns-in-Err-undo-clause-images
 returns-in-Err-undo-clause-images g c =
     let l = read_as c.args.gates c.args.body.now c.args.packages.items in
-    undone_images c.args.now c.in-Ok.kept _ l _ _ _ _ c.in-Err-undo.ensures.phase c.as_slice-2.ensures c.requires.on (record { gate = c.if-gates-ne-OPEN.false; second_gate = c.if-gates-ne-OPEN-2.false; body = c.in-Ok.ensures.reads }) c.requires.within (omega (arith, c.if-now-kept.false))
+    undone_images c.args.now c.in-Ok.kept _ l _ _ _ _ c.in-Err-undo.ensures.phase c.as_slice-2.ensures c.requires.on (record { gate = c.if-gates-ne-OPEN.false; second_gate = c.if-gates-ne-OPEN-2.false; body = c.in-Ok.ensures.reads })
+    c.requires.within (omega (arith, c.if-now-kept.false))
 
 pub returns-in-Ok-restore-clause-same : goal.returns-in-Ok-restore-clause-same
 returns-in-Ok-restore-clause-same g c = same_phase _ _ _ _ _ c.in-Ok-restore.ensures.phase c.in-Ok-restore.ensures.cause.later

@@ -23,7 +23,9 @@ returns-in_err-sync-clause-phase g c =
     record {
       names = sync.time.names ∙ write.time.names;
       silent = λ none. sync.time.silent (write.time.silent none);
-      tells = tells_join (g.D.Disk.view c.args.disk.now).seen (g.D.Disk.view c.write_at.new.self).seen (g.D.Disk.view c.sync.new.self).seen (tells_step (TornAt 0 1 1) (g.D.Disk.view c.args.disk.now).seen (g.D.Disk.view c.write_at.new.self).seen write.torn) (tells_sync (g.D.Disk.view c.write_at.new.self) (g.D.Disk.view c.sync.new.self) c.sync.result sync.seen sync.stays);
+      tells = tells_join (g.D.Disk.view c.args.disk.now).seen (g.D.Disk.view c.write_at.new.self).seen (g.D.Disk.view c.sync.new.self).seen
+          (tells_step (TornAt 0 1 1) (g.D.Disk.view c.args.disk.now).seen (g.D.Disk.view c.write_at.new.self).seen write.torn)
+          (tells_sync (g.D.Disk.view c.write_at.new.self) (g.D.Disk.view c.sync.new.self) c.sync.result sync.seen sync.stays);
       images = λ l on. (syncs_on _ _ _ (AnySecondGate l) (second_gate_written _ _ (g.met.D.Disk.sound c.args.disk.now) write.time write.crash l on) sync.time sync.crash).leaves;
       ends = λ l on. search rules;
     }
@@ -35,7 +37,9 @@ returns-clause-phase g c =
     record {
       names = sync.time.names ∙ write.time.names;
       silent = λ none. sync.time.silent (write.time.silent none);
-      tells = tells_join (g.D.Disk.view c.args.disk.now).seen (g.D.Disk.view c.write_at.new.self).seen (g.D.Disk.view c.sync.new.self).seen (tells_step (TornAt 0 1 1) (g.D.Disk.view c.args.disk.now).seen (g.D.Disk.view c.write_at.new.self).seen write.torn) (tells_sync (g.D.Disk.view c.write_at.new.self) (g.D.Disk.view c.sync.new.self) c.sync.result sync.seen sync.stays);
+      tells = tells_join (g.D.Disk.view c.args.disk.now).seen (g.D.Disk.view c.write_at.new.self).seen (g.D.Disk.view c.sync.new.self).seen
+          (tells_step (TornAt 0 1 1) (g.D.Disk.view c.args.disk.now).seen (g.D.Disk.view c.write_at.new.self).seen write.torn)
+          (tells_sync (g.D.Disk.view c.write_at.new.self) (g.D.Disk.view c.sync.new.self) c.sync.result sync.seen sync.stays);
       images = λ l on. (syncs_on _ _ _ (AnySecondGate l) (second_gate_written _ _ (g.met.D.Disk.sound c.args.disk.now) write.time write.crash l on) sync.time sync.crash).leaves;
       ends = λ l on. on_after_sync (g.D.Disk.view c.write_at.new.self) (g.D.Disk.view c.sync.new.self) _ (told _ _ _ c.in_ok-write_at.ensures.written on.seen) c.in_ok-sync.ensures.seen c.in_ok-sync.ensures.whole;
     }

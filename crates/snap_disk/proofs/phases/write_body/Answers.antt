@@ -22,7 +22,8 @@ returns-in_err-sync-clause-phase g c =
     record {
       names = sync.time.names ∙ fill.names;
       silent = λ none. sync.time.silent (fill.silent none);
-      tells = tells_join (g.D.Disk.view c.args.disk.now).seen (g.D.Disk.view c.fill.new.disk).seen (g.D.Disk.view c.sync.new.self).seen fill.tells (tells_sync (g.D.Disk.view c.fill.new.disk) (g.D.Disk.view c.sync.new.self) c.sync.result sync.seen sync.stays);
+      tells = tells_join (g.D.Disk.view c.args.disk.now).seen (g.D.Disk.view c.fill.new.disk).seen (g.D.Disk.view c.sync.new.self).seen fill.tells
+          (tells_sync (g.D.Disk.view c.fill.new.disk) (g.D.Disk.view c.sync.new.self) c.sync.result sync.seen sync.stays);
       images = λ l on. (syncs_on _ _ _ (AnyBody l) (body_filled _ _ _ (g.met.D.Disk.sound c.args.disk.now) (g.met.D.Disk.sound c.fill.new.disk) fill.images l on) sync.time sync.crash).leaves;
       ends = λ l on. search rules;
     }
@@ -34,7 +35,8 @@ returns-clause-phase g c =
     record {
       names = sync.time.names ∙ fill.names;
       silent = λ none. sync.time.silent (fill.silent none);
-      tells = tells_join (g.D.Disk.view c.args.disk.now).seen (g.D.Disk.view c.fill.new.disk).seen (g.D.Disk.view c.sync.new.self).seen fill.tells (tells_sync (g.D.Disk.view c.fill.new.disk) (g.D.Disk.view c.sync.new.self) c.sync.result sync.seen sync.stays);
+      tells = tells_join (g.D.Disk.view c.args.disk.now).seen (g.D.Disk.view c.fill.new.disk).seen (g.D.Disk.view c.sync.new.self).seen fill.tells
+          (tells_sync (g.D.Disk.view c.fill.new.disk) (g.D.Disk.view c.sync.new.self) c.sync.result sync.seen sync.stays);
       images = λ l on. (syncs_on _ _ _ (AnyBody l) (body_filled _ _ _ (g.met.D.Disk.sound c.args.disk.now) (g.met.D.Disk.sound c.fill.new.disk) fill.images l on) sync.time sync.crash).leaves;
       ends = λ l on. on_after_sync (g.D.Disk.view c.fill.new.disk) (g.D.Disk.view c.sync.new.self) _ (c.in_ok-fill.ensures.fills.seen _ on.seen) c.in_ok-sync.ensures.seen c.in_ok-sync.ensures.whole;
     }

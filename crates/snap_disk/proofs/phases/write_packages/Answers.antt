@@ -25,7 +25,8 @@ returns-in_err-fill-clause-phase g c =
       names = fill.names ∙ c.loop-file.invariant.names;
       silent = λ none. fill.silent (c.loop-file.invariant.silent none);
       tells = tells_join (g.D.Disk.view c.args.disk.now).seen (g.D.Disk.view c.loop-file.disk).seen (g.D.Disk.view c.fill.new.disk).seen c.loop-file.invariant.tells fill.tells;
-      images = λ l on. (calls_on _ _ _ (AnyPackages files l) _ (c.loop-file.invariant.images l on) fill.images (g.met.D.Disk.sound c.fill.new.disk) (λ d e. beside_filled files file.file _ l d e is.low (omega (arith, is.small, size)) stands)).leaves;
+      images = λ l on. (calls_on _ _ _ (AnyPackages files l) _ (c.loop-file.invariant.images l on) fill.images (g.met.D.Disk.sound c.fill.new.disk)
+          (λ d e. beside_filled files file.file _ l d e is.low (omega (arith, is.small, size)) stands)).leaves;
       ends = λ l on. search rules;
     }
 
@@ -57,7 +58,8 @@ returns-in_err-sync-clause-phase g c =
     record {
       names = sync.time.names ∙ c.loop-file.invariant.names;
       silent = λ none. sync.time.silent (c.loop-file.invariant.silent none);
-      tells = tells_join (g.D.Disk.view c.args.disk.now).seen (g.D.Disk.view c.loop-file.disk).seen (g.D.Disk.view c.sync.new.self).seen c.loop-file.invariant.tells (tells_sync (g.D.Disk.view c.loop-file.disk) (g.D.Disk.view c.sync.new.self) c.sync.result sync.seen sync.stays);
+      tells = tells_join (g.D.Disk.view c.args.disk.now).seen (g.D.Disk.view c.loop-file.disk).seen (g.D.Disk.view c.sync.new.self).seen c.loop-file.invariant.tells
+          (tells_sync (g.D.Disk.view c.loop-file.disk) (g.D.Disk.view c.sync.new.self) c.sync.result sync.seen sync.stays);
       images = λ l on. (syncs_on _ _ _ (AnyPackages c.args.files.now l) (c.loop-file.invariant.images l on) sync.time sync.crash).leaves;
       ends = λ l on. search rules;
     }
@@ -69,7 +71,8 @@ returns-clause-phase g c =
     record {
       names = sync.time.names ∙ c.loop-file.invariant.names;
       silent = λ none. sync.time.silent (c.loop-file.invariant.silent none);
-      tells = tells_join (g.D.Disk.view c.args.disk.now).seen (g.D.Disk.view c.loop-file.disk).seen (g.D.Disk.view c.sync.new.self).seen c.loop-file.invariant.tells (tells_sync (g.D.Disk.view c.loop-file.disk) (g.D.Disk.view c.sync.new.self) c.sync.result sync.seen sync.stays);
+      tells = tells_join (g.D.Disk.view c.args.disk.now).seen (g.D.Disk.view c.loop-file.disk).seen (g.D.Disk.view c.sync.new.self).seen c.loop-file.invariant.tells
+          (tells_sync (g.D.Disk.view c.loop-file.disk) (g.D.Disk.view c.sync.new.self) c.sync.result sync.seen sync.stays);
       images = λ l on. (syncs_on _ _ _ (AnyPackages files l) (c.loop-file.invariant.images l on) sync.time sync.crash).leaves;
       ends = λ l on.
           let whole = ap (λ (f : _). Some (files_of (record l { packages = put f l.packages }))) (take_all c.loop-file.file-index files (omega arith)) in

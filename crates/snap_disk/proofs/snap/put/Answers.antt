@@ -16,7 +16,8 @@ index_mut-requires c = let is = (subst (ArePackageFiles _) c.in-Some.ensures.ste
 
 pub loop-file-preserved : goal.loop-file-preserved
 loop-file-preserved c = record {
-  are = subst (λ (n : _). ArePackageFiles (n + 2) c.next.new.self.rest.items) (sym (length-set c.loop-file.packages.items (c.in-Some.file.file - 2) c.in-Some.file.bytes)) (subst (ArePackageFiles _) c.in-Some.ensures.steps.0 c.loop-file.invariant.are).1;
+  are = subst (λ (n : _). ArePackageFiles (n + 2) c.next.new.self.rest.items) (sym (length-set c.loop-file.packages.items (c.in-Some.file.file - 2) c.in-Some.file.bytes))
+      (subst (ArePackageFiles _) c.in-Some.ensures.steps.0 c.loop-file.invariant.are).1;
   puts = ap (λ (files : _). put files c.loop-file.packages.items) (sym c.in-Some.ensures.steps.0) ∙ c.loop-file.invariant.puts;
 }
 

@@ -12,7 +12,8 @@ returns-then-needs_ask-clause-inputs c =
     (needed_none k c.args.states.now c.requires.tied c.args.place c.requires.place c.needs_ask.ensures.once c.needs_ask.result c.needs_ask.ensures.needs c.if-needs_ask.true)
 
 pub returns-in_default-clause-number : goal.returns-in_default-clause-number
-returns-in_default-clause-number c = sym (unasked_none c.args.inputs.now c.args.states.now c.requires.tied c.args.place c.requires.place c.needs_ask.ensures.once c.needs_ask.result c.needs_ask.ensures.needs c.index.result.now c.index.ensures c.in_default.is)
+returns-in_default-clause-number c = sym (unasked_none c.args.inputs.now c.args.states.now c.requires.tied c.args.place c.requires.place c.needs_ask.ensures.once c.needs_ask.result c.needs_ask.ensures.needs c.index.result.now
+    c.index.ensures c.in_default.is)
 
 pub returns-in_default-clause-inputs : goal.returns-in_default-clause-inputs
 returns-in_default-clause-inputs c =
@@ -21,26 +22,33 @@ returns-in_default-clause-inputs c =
     (unasked_none k c.args.states.now c.requires.tied c.args.place c.requires.place c.needs_ask.ensures.once c.needs_ask.result c.needs_ask.ensures.needs c.index.result.now c.index.ensures c.in_default.is)
 
 pub returns-in_default-close-clause-inputs : goal.returns-in_default-close-clause-inputs
-returns-in_default-close-clause-inputs c = absurd (is_open c.args.inputs.now c.args.states.now c.requires.tied c.args.place c.requires.place c.needs_ask.ensures.once c.needs_ask.result c.needs_ask.ensures.needs c.index.result.now c.index.ensures c.in-Some.number c.in-Some.is (sym c.close.ensures.found ∙ c.in_default-close.is))
+returns-in_default-close-clause-inputs c = absurd (is_open c.args.inputs.now c.args.states.now c.requires.tied c.args.place c.requires.place c.needs_ask.ensures.once c.needs_ask.result c.needs_ask.ensures.needs c.index.result.now
+    c.index.ensures c.in-Some.number c.in-Some.is (sym c.close.ensures.found ∙ c.in_default-close.is))
 
 pub returns-in_default-close-clause-number : goal.returns-in_default-close-clause-number
-returns-in_default-close-clause-number c = absurd (is_open c.args.inputs.now c.args.states.now c.requires.tied c.args.place c.requires.place c.needs_ask.ensures.once c.needs_ask.result c.needs_ask.ensures.needs c.index.result.now c.index.ensures c.in-Some.number c.in-Some.is (sym c.close.ensures.found ∙ c.in_default-close.is))
+returns-in_default-close-clause-number c = absurd (is_open c.args.inputs.now c.args.states.now c.requires.tied c.args.place c.requires.place c.needs_ask.ensures.once c.needs_ask.result c.needs_ask.ensures.needs c.index.result.now
+    c.index.ensures c.in-Some.number c.in-Some.is (sym c.close.ensures.found ∙ c.in_default-close.is))
 
 pub returns-in_default-close-clause-between : goal.returns-in_default-close-clause-between
-returns-in_default-close-clause-between c = absurd (is_open c.args.inputs.now c.args.states.now c.requires.tied c.args.place c.requires.place c.needs_ask.ensures.once c.needs_ask.result c.needs_ask.ensures.needs c.index.result.now c.index.ensures c.in-Some.number c.in-Some.is (sym c.close.ensures.found ∙ c.in_default-close.is))
+returns-in_default-close-clause-between c = absurd (is_open c.args.inputs.now c.args.states.now c.requires.tied c.args.place c.requires.place c.needs_ask.ensures.once c.needs_ask.result c.needs_ask.ensures.needs c.index.result.now
+    c.index.ensures c.in-Some.number c.in-Some.is (sym c.close.ensures.found ∙ c.in_default-close.is))
 
 pub returns-clause-inputs : goal.returns-clause-inputs
 returns-clause-inputs c =
-    known_left c.args.inputs.now c.args.states.now c.requires.tied c.args.place c.requires.place c.needs_ask.ensures.once c.needs_ask.result c.needs_ask.ensures.needs c.index.result.now c.index.ensures c.in-Some.number c.in-Some.is c.if-needs_ask.false c.in-Some-close.closed (sym c.close.ensures.found ∙ c.in-Some-close.is)
+    known_left c.args.inputs.now c.args.states.now c.requires.tied c.args.place c.requires.place c.needs_ask.ensures.once c.needs_ask.result c.needs_ask.ensures.needs c.index.result.now c.index.ensures c.in-Some.number c.in-Some.is
+    c.if-needs_ask.false c.in-Some-close.closed (sym c.close.ensures.found ∙ c.in-Some-close.is)
     c.close.new.self c.close.ensures.left
 
 pub returns-clause-number : goal.returns-clause-number
-returns-clause-number c = sym (number_lost c.args.inputs.now c.args.states.now c.requires.tied c.args.place c.requires.place c.needs_ask.ensures.once c.needs_ask.result c.needs_ask.ensures.needs c.index.result.now c.index.ensures c.in-Some.number c.in-Some.is c.if-needs_ask.false c.in-Some-close.closed (sym c.close.ensures.found ∙ c.in-Some-close.is))
+returns-clause-number c = sym (number_lost c.args.inputs.now c.args.states.now c.requires.tied c.args.place c.requires.place c.needs_ask.ensures.once c.needs_ask.result c.needs_ask.ensures.needs c.index.result.now c.index.ensures
+    c.in-Some.number c.in-Some.is c.if-needs_ask.false c.in-Some-close.closed (sym c.close.ensures.found ∙ c.in-Some-close.is))
 
 pub returns-clause-between : goal.returns-clause-between
 returns-clause-between c = λ places touched between.
     let k = c.args.inputs.now in
     let is = sym c.close.ensures.found ∙ c.in-Some-close.is in
-    let reached = reach_left k c.args.states.now c.requires.tied c.args.place c.requires.place c.needs_ask.ensures.once c.needs_ask.result c.needs_ask.ensures.needs c.index.result.now c.index.ensures c.in-Some.number c.in-Some.is c.if-needs_ask.false c.in-Some-close.closed is c.set_layer.new.self c.layer_told.result c.layer_told.ensures c.set_layer.ensures.told in
-    between_left k c.args.states.now c.requires.tied c.args.place c.requires.place c.needs_ask.ensures.once c.needs_ask.result c.needs_ask.ensures.needs c.index.result.now c.index.ensures c.in-Some.number c.in-Some.is c.if-needs_ask.false c.in-Some-close.closed is c.keep_ask.new.states c.set_layer.new.self reached c.keep_ask.ensures.list c.keep_ask.ensures.spare c.keep_ask.ensures.others
+    let reached = reach_left k c.args.states.now c.requires.tied c.args.place c.requires.place c.needs_ask.ensures.once c.needs_ask.result c.needs_ask.ensures.needs c.index.result.now c.index.ensures c.in-Some.number c.in-Some.is
+    c.if-needs_ask.false c.in-Some-close.closed is c.set_layer.new.self c.layer_told.result c.layer_told.ensures c.set_layer.ensures.told in
+    between_left k c.args.states.now c.requires.tied c.args.place c.requires.place c.needs_ask.ensures.once c.needs_ask.result c.needs_ask.ensures.needs c.index.result.now c.index.ensures c.in-Some.number c.in-Some.is c.if-needs_ask.false
+    c.in-Some-close.closed is c.keep_ask.new.states c.set_layer.new.self reached c.keep_ask.ensures.list c.keep_ask.ensures.spare c.keep_ask.ensures.others
     c.close.new.self c.close.ensures.left places c.args.settling.now touched between

@@ -11,51 +11,75 @@ pub returns-then-not-lacks_ask-clause-told : goal.returns-then-not-lacks_ask-cla
 returns-then-not-lacks_ask-clause-told c = none_more c.args.inputs.now c.args.states.now c.requires.tied c.args.place c.requires.place c.lacks_ask.result c.lacks_ask.ensures c.if-not-lacks_ask.true c.args.notices.now.items
 
 pub returns-in_default-clause-inputs : goal.returns-in_default-clause-inputs
-returns-in_default-clause-inputs c = absurd (is_at_hand c.args.inputs.now c.args.states.now c.requires.tied c.args.place c.requires.place c.lacks_ask.result c.lacks_ask.ensures c.if-not-lacks_ask.false c.take_ask.result c.take_ask.ensures.taken c.in_default.is)
+returns-in_default-clause-inputs c = absurd (is_at_hand c.args.inputs.now c.args.states.now c.requires.tied c.args.place c.requires.place c.lacks_ask.result c.lacks_ask.ensures c.if-not-lacks_ask.false c.take_ask.result
+    c.take_ask.ensures.taken c.in_default.is)
 
 pub returns-in_default-clause-between : goal.returns-in_default-clause-between
-returns-in_default-clause-between c = absurd (is_at_hand c.args.inputs.now c.args.states.now c.requires.tied c.args.place c.requires.place c.lacks_ask.result c.lacks_ask.ensures c.if-not-lacks_ask.false c.take_ask.result c.take_ask.ensures.taken c.in_default.is)
+returns-in_default-clause-between c = absurd (is_at_hand c.args.inputs.now c.args.states.now c.requires.tied c.args.place c.requires.place c.lacks_ask.result c.lacks_ask.ensures c.if-not-lacks_ask.false c.take_ask.result
+    c.take_ask.ensures.taken c.in_default.is)
 
 pub returns-in_default-clause-told : goal.returns-in_default-clause-told
-returns-in_default-clause-told c = absurd (is_at_hand c.args.inputs.now c.args.states.now c.requires.tied c.args.place c.requires.place c.lacks_ask.result c.lacks_ask.ensures c.if-not-lacks_ask.false c.take_ask.result c.take_ask.ensures.taken c.in_default.is)
+returns-in_default-clause-told c = absurd (is_at_hand c.args.inputs.now c.args.states.now c.requires.tied c.args.place c.requires.place c.lacks_ask.result c.lacks_ask.ensures c.if-not-lacks_ask.false c.take_ask.result
+    c.take_ask.ensures.taken c.in_default.is)
 
 pub open-number-requires-clause-new : goal.open-number-requires-clause-new
 open-number-requires-clause-new c =
     let k = c.args.inputs.now in
     let spare : InterfaceAsk = c.in-Some.ask in
     let ask : InterfaceAsk = record spare { device = c.index-2.result.now.device } in
-    let ask_is : ask ≡ record spare { device = c.index.result.now.device } = ap (λ (s : InterfaceState). let a : InterfaceAsk = record spare { device = s.device } in a) (read_twice k c.args.states.now c.requires.tied c.args.place c.requires.place c.lacks_ask.result c.lacks_ask.ensures c.take_ask.new.states c.index.result.now c.index-2.result.now c.take_ask.ensures.others c.index.ensures c.index-2.ensures) in
-    opens_new k c.args.states.now c.requires.tied c.args.place c.requires.place c.lacks_ask.result c.lacks_ask.ensures c.if-not-lacks_ask.false c.index.result.now c.index.ensures spare ask c.take_ask.result c.take_ask.ensures.taken c.in-Some.is ask_is
+    let ask_is : ask ≡ record spare { device = c.index.result.now.device } =
+    ap (λ (s : InterfaceState). let a : InterfaceAsk = record spare { device = s.device } in a)
+    (read_twice k c.args.states.now c.requires.tied c.args.place c.requires.place c.lacks_ask.result c.lacks_ask.ensures c.take_ask.new.states c.index.result.now c.index-2.result.now c.take_ask.ensures.others c.index.ensures
+    c.index-2.ensures) in
+    opens_new k c.args.states.now c.requires.tied c.args.place c.requires.place c.lacks_ask.result c.lacks_ask.ensures c.if-not-lacks_ask.false c.index.result.now c.index.ensures spare ask c.take_ask.result c.take_ask.ensures.taken
+    c.in-Some.is ask_is
 
 pub open-number-requires-clause-named : goal.open-number-requires-clause-named
 open-number-requires-clause-named c =
     let k = c.args.inputs.now in
     let spare : InterfaceAsk = c.in-Some.ask in
     let ask : InterfaceAsk = record spare { device = c.index-2.result.now.device } in
-    let ask_is : ask ≡ record spare { device = c.index.result.now.device } = ap (λ (s : InterfaceState). let a : InterfaceAsk = record spare { device = s.device } in a) (read_twice k c.args.states.now c.requires.tied c.args.place c.requires.place c.lacks_ask.result c.lacks_ask.ensures c.take_ask.new.states c.index.result.now c.index-2.result.now c.take_ask.ensures.others c.index.ensures c.index-2.ensures) in
-    opens_named k c.args.states.now c.requires.tied c.args.place c.requires.place c.lacks_ask.result c.lacks_ask.ensures c.if-not-lacks_ask.false c.index.result.now c.index.ensures spare ask c.take_ask.result c.take_ask.ensures.taken c.in-Some.is ask_is
+    let ask_is : ask ≡ record spare { device = c.index.result.now.device } =
+    ap (λ (s : InterfaceState). let a : InterfaceAsk = record spare { device = s.device } in a)
+    (read_twice k c.args.states.now c.requires.tied c.args.place c.requires.place c.lacks_ask.result c.lacks_ask.ensures c.take_ask.new.states c.index.result.now c.index-2.result.now c.take_ask.ensures.others c.index.ensures
+    c.index-2.ensures) in
+    opens_named k c.args.states.now c.requires.tied c.args.place c.requires.place c.lacks_ask.result c.lacks_ask.ensures c.if-not-lacks_ask.false c.index.result.now c.index.ensures spare ask c.take_ask.result c.take_ask.ensures.taken
+    c.in-Some.is ask_is
 
 pub returns-clause-inputs : goal.returns-clause-inputs
 returns-clause-inputs c =
     let k = c.args.inputs.now in
     let spare : InterfaceAsk = c.in-Some.ask in
     let ask : InterfaceAsk = record spare { device = c.index-2.result.now.device } in
-    let ask_is : ask ≡ record spare { device = c.index.result.now.device } = ap (λ (s : InterfaceState). let a : InterfaceAsk = record spare { device = s.device } in a) (read_twice k c.args.states.now c.requires.tied c.args.place c.requires.place c.lacks_ask.result c.lacks_ask.ensures c.take_ask.new.states c.index.result.now c.index-2.result.now c.take_ask.ensures.others c.index.ensures c.index-2.ensures) in
-    known_after k c.args.states.now c.requires.tied c.args.place c.requires.place c.lacks_ask.result c.lacks_ask.ensures c.if-not-lacks_ask.false c.index.result.now c.index.ensures spare ask c.take_ask.result c.take_ask.ensures.taken c.in-Some.is ask_is c.open-number.new.self c.open-number.ensures.opened
+    let ask_is : ask ≡ record spare { device = c.index.result.now.device } =
+    ap (λ (s : InterfaceState). let a : InterfaceAsk = record spare { device = s.device } in a)
+    (read_twice k c.args.states.now c.requires.tied c.args.place c.requires.place c.lacks_ask.result c.lacks_ask.ensures c.take_ask.new.states c.index.result.now c.index-2.result.now c.take_ask.ensures.others c.index.ensures
+    c.index-2.ensures) in
+    known_after k c.args.states.now c.requires.tied c.args.place c.requires.place c.lacks_ask.result c.lacks_ask.ensures c.if-not-lacks_ask.false c.index.result.now c.index.ensures spare ask c.take_ask.result c.take_ask.ensures.taken
+    c.in-Some.is ask_is c.open-number.new.self c.open-number.ensures.opened
 
 pub returns-clause-told : goal.returns-clause-told
 returns-clause-told c =
     let k = c.args.inputs.now in
     let spare : InterfaceAsk = c.in-Some.ask in
     let ask : InterfaceAsk = record spare { device = c.index-2.result.now.device } in
-    let ask_is : ask ≡ record spare { device = c.index.result.now.device } = ap (λ (s : InterfaceState). let a : InterfaceAsk = record spare { device = s.device } in a) (read_twice k c.args.states.now c.requires.tied c.args.place c.requires.place c.lacks_ask.result c.lacks_ask.ensures c.take_ask.new.states c.index.result.now c.index-2.result.now c.take_ask.ensures.others c.index.ensures c.index-2.ensures) in
-    told_after k c.args.states.now c.requires.tied c.args.place c.requires.place c.lacks_ask.result c.lacks_ask.ensures c.if-not-lacks_ask.false c.index.result.now c.index.ensures spare ask c.take_ask.result c.take_ask.ensures.taken c.in-Some.is ask_is c.args.notices.now.items c.tell_one.new.notices.items c.open-number.result c.open-number.ensures.number c.tell_one.ensures.told
+    let ask_is : ask ≡ record spare { device = c.index.result.now.device } =
+    ap (λ (s : InterfaceState). let a : InterfaceAsk = record spare { device = s.device } in a)
+    (read_twice k c.args.states.now c.requires.tied c.args.place c.requires.place c.lacks_ask.result c.lacks_ask.ensures c.take_ask.new.states c.index.result.now c.index-2.result.now c.take_ask.ensures.others c.index.ensures
+    c.index-2.ensures) in
+    told_after k c.args.states.now c.requires.tied c.args.place c.requires.place c.lacks_ask.result c.lacks_ask.ensures c.if-not-lacks_ask.false c.index.result.now c.index.ensures spare ask c.take_ask.result c.take_ask.ensures.taken
+    c.in-Some.is ask_is c.args.notices.now.items c.tell_one.new.notices.items c.open-number.result c.open-number.ensures.number c.tell_one.ensures.told
 
 pub returns-clause-between : goal.returns-clause-between
 returns-clause-between c = λ places touched between.
     let k = c.args.inputs.now in
     let spare : InterfaceAsk = c.in-Some.ask in
     let ask : InterfaceAsk = record spare { device = c.index-2.result.now.device } in
-    let ask_is : ask ≡ record spare { device = c.index.result.now.device } = ap (λ (s : InterfaceState). let a : InterfaceAsk = record spare { device = s.device } in a) (read_twice k c.args.states.now c.requires.tied c.args.place c.requires.place c.lacks_ask.result c.lacks_ask.ensures c.take_ask.new.states c.index.result.now c.index-2.result.now c.take_ask.ensures.others c.index.ensures c.index-2.ensures) in
-    between_after k c.args.states.now c.requires.tied c.args.place c.requires.place c.lacks_ask.result c.lacks_ask.ensures c.if-not-lacks_ask.false c.index.result.now c.index.ensures spare ask c.take_ask.result c.take_ask.ensures.taken c.in-Some.is ask_is c.take_ask.new.states c.keep_ask.new.states c.open-number.result c.open-number.ensures.number c.take_ask.ensures.left c.take_ask.ensures.others c.keep_ask.ensures.list c.keep_ask.ensures.spare c.keep_ask.ensures.others
+    let ask_is : ask ≡ record spare { device = c.index.result.now.device } =
+    ap (λ (s : InterfaceState). let a : InterfaceAsk = record spare { device = s.device } in a)
+    (read_twice k c.args.states.now c.requires.tied c.args.place c.requires.place c.lacks_ask.result c.lacks_ask.ensures c.take_ask.new.states c.index.result.now c.index-2.result.now c.take_ask.ensures.others c.index.ensures
+    c.index-2.ensures) in
+    between_after k c.args.states.now c.requires.tied c.args.place c.requires.place c.lacks_ask.result c.lacks_ask.ensures c.if-not-lacks_ask.false c.index.result.now c.index.ensures spare ask c.take_ask.result c.take_ask.ensures.taken
+    c.in-Some.is ask_is c.take_ask.new.states c.keep_ask.new.states c.open-number.result c.open-number.ensures.number c.take_ask.ensures.left c.take_ask.ensures.others c.keep_ask.ensures.list c.keep_ask.ensures.spare
+    c.keep_ask.ensures.others
     c.open-number.new.self c.open-number.ensures.opened places c.args.settling.now touched between

@@ -13,7 +13,8 @@ pub let_down_all-requires-clause-places : goal.let_down_all-requires-clause-plac
 let_down_all-requires-clause-places g c = λ place member. (between 0 (length c.args.inputs.now.inputs.conf.interfaces) c.args.places.now place c.requires.places member).1
 
 pub tell_lost-requires-clause-once : goal.tell_lost-requires-clause-once
-tell_lost-requires-clause-once g c = subst (λ (ns : List ℕ). IsDistinct (λ a b. a == b) ns) (sym c.lose_asks.ensures.lost) (lost_once c.args.inputs.now.inputs c.stand_once.ensures 0 (length c.args.inputs.now.inputs.conf.interfaces) c.args.places.now c.requires.places)
+tell_lost-requires-clause-once g c = subst (λ (ns : List ℕ). IsDistinct (λ a b. a == b) ns) (sym c.lose_asks.ensures.lost)
+    (lost_once c.args.inputs.now.inputs c.stand_once.ensures 0 (length c.args.inputs.now.inputs.conf.interfaces) c.args.places.now c.requires.places)
 
 pub tell_lost-requires-clause-room : goal.tell_lost-requires-clause-room
 tell_lost-requires-clause-room g c =
@@ -47,4 +48,5 @@ returns-clause-told g c =
     let places = c.args.places.now in
     let told = c.tell_lost.ensures.told in
     let members : (n : ℕ) → Contains told.0 n ↔ Contains (lost_at_places first.inputs places) n = subst (λ (ns : List ℕ). (n : ℕ) → Contains told.0 n ↔ Contains ns n) c.lose_asks.ensures.lost told.2 in
-    all_told first c.lose_asks.new.inputs places told.0 c.args.notices.now.items c.tell_lost.new.notices.items c.open_asks.new.notices.items c.stand_once.ensures c.requires.places c.lose_asks.ensures.inputs told.1 members told.3 c.open_asks.ensures.told
+    all_told first c.lose_asks.new.inputs places told.0 c.args.notices.now.items c.tell_lost.new.notices.items c.open_asks.new.notices.items c.stand_once.ensures c.requires.places c.lose_asks.ensures.inputs told.1 members told.3
+    c.open_asks.ensures.told

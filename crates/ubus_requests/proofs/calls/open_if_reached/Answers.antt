@@ -30,9 +30,12 @@ use Rattle.ubus_requests.proofs.calls.open_if_reached.Goals as goal
 pub returns-then-is_opened : goal.returns-then-is_opened
 returns-then-is_opened c = λ table zero is.
     subst (λ (calls : List Call). OnOk c.add_call.result (calls_of c.add_call.new.calls.items ≡ calls_of c.args.calls.now.items ++ calls))
-    (ap (λ (call : Call). call ∷ []) (c.call_on.ensures table zero) ∙ sym (opened_one fits table c.args.client.now c.args.request.now c.args.object (ap (λ (frame : Frame). not (is_set c.args.request.now.no_reply) && fits frame) (sym is) ∙ sym c.if-is_opened.ensures)))
+    (ap (λ (call : Call). call ∷ []) (c.call_on.ensures table zero)
+    ∙ sym (opened_one fits table c.args.client.now c.args.request.now c.args.object (ap (λ (frame : Frame). not (is_set c.args.request.now.no_reply) && fits frame) (sym is) ∙ sym c.if-is_opened.ensures)))
     c.add_call.ensures
 
 pub returns : goal.returns
 returns c = λ table zero is.
-    sym (ap (λ (calls : List Call). calls_of c.args.calls.now.items ++ calls) (opened_none fits table c.args.client.now c.args.request.now c.args.object (ap (λ (frame : Frame). not (is_set c.args.request.now.no_reply) && fits frame) (sym is) ∙ sym c.if-is_opened.ensures)) ∙ append-nil (calls_of c.args.calls.now.items))
+    sym (ap (λ (calls : List Call). calls_of c.args.calls.now.items ++ calls)
+    (opened_none fits table c.args.client.now c.args.request.now c.args.object (ap (λ (frame : Frame). not (is_set c.args.request.now.no_reply) && fits frame) (sym is) ∙ sym c.if-is_opened.ensures))
+    ∙ append-nil (calls_of c.args.calls.now.items))

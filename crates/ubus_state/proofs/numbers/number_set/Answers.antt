@@ -9,4 +9,5 @@ loop-place-preserved c =
     let p : ℕ = c.loop-place.place in
     let number : ℕ = get_or numbers (p - 1) 0 in
     let within : p - 1 < length numbers = omega (arith, c.loop-place-test.true, c.loop-place.auto.place) in
-    number_more numbers p number c.loop-place.set.keys c.insert.new.self.keys (drop_before numbers p number c.loop-place-test.true c.loop-place.auto.place (get_or_default numbers (p - 1) 0 number within)) c.loop-place.invariant c.in_ok-_added.ensures.keys
+    number_more numbers p number c.loop-place.set.keys c.insert.new.self.keys (drop_before numbers p number c.loop-place-test.true c.loop-place.auto.place (get_or_default numbers (p - 1) 0 number within)) c.loop-place.invariant
+    c.in_ok-_added.ensures.keys

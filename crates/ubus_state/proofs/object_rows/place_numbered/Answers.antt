@@ -9,7 +9,9 @@ parted : (rows : List Object) (place wide number : ℕ) → wide ≡ number → 
 parted rows place wide number same parts = subst (λ (n : ℕ). Parts object_number n rows place) same parts
 
 pub returns-in-Some-clause-place : goal.returns-in-Some-clause-place
-returns-in-Some-clause-place c = c.place_if.ensures ∙ sym (place_at object_number c.args.number c.args.objects.now c.lower_objects-place.result c.in-Some.object c.requires (parted c.args.objects.now c.lower_objects-place.result c.from.result c.args.number c.from.ensures c.lower_objects-place.ensures) c.in-Some.ensures.lookup)
+returns-in-Some-clause-place c = c.place_if.ensures ∙ sym (place_at object_number c.args.number c.args.objects.now c.lower_objects-place.result c.in-Some.object c.requires
+    (parted c.args.objects.now c.lower_objects-place.result c.from.result c.args.number c.from.ensures c.lower_objects-place.ensures) c.in-Some.ensures.lookup)
 
 pub returns-in-None-clause-place : goal.returns-in-None-clause-place
-returns-in-None-clause-place c = sym (place_over object_number c.args.number c.args.objects.now c.lower_objects-place.result (parted c.args.objects.now c.lower_objects-place.result c.from.result c.args.number c.from.ensures c.lower_objects-place.ensures) c.in-None.ensures.lookup)
+returns-in-None-clause-place c = sym (place_over object_number c.args.number c.args.objects.now c.lower_objects-place.result
+    (parted c.args.objects.now c.lower_objects-place.result c.from.result c.args.number c.from.ensures c.lower_objects-place.ensures) c.in-None.ensures.lookup)

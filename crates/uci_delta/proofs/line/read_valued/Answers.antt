@@ -15,4 +15,8 @@ pub returns-in_default-change_of : goal.returns-in_default-change_of
 returns-in_default-change_of c = λ delta n s. no_value _ _ _ _ _ _ delta c.requires.first c.in-Some.ensures c.in_default-change_of.ensures n s
 
 pub returns : goal.returns
-returns c = (c.in_ok-from_bytes.ensures, valued_spelled _ _ _ _ _ _ _ _ c.requires.clean c.in-Some.ensures (subst (λ (z : Option (List ℕ)). IfSome z (SpellsWord c.args.word.now)) c.in-Some-2.is c.in_ok-value.ensures.found) c.in-Some-change_of.ensures.0 c.in-Some-change_of.ensures.1 c.in_ok-from_bytes.ensures c.in_ok-from_bytes-2.ensures c.in_ok-copy_option.ensures)
+returns c = (
+  c.in_ok-from_bytes.ensures,
+  valued_spelled _ _ _ _ _ _ _ _ c.requires.clean c.in-Some.ensures (subst (λ (z : Option (List ℕ)). IfSome z (SpellsWord c.args.word.now)) c.in-Some-2.is c.in_ok-value.ensures.found)
+      c.in-Some-change_of.ensures.0 c.in-Some-change_of.ensures.1 c.in_ok-from_bytes.ensures c.in_ok-from_bytes-2.ensures c.in_ok-copy_option.ensures,
+)

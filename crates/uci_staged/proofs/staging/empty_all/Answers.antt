@@ -16,4 +16,5 @@ pub returns-in-Err-clause-follows : goal.returns-in-Err-clause-follows
 returns-in-Err-clause-follows g c = follows_join (g.T.Disk.view c.args.disk.now) (g.T.Disk.view c.loop-file.disk) (g.T.Disk.view c.empty.new.disk) c.loop-file.invariant.emptied.follows c.in-Err.ensures.follows
 
 pub returns-in-Err-clause-changes : goal.returns-in-Err-clause-changes
-returns-in-Err-clause-changes g c = packages_more (g.T.Disk.view c.args.disk.now) (g.T.Disk.view c.loop-file.disk) (g.T.Disk.view c.empty.new.disk) c.loop-file.file c.loop-file.invariant.low c.loop-file.invariant.emptied.follows c.loop-file.invariant.emptied.changes c.in-Err.ensures.changes
+returns-in-Err-clause-changes g c = packages_more (g.T.Disk.view c.args.disk.now) (g.T.Disk.view c.loop-file.disk) (g.T.Disk.view c.empty.new.disk) c.loop-file.file c.loop-file.invariant.low c.loop-file.invariant.emptied.follows
+    c.loop-file.invariant.emptied.changes c.in-Err.ensures.changes

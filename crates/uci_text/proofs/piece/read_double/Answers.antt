@@ -15,7 +15,9 @@ returns-then-mark-eq34-clause-found c = double_closes _ _ _ _ _ _ (double_run _ 
 pub returns-in_default-split_first-clause-stopped : goal.returns-in_default-split_first-clause-stopped
 returns-in_default-split_first-clause-stopped c = λ stop e n.
     let same : Quote (length c.args.inside.now + 1) ≡ stop = cc in
-    stopped _ _ _ (double_open_pair _ _ _ _ _ _ _ (double_run _ _ _ _ _ _ _ c.loop-mark.invariant c.split.ensures c.in_ok-extend_from_slice.ensures.items) c.split.ensures.outside c.in-Some.ensures.cases.0 c.if-mark-eq34.false (nil_from_length _ c.in_default-split_first.ensures.cases) refl) same
+    stopped _ _ _ (double_open_pair _ _ _ _ _ _ _ (double_run _ _ _ _ _ _ _ c.loop-mark.invariant c.split.ensures c.in_ok-extend_from_slice.ensures.items) c.split.ensures.outside c.in-Some.ensures.cases.0 c.if-mark-eq34.false
+    (nil_from_length _ c.in_default-split_first.ensures.cases) refl) same
 
 pub loop-mark-preserved : goal.loop-mark-preserved
-loop-mark-preserved c = double_pair _ _ _ _ _ _ _ _ _ (double_run _ _ _ _ _ _ _ c.loop-mark.invariant c.split.ensures c.in_ok-extend_from_slice.ensures.items) c.split.ensures.outside c.in-Some.ensures.cases.0 c.if-mark-eq34.false c.in-Some-split_first.ensures.cases.0 c.in_ok-push_escaped.ensures
+loop-mark-preserved c = double_pair _ _ _ _ _ _ _ _ _ (double_run _ _ _ _ _ _ _ c.loop-mark.invariant c.split.ensures c.in_ok-extend_from_slice.ensures.items) c.split.ensures.outside c.in-Some.ensures.cases.0 c.if-mark-eq34.false
+    c.in-Some-split_first.ensures.cases.0 c.in_ok-push_escaped.ensures

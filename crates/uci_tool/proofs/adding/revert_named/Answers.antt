@@ -5,7 +5,8 @@ use Rattle.uci_tool.proofs.StageLemmas.{rests}
 use Rattle.uci_tool.proofs.adding.revert_named.Goals as goal
 
 pub returns-in-Ok-clause-changes : goal.returns-in-Ok-clause-changes
-returns-in-Ok-clause-changes g c = changes_go_on (by_name (folder_of c.args.store.now) c.args.path c.args.path.section) c.in-Ok.path (revert_path (folder_of c.args.store.now)) c.revert.result (folder_of c.args.store.now) (folder_of c.revert.new.store) c.in-Ok.ensures c.revert.ensures.changes
+returns-in-Ok-clause-changes g c = changes_go_on (by_name (folder_of c.args.store.now) c.args.path c.args.path.section) c.in-Ok.path (revert_path (folder_of c.args.store.now)) c.revert.result (folder_of c.args.store.now)
+    (folder_of c.revert.new.store) c.in-Ok.ensures c.revert.ensures.changes
 
 pub returns-in-Err-clause-changes : goal.returns-in-Err-clause-changes
 returns-in-Err-clause-changes g c = changes_stop (by_name (folder_of c.args.store.now) c.args.path c.args.path.section) c.in-Err.stop (revert_path (folder_of c.args.store.now)) (folder_of c.args.store.now) c.in-Err.ensures

@@ -6,7 +6,8 @@ use Rattle.uci_tool.proofs.StageLemmas.{rests}
 use Rattle.uci_tool.proofs.adding.revert_word.Goals as goal
 
 pub returns-in-Ok-clause-changes : goal.returns-in-Ok-clause-changes
-returns-in-Ok-clause-changes g c = changes_go_on (path_word c.args.word.now) c.in-Ok.path (revert_named (folder_of c.args.store.now)) c.revert_named.result (folder_of c.args.store.now) (folder_of c.revert_named.new.store) c.in-Ok.ensures c.revert_named.ensures.changes
+returns-in-Ok-clause-changes g c = changes_go_on (path_word c.args.word.now) c.in-Ok.path (revert_named (folder_of c.args.store.now)) c.revert_named.result (folder_of c.args.store.now) (folder_of c.revert_named.new.store) c.in-Ok.ensures
+    c.revert_named.ensures.changes
 
 pub returns-in-Err-clause-changes : goal.returns-in-Err-clause-changes
 returns-in-Err-clause-changes g c = changes_stop (path_word c.args.word.now) c.in-Err.stop (revert_named (folder_of c.args.store.now)) (folder_of c.args.store.now) c.in-Err.ensures

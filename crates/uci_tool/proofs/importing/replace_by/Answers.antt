@@ -9,5 +9,6 @@ use Rattle.uci_tool.proofs.StopLemmas.{images_to}
 use Rattle.uci_tool.proofs.importing.replace_by.Goals as goal
 
 pub returns-in-Ok-clause-images : goal.returns-in-Ok-clause-images
-returns-in-Ok-clause-images g c = images_to g.D.Disk.view c.args.store.now c.args.files.now c.replace.new.files (folder_of c.args.store.now) (replaced (folder_of c.args.store.now) c.in-Ok.tree) (if_ok (merged c.args.view c.args.input.now) (replaced (folder_of c.args.store.now)))
+returns-in-Ok-clause-images g c = images_to g.D.Disk.view c.args.store.now c.args.files.now c.replace.new.files (folder_of c.args.store.now) (replaced (folder_of c.args.store.now) c.in-Ok.tree)
+    (if_ok (merged c.args.view c.args.input.now) (replaced (folder_of c.args.store.now)))
     (ap (λ (z : Result Package Refusal). if_ok z (replaced (folder_of c.args.store.now))) c.in-Ok.ensures) c.replace.ensures.images

@@ -3,7 +3,9 @@ use Rattle.uci_delta.proofs.OptionLemmas.{option_found, put_pushed, put_written}
 use Rattle.uci_tool.proofs.merging.put_value.Goals as goal
 
 pub returns-in_default : goal.returns-in_default
-returns-in_default c = put_pushed c.args.name _ (λ before. c.args.value) c.args.options.now.items _ _ (option_found _ c.args.options.now.items _ c.args.name _ _ c.option_place.ensures c.as_slice.ensures.value c.as_bytes.ensures c.in_default.is) refl refl c.in_ok-push.ensures.items
+returns-in_default c = put_pushed c.args.name _ (λ before. c.args.value) c.args.options.now.items _ _
+    (option_found _ c.args.options.now.items _ c.args.name _ _ c.option_place.ensures c.as_slice.ensures.value c.as_bytes.ensures c.in_default.is) refl refl c.in_ok-push.ensures.items
 
 pub returns : goal.returns
-returns c = put_written c.args.name (λ before. c.args.value) c.args.options.now.items _ c.index_mut.result.now _ (option_found _ c.args.options.now.items _ c.args.name _ _ c.option_place.ensures c.as_slice.ensures.value c.as_bytes.ensures c.in-Some.is) c.index_mut.ensures.value refl
+returns c = put_written c.args.name (λ before. c.args.value) c.args.options.now.items _ c.index_mut.result.now _
+    (option_found _ c.args.options.now.items _ c.args.name _ _ c.option_place.ensures c.as_slice.ensures.value c.as_bytes.ensures c.in-Some.is) c.index_mut.ensures.value refl

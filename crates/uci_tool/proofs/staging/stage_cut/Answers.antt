@@ -6,7 +6,8 @@ use Rattle.uci_tool.proofs.StageLemmas.{rests}
 use Rattle.uci_tool.proofs.staging.stage_cut.Goals as goal
 
 pub returns-in-Ok-clause-changes : goal.returns-in-Ok-clause-changes
-returns-in-Ok-clause-changes g c = changes_go_on (path_word c.args.path.now) c.in-Ok.path (stage_path c.args.verb c.args.value.now (folder_of c.args.store.now)) c.stage_path.result (folder_of c.args.store.now) (folder_of c.stage_path.new.store) c.in-Ok.ensures c.stage_path.ensures.changes
+returns-in-Ok-clause-changes g c = changes_go_on (path_word c.args.path.now) c.in-Ok.path (stage_path c.args.verb c.args.value.now (folder_of c.args.store.now)) c.stage_path.result (folder_of c.args.store.now)
+    (folder_of c.stage_path.new.store) c.in-Ok.ensures c.stage_path.ensures.changes
 
 pub returns-in-Err-clause-changes : goal.returns-in-Err-clause-changes
 returns-in-Err-clause-changes g c = changes_stop (path_word c.args.path.now) c.in-Err.stop (stage_path c.args.verb c.args.value.now (folder_of c.args.store.now)) (folder_of c.args.store.now) c.in-Err.ensures

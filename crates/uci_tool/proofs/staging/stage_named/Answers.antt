@@ -9,7 +9,8 @@ use Rattle.uci_tool.proofs.staging.stage_named.Goals as goal
 pub returns-in-Ok-clause-changes : goal.returns-in-Ok-clause-changes
 returns-in-Ok-clause-changes g c =
     let folder = folder_of c.args.store.now in
-    changes_go_on (name_in folder c.args.«package» c.args.reference) c.in-Ok.section (λ section. staged_with folder (record { «package» = c.args.«package»; section = section; option = c.args.option; change = c.args.change })) c.stage.result folder (folder_of c.stage.new.store)
+    changes_go_on (name_in folder c.args.«package» c.args.reference) c.in-Ok.section (λ section. staged_with folder (record { «package» = c.args.«package»; section = section; option = c.args.option; change = c.args.change })) c.stage.result
+    folder (folder_of c.stage.new.store)
     (sym (ap (λ (z : List ℕ). name_in folder z c.args.reference) c.as_bytes.ensures) ∙ c.in-Ok.ensures) c.stage.ensures.changes
 
 pub returns-in-Err-clause-changes : goal.returns-in-Err-clause-changes

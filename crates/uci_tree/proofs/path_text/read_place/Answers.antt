@@ -29,4 +29,6 @@ returns-clause-found c =
     let P : List ℕ → Type 0 = λ z. SpellsRef (64 ∷ c.args.text.now) (ByPlace z c.in-Some-read_index.index) in
     let Q : ℤ → Type 0 = λ z. SpellsRef (64 ∷ c.args.text.now) (ByPlace c.in_ok-from_bytes.field-0 z) in
     let fits : SFits w32 c.in-Some-read_index.index = search rules in
-    subst Q (sym (to_z-of_z w32 c.in-Some-read_index.index fits)) (subst P (sym c.in_ok-from_bytes.ensures) (ref_found _ _ _ _ _ _ c.in-Some.ensures c.in-Some-cut_last.ensures (has_none _ (sym c.is_empty.ensures ∙ c.if-not-is_empty.false)) (c.is_name.ensures.0 c.if-not-is_name.false) c.in-Some-read_index.ensures.found))
+    subst Q (sym (to_z-of_z w32 c.in-Some-read_index.index fits))
+    (subst P (sym c.in_ok-from_bytes.ensures) (ref_found _ _ _ _ _ _ c.in-Some.ensures c.in-Some-cut_last.ensures (has_none _ (sym c.is_empty.ensures ∙ c.if-not-is_empty.false)) (c.is_name.ensures.0 c.if-not-is_name.false)
+    c.in-Some-read_index.ensures.found))

@@ -70,7 +70,10 @@ returns-then-was-now-clause-cost g c =
 
 pub returns-then-was-now-clause-uses : goal.returns-then-was-now-clause-uses
 returns-then-was-now-clause-uses g c =
-    marked_more c.args.nodes.now c.put.new.self c.tell_lowers.new.nodes c.args.uses.now c.note.new.self c.tell_lowers.new.uses (noted_put c.args.nodes.now c.put.new.self c.args.place c.node-was.result c.use_settled-now.result c.args.uses.now c.note.new.self c.requires.within c.put.ensures c.node-was.ensures c.note.ensures.here c.note.ensures.only c.note.ensures.stay) c.tell_lowers.ensures.uses
+    marked_more c.args.nodes.now c.put.new.self c.tell_lowers.new.nodes c.args.uses.now c.note.new.self c.tell_lowers.new.uses
+    (noted_put c.args.nodes.now c.put.new.self c.args.place c.node-was.result c.use_settled-now.result c.args.uses.now c.note.new.self c.requires.within c.put.ensures c.node-was.ensures c.note.ensures.here c.note.ensures.only
+    c.note.ensures.stay) c.tell_lowers.ensures.uses
 
 pub returns-else-was-now-clause-uses : goal.returns-else-was-now-clause-uses
-returns-else-was-now-clause-uses g c = noted_put c.args.nodes.now c.put.new.self c.args.place c.node-was.result c.use_settled-now.result c.args.uses.now c.note.new.self c.requires.within c.put.ensures c.node-was.ensures c.note.ensures.here c.note.ensures.only c.note.ensures.stay
+returns-else-was-now-clause-uses g c = noted_put c.args.nodes.now c.put.new.self c.args.place c.node-was.result c.use_settled-now.result c.args.uses.now c.note.new.self c.requires.within c.put.ensures c.node-was.ensures c.note.ensures.here
+    c.note.ensures.only c.note.ensures.stay

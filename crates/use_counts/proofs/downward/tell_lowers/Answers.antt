@@ -35,7 +35,8 @@ loop-lower-preserved g c =
     record {
       size = ap length c.put.ensures ∙ length-set c.loop-lower.nodes u c.after_upper-node.result ∙ c.loop-lower.invariant.size;
       after_upper = λ k. ap (λ ns. node_at ns k) c.put.ensures
-          ∙ called_next c.args.was c.args.now (rank_of c.args.ranks.now) c.args.lowers.now i c.args.nodes.now c.loop-lower.nodes c.after_upper-node.result c.loop-lower-test.true within c.requires.before c.loop-lower.invariant.after_upper (c.after_upper-node.ensures ∙ ap (λ n. after_upper c.args.was c.args.now (nat_lt 0 (rank_of c.args.ranks.now u)) n 1) c.node-old.ensures) k;
+          ∙ called_next c.args.was c.args.now (rank_of c.args.ranks.now) c.args.lowers.now i c.args.nodes.now c.loop-lower.nodes c.after_upper-node.result c.loop-lower-test.true within c.requires.before c.loop-lower.invariant.after_upper
+          (c.after_upper-node.ensures ∙ ap (λ n. after_upper c.args.was c.args.now (nat_lt 0 (rank_of c.args.ranks.now u)) n 1) c.node-old.ensures) k;
       uses = marked_more c.args.nodes.now c.loop-lower.nodes c.put.new.self c.args.uses.now c.loop-lower.uses c.note.new.self c.loop-lower.invariant.uses
           (noted_put c.loop-lower.nodes c.put.new.self u c.node-old.result c.after_upper-node.result c.loop-lower.uses c.note.new.self within c.put.ensures c.node-old.ensures c.note.ensures.here c.note.ensures.only c.note.ensures.stay);
       cost = omega (arith, c.loop-lower.invariant.cost, c.tick.ensures);

@@ -19,7 +19,8 @@ loop-place-preserved c =
       size = omega (arith, inv.size, c.in_ok-push.ensures.len);
       keys = subst (λ (ks : List ℕ). AreKeys new ks) (sym items) (keys_push slab new keys key node inv.keys c.in_ok-key.ensures.was_vacant c.in_ok-key.ensures.updates);
       nodes = λ k h. ap (λ ks. node_at (list_of new ks) k) items ∙ ⊎_elim
-          (λ e. ap (node_at (list_of new (keys ++ key ∷ []))) (e ∙ sym long) ∙ node_pushed slab new keys key node c.in_ok-key.ensures.updates ∙ c.new.ensures ∙ sym (ap (λ n. new_node (rank_of c.args.ranks.now n) (row_at c.args.rows.now n)) e))
+          (λ e. ap (node_at (list_of new (keys ++ key ∷ []))) (e ∙ sym long) ∙ node_pushed slab new keys key node c.in_ok-key.ensures.updates ∙ c.new.ensures
+          ∙ sym (ap (λ n. new_node (rank_of c.args.ranks.now n) (row_at c.args.rows.now n)) e))
           (λ ne. nodes_push slab new keys key node inv.keys c.in_ok-key.ensures.was_vacant c.in_ok-key.ensures.updates k (omega (arith, h, ne, long)) ∙ inv.nodes k (omega (arith, h, ne)))
           (cases_eq k c.loop-place.place);
     }

@@ -21,26 +21,36 @@ settle-requires-clause-kept g c =
     (kept_device edges c.args.nodes.now c.args.place c.args.present c.args.carrier c.requires.within c.requires.rest.kept))
 
 pub settle-requires-clause-ranks : goal.settle-requires-clause-ranks
-settle-requires-clause-ranks g c k = ap (λ ns. rank_at ns k) c.put.ensures ∙ rank_put c.args.nodes.now c.args.place (device c.args.present c.args.carrier c.node.result) c.requires.within (ap (λ (n : Node). n.rank) c.node.ensures) k ∙ c.requires.ranks k
+settle-requires-clause-ranks g c k = ap (λ ns. rank_at ns k) c.put.ensures ∙ rank_put c.args.nodes.now c.args.place (device c.args.present c.args.carrier c.node.result) c.requires.within (ap (λ (n : Node). n.rank) c.node.ensures) k
+    ∙ c.requires.ranks k
 
 pub settle-requires-clause-claims : goal.settle-requires-clause-claims
 settle-requires-clause-claims g c k =
-    omega (arith, ap (λ ns. (node_at ns k).claims) c.put.ensures, written (λ n. n.claims) c.args.nodes.now c.args.place (device c.args.present c.args.carrier c.node.result) c.requires.within (ap (λ (n : Node). n.claims) c.node.ensures) k, c.requires.claims k)
+    omega (
+      arith,
+      ap (λ ns. (node_at ns k).claims) c.put.ensures,
+      written (λ n. n.claims) c.args.nodes.now c.args.place (device c.args.present c.args.carrier c.node.result) c.requires.within (ap (λ (n : Node). n.claims) c.node.ensures) k,
+      c.requires.claims k,
+    )
 
 pub settle-requires-clause-marks : goal.settle-requires-clause-marks
 settle-requires-clause-marks g c k ne stale =
-    absurd (true≢false (sym stale ∙ ap (λ ns. (node_at ns k).stale) c.put.ensures ∙ ap (λ (n : Node). n.stale) (get_or-set_other c.args.nodes.now c.args.place k (device c.args.present c.args.carrier c.node.result) no_node ne) ∙ c.requires.rest.ups k))
+    absurd (true≢false (sym stale ∙ ap (λ ns. (node_at ns k).stale) c.put.ensures ∙ ap (λ (n : Node). n.stale) (get_or-set_other c.args.nodes.now c.args.place k (device c.args.present c.args.carrier c.node.result) no_node ne)
+    ∙ c.requires.rest.ups k))
 
 pub settle-requires-clause-use_marks : goal.settle-requires-clause-use_marks
 settle-requires-clause-use_marks g c k d =
-    absurd (true≢false (sym d ∙ ap (λ ns. (node_at ns k).use_stale) c.put.ensures ∙ written (λ n. n.use_stale) c.args.nodes.now c.args.place (device c.args.present c.args.carrier c.node.result) c.requires.within (ap (λ (n : Node). n.use_stale) c.node.ensures) k ∙ c.requires.rest.downs k))
+    absurd (true≢false (sym d ∙ ap (λ ns. (node_at ns k).use_stale) c.put.ensures
+    ∙ written (λ n. n.use_stale) c.args.nodes.now c.args.place (device c.args.present c.args.carrier c.node.result) c.requires.within (ap (λ (n : Node). n.use_stale) c.node.ensures) k ∙ c.requires.rest.downs k))
 
 pub returns-clause-ranks : goal.returns-clause-ranks
-returns-clause-ranks g c k = c.settle.ensures.settles.ranks k ∙ ap (λ ns. rank_at ns k) c.put.ensures ∙ rank_put c.args.nodes.now c.args.place (device c.args.present c.args.carrier c.node.result) c.requires.within (ap (λ (n : Node). n.rank) c.node.ensures) k
+returns-clause-ranks g c k = c.settle.ensures.settles.ranks k ∙ ap (λ ns. rank_at ns k) c.put.ensures
+    ∙ rank_put c.args.nodes.now c.args.place (device c.args.present c.args.carrier c.node.result) c.requires.within (ap (λ (n : Node). n.rank) c.node.ensures) k
 
 pub returns-clause-members : goal.returns-clause-members
 returns-clause-members g c =
-    points_after c.args.nodes.now c.settle.new.nodes c.args.place (device c.args.present c.args.carrier c.node.result) (c.settle.ensures.settles.size ∙ ap length c.put.ensures) (λ k. c.settle.ensures.settles.members k ∙ ap (λ ns. member_of (node_at ns k)) c.put.ensures)
+    points_after c.args.nodes.now c.settle.new.nodes c.args.place (device c.args.present c.args.carrier c.node.result) (c.settle.ensures.settles.size ∙ ap length c.put.ensures)
+    (λ k. c.settle.ensures.settles.members k ∙ ap (λ ns. member_of (node_at ns k)) c.put.ensures)
     ∙ ap (λ n. slice_set (map member_of c.args.nodes.now) c.args.place (member_of (device c.args.present c.args.carrier n))) c.node.ensures
 
 pub returns-clause-cost : goal.returns-clause-cost
@@ -50,11 +60,18 @@ returns-clause-cost g c =
     let rank = rank_of topology.ranks.items in
     let stand : AllRunUp rank (vec_len topology.uppers) edges = recursion_from_All (λ e. RunsUp rank (vec_len topology.uppers) e.lower e.upper) edges topology.stand in
     let now = device c.args.present c.args.carrier c.node.result in
-    omega (arith, c.settle.ensures.settles.cost, ap (λ ns. visits_due edges ns c.settle.new.nodes) c.put.ensures, payment_after edges c.args.nodes.now c.settle.new.nodes c.args.place rank (vec_len topology.uppers) now c.requires.within stand (ap (λ (n : Node). n.available) c.node.ensures) (ap (λ (n : Node). n.link) c.node.ensures) (λ _. ap (λ (n : Node). n.used) c.node.ensures))
+    omega (
+      arith,
+      c.settle.ensures.settles.cost,
+      ap (λ ns. visits_due edges ns c.settle.new.nodes) c.put.ensures,
+      payment_after edges c.args.nodes.now c.settle.new.nodes c.args.place rank (vec_len topology.uppers) now c.requires.within stand (ap (λ (n : Node). n.available) c.node.ensures) (ap (λ (n : Node). n.link) c.node.ensures)
+          (λ _. ap (λ (n : Node). n.used) c.node.ensures),
+    )
 
 pub returns-clause-uses : goal.returns-clause-uses
 returns-clause-uses g c =
     let now = device c.args.present c.args.carrier c.node.result in
     marked_more c.args.nodes.now c.put.new.self c.settle.new.nodes c.args.uses.now c.args.uses.now c.settle.new.uses
-    (same_uses c.args.nodes.now c.put.new.self c.args.uses.now (ap length c.put.ensures ∙ length-set c.args.nodes.now c.args.place now) (λ k. ap (λ ns. (node_at ns k).used) c.put.ensures ∙ written (λ n. n.used) c.args.nodes.now c.args.place now c.requires.within (ap (λ (n : Node). n.used) c.node.ensures) k))
+    (same_uses c.args.nodes.now c.put.new.self c.args.uses.now (ap length c.put.ensures ∙ length-set c.args.nodes.now c.args.place now)
+    (λ k. ap (λ ns. (node_at ns k).used) c.put.ensures ∙ written (λ n. n.used) c.args.nodes.now c.args.place now c.requires.within (ap (λ (n : Node). n.used) c.node.ensures) k))
     c.settle.ensures.uses

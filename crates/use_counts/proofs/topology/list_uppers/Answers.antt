@@ -12,5 +12,6 @@ loop-edge-preserved c =
     let size = c.loop-edge.invariant.size in
     record {
       size = size;
-      lists = λ k h. listed upper_end lower_end c.args.edges.now c.loop-edge.edge-index k _ c.loop-edge.lists.items c.index_mut.result.now c.push.new.self c.loop-edge-test.true (omega (arith, c.requires c.loop-edge.edge-index (record { lower = 0; upper = 0 }) c.loop-edge-test.true, size, c.loop-edge.lists.ok.0)) c.index_mut.ensures.value c.in_ok-push.ensures.items (c.loop-edge.invariant.lists k h);
+      lists = λ k h. listed upper_end lower_end c.args.edges.now c.loop-edge.edge-index k _ c.loop-edge.lists.items c.index_mut.result.now c.push.new.self c.loop-edge-test.true
+          (omega (arith, c.requires c.loop-edge.edge-index (record { lower = 0; upper = 0 }) c.loop-edge-test.true, size, c.loop-edge.lists.ok.0)) c.index_mut.ensures.value c.in_ok-push.ensures.items (c.loop-edge.invariant.lists k h);
     }

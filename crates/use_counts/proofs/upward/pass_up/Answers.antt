@@ -26,7 +26,8 @@ loop-turn-init g c =
 pub made_at-requires : goal.made_at-requires
 made_at-requires g c =
     let topology = c.args.topology.now in
-    next_within topology.edges.items topology.order.items (rank_of topology.ranks.items) (vec_len topology.uppers) c.loop-turn.turn c.in-Some.next c.args.nodes.now c.loop-turn.nodes c.args.steps.now c.loop-turn.steps topology.ordered c.in-Some.ensures.found c.loop-turn.invariant.up
+    next_within topology.edges.items topology.order.items (rank_of topology.ranks.items) (vec_len topology.uppers) c.loop-turn.turn c.in-Some.next c.args.nodes.now c.loop-turn.nodes c.args.steps.now c.loop-turn.steps topology.ordered
+    c.in-Some.ensures.found c.loop-turn.invariant.up
 
 pub loop-turn-preserved : goal.loop-turn-preserved
 loop-turn-preserved g c =

@@ -88,8 +88,11 @@ returns-then-has_moved-clause-cost g c =
 
 pub returns-then-has_moved-clause-uses : goal.returns-then-has_moved-clause-uses
 returns-then-has_moved-clause-uses g c =
-    marked_more c.args.nodes.now c.put.new.self c.tell_uppers.new.nodes c.args.uses.now c.note.new.self c.note.new.self (noted_put c.args.nodes.now c.put.new.self c.args.place c.node-was.result c.settled-now.result c.args.uses.now c.note.new.self c.requires.within c.put.ensures c.node-was.ensures c.note.ensures.here c.note.ensures.only c.note.ensures.stay)
+    marked_more c.args.nodes.now c.put.new.self c.tell_uppers.new.nodes c.args.uses.now c.note.new.self c.note.new.self
+    (noted_put c.args.nodes.now c.put.new.self c.args.place c.node-was.result c.settled-now.result c.args.uses.now c.note.new.self c.requires.within c.put.ensures c.node-was.ensures c.note.ensures.here c.note.ensures.only
+    c.note.ensures.stay)
     (same_uses c.put.new.self c.tell_uppers.new.nodes c.note.new.self c.tell_uppers.ensures.size (λ k. ap (λ (n : Node). n.used) (c.tell_uppers.ensures.after_lower k)))
 
 pub returns-else-has_moved-clause-uses : goal.returns-else-has_moved-clause-uses
-returns-else-has_moved-clause-uses g c = noted_put c.args.nodes.now c.put.new.self c.args.place c.node-was.result c.settled-now.result c.args.uses.now c.note.new.self c.requires.within c.put.ensures c.node-was.ensures c.note.ensures.here c.note.ensures.only c.note.ensures.stay
+returns-else-has_moved-clause-uses g c = noted_put c.args.nodes.now c.put.new.self c.args.place c.node-was.result c.settled-now.result c.args.uses.now c.note.new.self c.requires.within c.put.ensures c.node-was.ensures c.note.ensures.here
+    c.note.ensures.only c.note.ensures.stay

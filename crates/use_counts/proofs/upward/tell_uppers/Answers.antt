@@ -50,6 +50,7 @@ loop-upper-preserved g c =
     record {
       size = ap length c.put.ensures ∙ length-set c.loop-upper.nodes u c.after_lower-node.result ∙ c.loop-upper.invariant.size;
       after_lower = λ k. ap (λ ns. node_at ns k) c.put.ensures
-          ∙ told_next c.args.change c.args.uppers.now i c.args.nodes.now c.loop-upper.nodes c.after_lower-node.result c.loop-upper-test.true within c.requires.ready_before c.requires.linked_before c.loop-upper.invariant.after_lower (c.after_lower-node.ensures ∙ ap (λ n. after_lower c.args.change n 1) c.node.ensures) k;
+          ∙ told_next c.args.change c.args.uppers.now i c.args.nodes.now c.loop-upper.nodes c.after_lower-node.result c.loop-upper-test.true within c.requires.ready_before c.requires.linked_before c.loop-upper.invariant.after_lower
+          (c.after_lower-node.ensures ∙ ap (λ n. after_lower c.args.change n 1) c.node.ensures) k;
       cost = omega (arith, c.loop-upper.invariant.cost, c.tick.ensures);
     }

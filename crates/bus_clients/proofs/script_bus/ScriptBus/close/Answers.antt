@@ -8,4 +8,5 @@ use Rattle.bus_clients.proofs.script_bus.ScriptBus.close.Goals as goal
 pub returns-in_ok-tell-in-Ok : goal.returns-in_ok-tell-in-Ok
 returns-in_ok-tell-in-Ok c =
     closes (part_of c.args.self.now) c.args.key c.in-Some.client.now c.drop_client.new.clients.items c.disconnect.new.self c.in-Ok.served
-    c.args.told.now.items c.tell.new.told.items tt (sym (ap option_copied c.in-Some.is) ∙ c.find_client.ensures ∙ ap (λ clients. client_at clients c.args.key) c.deref.ensures.value) c.drop_client.ensures c.in-Ok.ensures.ok c.in_ok-tell-in-Ok.ensures.lines
+    c.args.told.now.items c.tell.new.told.items tt (sym (ap option_copied c.in-Some.is) ∙ c.find_client.ensures ∙ ap (λ clients. client_at clients c.args.key) c.deref.ensures.value) c.drop_client.ensures c.in-Ok.ensures.ok
+    c.in_ok-tell-in-Ok.ensures.lines

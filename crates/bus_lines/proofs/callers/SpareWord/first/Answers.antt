@@ -1,5 +1,5 @@
 use Rattle.std.proofs.Common.{ℕ, [], Option, sym, subst}
-use Rattle.bus_lines.specs.Words.{supply_of, IsFirst, Uses}
+use Rattle.plane_outside.specs.Supply.{supply_of, IsFirst, Uses}
 use Rattle.bus_lines.proofs.WordLemmas.{first_kept, first_drawn, stays_drawn, uses_none}
 use Rattle.bus_lines.proofs.callers.SpareWord.first.Goals as goal
 

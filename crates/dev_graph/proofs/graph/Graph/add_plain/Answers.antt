@@ -23,4 +23,5 @@ pub invariant_of-self : goal.invariant_of-self
 invariant_of-self c =
     let other = place_before c.self.inside.names (held_of c.self.inside.objects) c.self.inside.loads c.args.self.now c.self.view_is c.in-Some.names c.args.name (ap known_in c.in-Some.is) c.requires in
     let whole = whole_either c.add_to.result c.in-Some.names c.add_to.new.names c.args.name (c.self.invariant.whole c.in-Some.names c.in-Some.is) other c.add_to.ensures.ok c.add_to.ensures.err in
-    tied_after_adding (record { names = Some c.add_to.new.names; objects = c.add_to.new.objects; used = c.add_to.new.used; uses = c.add_to.new.uses; loads = c.self.inside.loads }) c.add_to.new.names refl whole c.add_to.ensures.size c.add_to.ensures.used c.add_to.ensures.wishes c.add_to.ensures.room (c.add_to.ensures.uses ∙ c.self.invariant.none)
+    tied_after_adding (record { names = Some c.add_to.new.names; objects = c.add_to.new.objects; used = c.add_to.new.used; uses = c.add_to.new.uses; loads = c.self.inside.loads }) c.add_to.new.names refl whole c.add_to.ensures.size
+    c.add_to.ensures.used c.add_to.ensures.wishes c.add_to.ensures.room (c.add_to.ensures.uses ∙ c.self.invariant.none)

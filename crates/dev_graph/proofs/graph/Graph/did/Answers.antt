@@ -36,9 +36,25 @@ put-requires-clause-taken c =
 pub invariant_of-self : goal.invariant_of-self
 invariant_of-self c =
     let s = known_in c.self.inside.names in
-    record { whole = c.self.invariant.whole; used = c.self.invariant.used; looked = c.self.invariant.looked; room = c.self.invariant.room; none = c.self.invariant.none; wishes = subst (λ ws. HaveSame ws (map (wish_in s) (mays s))) (sym c.take.ensures.wishes) c.self.invariant.wishes }
+    record {
+      whole = c.self.invariant.whole;
+      used = c.self.invariant.used;
+      looked = c.self.invariant.looked;
+      room = c.self.invariant.room;
+      none = c.self.invariant.none;
+      wishes =
+          subst (λ ws. HaveSame ws (map (wish_in s) (mays s))) (sym c.take.ensures.wishes) c.self.invariant.wishes;
+    }
 
 pub invariant_of-self-in-Put : goal.invariant_of-self-in-Put
 invariant_of-self-in-Put c =
     let s = known_in c.self.inside.names in
-    record { whole = c.self.invariant.whole; used = c.self.invariant.used; looked = c.self.invariant.looked; room = c.self.invariant.room; none = c.self.invariant.none; wishes = subst (λ ws. HaveSame ws (map (wish_in s) (mays s))) (sym c.put.ensures.wishes) c.self.invariant.wishes }
+    record {
+      whole = c.self.invariant.whole;
+      used = c.self.invariant.used;
+      looked = c.self.invariant.looked;
+      room = c.self.invariant.room;
+      none = c.self.invariant.none;
+      wishes =
+          subst (λ ws. HaveSame ws (map (wish_in s) (mays s))) (sym c.put.ensures.wishes) c.self.invariant.wishes;
+    }

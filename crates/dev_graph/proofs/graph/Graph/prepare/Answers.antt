@@ -10,7 +10,15 @@ use Rattle.dev_graph.proofs.graph.Graph.prepare.Goals as goal
 pub invariant_of-self : goal.invariant_of-self
 invariant_of-self c =
     let s = known_in c.self.inside.names in
-    record { whole = c.self.invariant.whole; used = c.self.invariant.used; looked = c.self.invariant.looked; room = c.self.invariant.room; none = c.self.invariant.none; wishes = subst (λ (m : Marks). HaveSame m.wishes (map (wish_in s) (mays s))) (sym c.prepare.ensures) c.self.invariant.wishes }
+    record {
+      whole = c.self.invariant.whole;
+      used = c.self.invariant.used;
+      looked = c.self.invariant.looked;
+      room = c.self.invariant.room;
+      none = c.self.invariant.none;
+      wishes =
+          subst (λ (m : Marks). HaveSame m.wishes (map (wish_in s) (mays s))) (sym c.prepare.ensures) c.self.invariant.wishes;
+    }
 
 pub returns : goal.returns
 returns c = ap (λ (m : Marks). let s : State = record { known = known_in c.self.inside.names; held = held_of m; loads = c.self.inside.loads } in s) c.prepare.ensures ∙ c.self.view_is

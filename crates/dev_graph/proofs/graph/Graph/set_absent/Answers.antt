@@ -21,18 +21,30 @@ set_absent-requires-clause-room g c = omega (arith, c.self.invariant.room, ap (�
 pub judge_uses-requires : goal.judge_uses-requires
 judge_uses-requires g c =
     let s : Known = c.in-Some.names in
-    let told = told_after c.self.inside s c.set_absent.new.self (with_device s.names c.args.id.0 None) c.set_absent.new.uses c.in-Some.is c.self.invariant (device_spelled s.names c.args.id.0 None) c.set_absent.ensures.known c.set_absent.ensures.uses in
+    let told = told_after c.self.inside s c.set_absent.new.self (with_device s.names c.args.id.0 None) c.set_absent.new.uses c.in-Some.is c.self.invariant (device_spelled s.names c.args.id.0 None) c.set_absent.ensures.known
+    c.set_absent.ensures.uses in
     record { sound = told.whole.names; ids = told.within; before = (s, told.differing) }
 
 pub invariant_of-self-2 : goal.invariant_of-self-2
 invariant_of-self-2 g c =
     let s : Known = c.in-Some.names in
-    let told = told_after c.self.inside s c.set_absent.new.self (with_device s.names c.args.id.0 None) c.set_absent.new.uses c.in-Some.is c.self.invariant (device_spelled s.names c.args.id.0 None) c.set_absent.ensures.known c.set_absent.ensures.uses in
-    record { whole = whole_some c.set_absent.new.self told.whole; used = c.judge_uses.ensures.size; looked = c.judge_uses.ensures.used; room = omega (arith, told.differing.size, c.self.invariant.used, c.self.invariant.room, c.set_absent.ensures.uses.stay.room, ap (λ (m : Marking). m.room) c.judge_uses.ensures.uses); none = ap (λ (m : Marking). m.ids) c.judge_uses.ensures.uses; wishes = subst (λ ws. HaveSame ws (map (wish_in c.set_absent.new.self) (mays c.set_absent.new.self))) (sym c.leave_with.ensures.wishes) c.judge_uses.ensures.wishes }
+    let told = told_after c.self.inside s c.set_absent.new.self (with_device s.names c.args.id.0 None) c.set_absent.new.uses c.in-Some.is c.self.invariant (device_spelled s.names c.args.id.0 None) c.set_absent.ensures.known
+    c.set_absent.ensures.uses in
+    record {
+      whole = whole_some c.set_absent.new.self told.whole;
+      used = c.judge_uses.ensures.size;
+      looked = c.judge_uses.ensures.used;
+      room =
+          omega (arith, told.differing.size, c.self.invariant.used, c.self.invariant.room, c.set_absent.ensures.uses.stay.room, ap (λ (m : Marking). m.room) c.judge_uses.ensures.uses);
+      none =
+          ap (λ (m : Marking). m.ids) c.judge_uses.ensures.uses;
+      wishes = subst (λ ws. HaveSame ws (map (wish_in c.set_absent.new.self) (mays c.set_absent.new.self))) (sym c.leave_with.ensures.wishes) c.judge_uses.ensures.wishes;
+    }
 
 pub returns-clause-state : goal.returns-clause-state
 returns-clause-state g c =
-    after_leaving c.self.inside.names c.in-Some.names (held_of c.self.inside.objects) c.self.inside.loads c.args.self.now c.in-Some.is c.self.view_is c.set_absent.new.self (held_of c.leave_with.new.objects) c.args.id.0 c.name-name.result c.device-device.result
+    after_leaving c.self.inside.names c.in-Some.names (held_of c.self.inside.objects) c.self.inside.loads c.args.self.now c.in-Some.is c.self.view_is c.set_absent.new.self (held_of c.leave_with.new.objects) c.args.id.0 c.name-name.result
+    c.device-device.result
     c.set_absent.ensures.known (c.name-name.ensures ∙ ap (λ (ns : List Named). (name_at ns c.args.id.0).name) c.names.ensures.names) c.device-device.ensures
     (c.leave_with.ensures.held ∙ ap (left_by c.device-device.result c.name-name.result) (same_held c.self.inside.objects c.judge_uses.new.objects c.judge_uses.ensures.held))
 

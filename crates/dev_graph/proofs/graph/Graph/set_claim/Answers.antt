@@ -17,14 +17,25 @@ set_claim-requires-clause-room g c = omega (arith, c.self.invariant.room, ap (λ
 pub judge_uses-requires : goal.judge_uses-requires
 judge_uses-requires g c =
     let s : Known = c.in-Some.names in
-    let told = told_after c.self.inside s c.set_claim.new.self (with_claims s.names c.args.id.0 c.args.claims) c.set_claim.new.uses c.in-Some.is c.self.invariant (claims_spelled s.names c.args.id.0 c.args.claims) c.set_claim.ensures.known c.set_claim.ensures.uses in
+    let told = told_after c.self.inside s c.set_claim.new.self (with_claims s.names c.args.id.0 c.args.claims) c.set_claim.new.uses c.in-Some.is c.self.invariant (claims_spelled s.names c.args.id.0 c.args.claims) c.set_claim.ensures.known
+    c.set_claim.ensures.uses in
     record { sound = told.whole.names; ids = told.within; before = (s, told.differing) }
 
 pub invariant_of-self-2 : goal.invariant_of-self-2
 invariant_of-self-2 g c =
     let s : Known = c.in-Some.names in
-    let told = told_after c.self.inside s c.set_claim.new.self (with_claims s.names c.args.id.0 c.args.claims) c.set_claim.new.uses c.in-Some.is c.self.invariant (claims_spelled s.names c.args.id.0 c.args.claims) c.set_claim.ensures.known c.set_claim.ensures.uses in
-    record { whole = whole_some c.set_claim.new.self told.whole; used = c.judge_uses.ensures.size; looked = c.judge_uses.ensures.used; room = omega (arith, told.differing.size, c.self.invariant.used, c.self.invariant.room, c.set_claim.ensures.uses.stay.room, ap (λ (m : Marking). m.room) c.judge_uses.ensures.uses); none = ap (λ (m : Marking). m.ids) c.judge_uses.ensures.uses; wishes = c.judge_uses.ensures.wishes }
+    let told = told_after c.self.inside s c.set_claim.new.self (with_claims s.names c.args.id.0 c.args.claims) c.set_claim.new.uses c.in-Some.is c.self.invariant (claims_spelled s.names c.args.id.0 c.args.claims) c.set_claim.ensures.known
+    c.set_claim.ensures.uses in
+    record {
+      whole = whole_some c.set_claim.new.self told.whole;
+      used = c.judge_uses.ensures.size;
+      looked = c.judge_uses.ensures.used;
+      room =
+          omega (arith, told.differing.size, c.self.invariant.used, c.self.invariant.room, c.set_claim.ensures.uses.stay.room, ap (λ (m : Marking). m.room) c.judge_uses.ensures.uses);
+      none =
+          ap (λ (m : Marking). m.ids) c.judge_uses.ensures.uses;
+      wishes = c.judge_uses.ensures.wishes;
+    }
 
 pub returns-clause-state : goal.returns-clause-state
 returns-clause-state g c =

@@ -31,8 +31,11 @@ judge-requires c =
     let t : Known = record s { radio = radio } in
     let whole : IsWhole t = whole_ports s radio (c.self.invariant.whole s c.in-Some.is) ports in
     let size : length c.self.inside.used.items ≡ length t.names = c.self.invariant.used ∙ ap (λ n. length (known_in n).names) c.in-Some.is in
-    let fresh : IsReady t c.in_ok-objects.objects.wishes (length c.self.inside.used.items) = ready_parts t c.rows-rows.result.now c.vlans-vlans.result.now c.names.result.now radio c.rows-rows.ensures c.vlans-vlans.ensures c.names.ensures.names refl c.in_ok-objects.objects (length c.self.inside.used.items) whole size c.in_ok-objects.ensures.wishes in
-    let ready : IsReady c.set_ports.new.self c.in_ok-objects.objects.wishes (length c.self.inside.used.items) = subst (λ (k : Known). IsReady k c.in_ok-objects.objects.wishes (length c.self.inside.used.items)) (sym c.in_ok-set_ports.ensures.ok) fresh in
+    let fresh : IsReady t c.in_ok-objects.objects.wishes (length c.self.inside.used.items) =
+    ready_parts t c.rows-rows.result.now c.vlans-vlans.result.now c.names.result.now radio c.rows-rows.ensures c.vlans-vlans.ensures c.names.ensures.names refl c.in_ok-objects.objects (length c.self.inside.used.items) whole size
+    c.in_ok-objects.ensures.wishes in
+    let ready : IsReady c.set_ports.new.self c.in_ok-objects.objects.wishes (length c.self.inside.used.items) =
+    subst (λ (k : Known). IsReady k c.in_ok-objects.objects.wishes (length c.self.inside.used.items)) (sym c.in_ok-set_ports.ensures.ok) fresh in
     record { sound = ready.whole.names; size = ready.size; wishes = ready.wishes }
 
 pub invariant_of-self-2 : goal.invariant_of-self-2
@@ -44,9 +47,19 @@ invariant_of-self-2 c =
     let t : Known = record s { radio = radio } in
     let whole : IsWhole t = whole_ports s radio (c.self.invariant.whole s c.in-Some.is) ports in
     let size : length c.self.inside.used.items ≡ length t.names = c.self.invariant.used ∙ ap (λ n. length (known_in n).names) c.in-Some.is in
-    let fresh : IsReady t c.in_ok-objects.objects.wishes (length c.self.inside.used.items) = ready_parts t c.rows-rows.result.now c.vlans-vlans.result.now c.names.result.now radio c.rows-rows.ensures c.vlans-vlans.ensures c.names.ensures.names refl c.in_ok-objects.objects (length c.self.inside.used.items) whole size c.in_ok-objects.ensures.wishes in
-    let ready : IsReady c.set_ports.new.self c.in_ok-objects.objects.wishes (length c.self.inside.used.items) = subst (λ (k : Known). IsReady k c.in_ok-objects.objects.wishes (length c.self.inside.used.items)) (sym c.in_ok-set_ports.ensures.ok) fresh in
-    record { whole = whole_some c.set_ports.new.self ready.whole; used = c.judge.ensures.size; looked = c.judge.ensures.used; room = omega (arith, ready.size, c.self.invariant.used, c.self.invariant.room); none = c.self.invariant.none; wishes = c.judge.ensures.wishes }
+    let fresh : IsReady t c.in_ok-objects.objects.wishes (length c.self.inside.used.items) =
+    ready_parts t c.rows-rows.result.now c.vlans-vlans.result.now c.names.result.now radio c.rows-rows.ensures c.vlans-vlans.ensures c.names.ensures.names refl c.in_ok-objects.objects (length c.self.inside.used.items) whole size
+    c.in_ok-objects.ensures.wishes in
+    let ready : IsReady c.set_ports.new.self c.in_ok-objects.objects.wishes (length c.self.inside.used.items) =
+    subst (λ (k : Known). IsReady k c.in_ok-objects.objects.wishes (length c.self.inside.used.items)) (sym c.in_ok-set_ports.ensures.ok) fresh in
+    record {
+      whole = whole_some c.set_ports.new.self ready.whole;
+      used = c.judge.ensures.size;
+      looked = c.judge.ensures.used;
+      room = omega (arith, ready.size, c.self.invariant.used, c.self.invariant.room);
+      none = c.self.invariant.none;
+      wishes = c.judge.ensures.wishes;
+    }
 
 pub returns-clause-ok : goal.returns-clause-ok
 returns-clause-ok c =

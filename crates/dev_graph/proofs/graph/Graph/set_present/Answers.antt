@@ -17,19 +17,31 @@ set_present-requires-clause-room g c = omega (arith, c.self.invariant.room, ap (
 pub judge_uses-requires : goal.judge_uses-requires
 judge_uses-requires g c =
     let s : Known = c.in-Some.names in
-    let told = told_after c.self.inside s c.set_present.new.self (with_device s.names c.args.id.0 (Some (record { carrier = c.args.carrier; mtu = c.args.mtu; mac = c.args.mac }))) c.set_present.new.uses c.in-Some.is c.self.invariant (device_spelled s.names c.args.id.0 (Some (record { carrier = c.args.carrier; mtu = c.args.mtu; mac = c.args.mac }))) c.set_present.ensures.known c.set_present.ensures.uses in
+    let told = told_after c.self.inside s c.set_present.new.self (with_device s.names c.args.id.0 (Some (record { carrier = c.args.carrier; mtu = c.args.mtu; mac = c.args.mac }))) c.set_present.new.uses c.in-Some.is c.self.invariant
+    (device_spelled s.names c.args.id.0 (Some (record { carrier = c.args.carrier; mtu = c.args.mtu; mac = c.args.mac }))) c.set_present.ensures.known c.set_present.ensures.uses in
     record { sound = told.whole.names; ids = told.within; before = (s, told.differing) }
 
 pub invariant_of-self-2 : goal.invariant_of-self-2
 invariant_of-self-2 g c =
     let s : Known = c.in-Some.names in
-    let told = told_after c.self.inside s c.set_present.new.self (with_device s.names c.args.id.0 (Some (record { carrier = c.args.carrier; mtu = c.args.mtu; mac = c.args.mac }))) c.set_present.new.uses c.in-Some.is c.self.invariant (device_spelled s.names c.args.id.0 (Some (record { carrier = c.args.carrier; mtu = c.args.mtu; mac = c.args.mac }))) c.set_present.ensures.known c.set_present.ensures.uses in
-    record { whole = whole_some c.set_present.new.self told.whole; used = c.judge_uses.ensures.size; looked = c.judge_uses.ensures.used; room = omega (arith, told.differing.size, c.self.invariant.used, c.self.invariant.room, c.set_present.ensures.uses.stay.room, ap (λ (m : Marking). m.room) c.judge_uses.ensures.uses); none = ap (λ (m : Marking). m.ids) c.judge_uses.ensures.uses; wishes = c.judge_uses.ensures.wishes }
+    let told = told_after c.self.inside s c.set_present.new.self (with_device s.names c.args.id.0 (Some (record { carrier = c.args.carrier; mtu = c.args.mtu; mac = c.args.mac }))) c.set_present.new.uses c.in-Some.is c.self.invariant
+    (device_spelled s.names c.args.id.0 (Some (record { carrier = c.args.carrier; mtu = c.args.mtu; mac = c.args.mac }))) c.set_present.ensures.known c.set_present.ensures.uses in
+    record {
+      whole = whole_some c.set_present.new.self told.whole;
+      used = c.judge_uses.ensures.size;
+      looked = c.judge_uses.ensures.used;
+      room =
+          omega (arith, told.differing.size, c.self.invariant.used, c.self.invariant.room, c.set_present.ensures.uses.stay.room, ap (λ (m : Marking). m.room) c.judge_uses.ensures.uses);
+      none =
+          ap (λ (m : Marking). m.ids) c.judge_uses.ensures.uses;
+      wishes = c.judge_uses.ensures.wishes;
+    }
 
 pub returns-clause-state : goal.returns-clause-state
 returns-clause-state g c =
     after_event c.self.inside.names c.in-Some.names (held_of c.self.inside.objects) c.self.inside.loads c.args.self.now c.in-Some.is c.self.view_is c.set_present.new.self (held_of c.judge_uses.new.objects)
-    (λ (ns : List Named). with_device ns c.args.id.0 (Some (record { carrier = c.args.carrier; mtu = c.args.mtu; mac = c.args.mac }))) c.set_present.ensures.known (same_held c.self.inside.objects c.judge_uses.new.objects c.judge_uses.ensures.held)
+    (λ (ns : List Named). with_device ns c.args.id.0 (Some (record { carrier = c.args.carrier; mtu = c.args.mtu; mac = c.args.mac }))) c.set_present.ensures.known
+    (same_held c.self.inside.objects c.judge_uses.new.objects c.judge_uses.ensures.held)
 
 pub returns-clause-cost : goal.returns-clause-cost
 returns-clause-cost g c =

@@ -37,7 +37,8 @@ invariant_of-self-2 c =
     record {
       gifts = subst AreGifts (sym is) (more_gifts (listed es) (empty_gift o) off c.requires (c.has_form.ensures c.requires) c.self.invariant.gifts);
       order = record { takes = λ kept. absurd (cc (kept, c.in_ok-make_room.ensures.kept)); puts = λ kept. absurd (cc (kept, c.in_ok-make_room.ensures.kept)) };
-      places = listed_added (listed es) (listed c.insert.new.self.entries) c.make_room.new.order.places.list.items c.make_room.new.order.places.flags.items (c.in_ok-make_room.ensures.places (listed es) c.self.invariant.places) (empty_gift o) is
+      places = listed_added (listed es) (listed c.insert.new.self.entries) c.make_room.new.order.places.list.items c.make_room.new.order.places.flags.items (c.in_ok-make_room.ensures.places (listed es) c.self.invariant.places)
+          (empty_gift o) is
           c.add_place.new.places.list.items c.add_place.new.places.flags.items c.add_place.ensures.places c.add_place.ensures.flags;
       room = record {
         takes = omega (arith, size, c.in_ok-make_room.ensures.ok.takes, c.len.ensures.len);

@@ -48,8 +48,10 @@ invariant_of-self c =
     let was_due = λ (on : c.is_due-was_due.result ≡ true). due_there gs c.self.invariant.gifts (key_of o) es refl held c.in-Some.place c.gift_at.result (sym c.in-Some.ensures.index) c.gift_at.ensures
     (ap (λ turn. is_due turn c.gift_at.result) (sym c.turn_of-turn.ensures) ∙ sym c.is_due-was_due.ensures ∙ on) in
     let left : IsOrder c.go_on.new.order (listed (set_value_at es c.in-Some.place w)) = c.go_on.ensures.order (record {
-      takes = λ kept. lists_go_on Takes gs (listed (set_value_at es c.in-Some.place w)) o held is (was_due (and_right c.self.inside.order.is_kept c.is_due-was_due.result kept)) c.self.inside.order.takes.items (c.self.invariant.order.takes (and_left c.self.inside.order.is_kept c.is_due-was_due.result kept));
-      puts = λ kept. lists_go_on Puts gs (listed (set_value_at es c.in-Some.place w)) o held is (was_due (and_right c.self.inside.order.is_kept c.is_due-was_due.result kept)) c.self.inside.order.puts.items (c.self.invariant.order.puts (and_left c.self.inside.order.is_kept c.is_due-was_due.result kept));
+      takes = λ kept. lists_go_on Takes gs (listed (set_value_at es c.in-Some.place w)) o held is (was_due (and_right c.self.inside.order.is_kept c.is_due-was_due.result kept)) c.self.inside.order.takes.items
+          (c.self.invariant.order.takes (and_left c.self.inside.order.is_kept c.is_due-was_due.result kept));
+      puts = λ kept. lists_go_on Puts gs (listed (set_value_at es c.in-Some.place w)) o held is (was_due (and_right c.self.inside.order.is_kept c.is_due-was_due.result kept)) c.self.inside.order.puts.items
+          (c.self.invariant.order.puts (and_left c.self.inside.order.is_kept c.is_due-was_due.result kept));
     }) in
     record {
       gifts = subst AreGifts (sym is) (note_gifts gs o held c.self.invariant.gifts);

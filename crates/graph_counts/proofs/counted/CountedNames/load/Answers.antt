@@ -33,7 +33,8 @@ invariant_of-result c =
     let same : slice ≡ rows = c.as_slice-rows.ensures ∙ sym copied in
     let kept : names ≡ kept_names old (map (λ (r : NameRow). r.name) rows ++ plain) = c.in_ok-names.ensures ∙ ap (λ (rs : List NameRow). kept_names old (map (λ (r : NameRow). r.name) rs ++ plain)) same in
     record {
-      sound = subst (λ (ps : List RadioPort). let k : Known = record { rows = rows; vlans = vlans; names = names; radio = ps } in IsSound k) (sym c.in_ok-ports.ensures) (sound_parts old names c.args.conf.now plain radio rows vlans c.requires.can copied kept);
+      sound = subst (λ (ps : List RadioPort). let k : Known = record { rows = rows; vlans = vlans; names = names; radio = ps } in IsSound k) (sym c.in_ok-ports.ensures)
+          (sound_parts old names c.args.conf.now plain radio rows vlans c.requires.can copied kept);
       few = subst HasFewClaims (sym c.in_ok-names.ensures) (few_kept old _ c.requires.few);
       counts =
           c.in_ok-counts.ensures

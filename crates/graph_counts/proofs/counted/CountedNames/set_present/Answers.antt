@@ -16,7 +16,8 @@ invariant_of-self g c =
     let id = c.args.id.0 in
     let s : Known = known_of c.self.inside in
     let within : id < length s.names = omega (arith, c.requires.within, ap (λ (k : Known). length k.names) c.self.view_is) in
-    let t = tied_after_device s c.set_device.new.self c.self.inside.counts c.set_present.new.self id (Some c.args.device) true c.args.device.carrier c.self.invariant.sound c.self.invariant.counts within refl refl c.set_device.ensures c.set_present.ensures.net in
+    let t = tied_after_device s c.set_device.new.self c.self.inside.counts c.set_present.new.self id (Some c.args.device) true c.args.device.carrier c.self.invariant.sound c.self.invariant.counts within refl refl c.set_device.ensures
+    c.set_present.ensures.net in
     record { sound = t.0; few = subst HasFewClaims (sym c.set_device.ensures) (few_with_device s.names id (Some c.args.device) within c.self.invariant.few); counts = t.1 }
 
 pub returns-clause-cost : goal.returns-clause-cost
@@ -24,7 +25,8 @@ returns-clause-cost g c =
     let id = c.args.id.0 in
     let s : Known = known_of c.self.inside in
     let within : id < length s.names = omega (arith, c.requires.within, ap (λ (k : Known). length k.names) c.self.view_is) in
-    let bound = cost_after_device s c.set_device.new.self c.self.inside.counts c.set_present.new.self id (Some c.args.device) true c.args.device.carrier c.self.invariant.sound c.self.invariant.counts within refl refl c.set_device.ensures c.set_present.ensures.net in
+    let bound = cost_after_device s c.set_device.new.self c.self.inside.counts c.set_present.new.self id (Some c.args.device) true c.args.device.carrier c.self.invariant.sound c.self.invariant.counts within refl refl c.set_device.ensures
+    c.set_present.ensures.net in
     let same = ap (λ (k : Known). changed_edges k (record s { names = c.set_device.new.self })) c.self.view_is in
     omega (arith, bound, same, c.set_present.ensures.cost)
 
@@ -34,7 +36,8 @@ returns-clause-uses g c =
     let s : Known = known_of c.self.inside in
     let new : Known = record s { names = c.set_device.new.self } in
     let within : id < length s.names = omega (arith, c.requires.within, ap (λ (k : Known). length k.names) c.self.view_is) in
-    let t = tied_after_device s c.set_device.new.self c.self.inside.counts c.set_present.new.self id (Some c.args.device) true c.args.device.carrier c.self.invariant.sound c.self.invariant.counts within refl refl c.set_device.ensures c.set_present.ensures.net in
+    let t = tied_after_device s c.set_device.new.self c.self.inside.counts c.set_present.new.self id (Some c.args.device) true c.args.device.carrier c.self.invariant.sound c.self.invariant.counts within refl refl c.set_device.ensures
+    c.set_present.ensures.net in
     let size = ap length c.set_device.ensures ∙ length-set s.names id (record (name_at s.names id) { device = Some c.args.device }) in
     subst (λ (k : Known). TellsUses k new c.args.uses.now c.set_present.new.uses) c.self.view_is
     (told_uses s new c.self.inside.counts c.set_present.new.self c.args.uses.now c.set_present.new.uses c.self.invariant.sound t.0 size c.self.invariant.counts t.1 c.set_present.ensures.uses)

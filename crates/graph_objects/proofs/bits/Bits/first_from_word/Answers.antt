@@ -21,7 +21,8 @@ returns-then-word-ne0-clause-least c =
     let index = c.loop-index.index in
     let word = c.index-word.result.now in
     let is = get_or_read words index word (omega arith) c.index-word.ensures 0 in
-    subst (λ (ws : List ℕ). NoneBetween ws (64 * c.args.start) (index * 64 + trailing_zeros w64 word)) c.self.view_is (lowest_bit words (64 * c.args.start) index word c.loop-index.invariant is (omega (arith, c.if-word-ne0.true)) (omega arith))
+    subst (λ (ws : List ℕ). NoneBetween ws (64 * c.args.start) (index * 64 + trailing_zeros w64 word)) c.self.view_is
+    (lowest_bit words (64 * c.args.start) index word c.loop-index.invariant is (omega (arith, c.if-word-ne0.true)) (omega arith))
 
 pub returns-clause-none : goal.returns-clause-none
 returns-clause-none c =

@@ -17,7 +17,20 @@ pub returns-clause-err : goal.returns-clause-err
 returns-clause-err c = subst (λ (m : Marks). OnErr c.expect.result (wishes c.expect.new.slots.entries ≡ m.wishes)) c.self.view_is c.expect.ensures.err
 
 pub invariant_of-self-2 : goal.invariant_of-self-2
-invariant_of-self-2 c = record { slots = c.expect.ensures.slots; marked = c.expect.ensures.marked; listed = c.expect.ensures.listed; order = record { takes = λ kept. absurd (cc (kept, c.in_ok-make_room.ensures.kept)); puts = λ kept. absurd (cc (kept, c.in_ok-make_room.ensures.kept)) }; room = record { few = omega (arith, c.in_ok-make_room.ensures.ok.few, c.expect.ensures.few, c.len.ensures.len); takes = omega (arith, c.in_ok-make_room.ensures.ok.takes, c.expect.ensures.few, c.len.ensures.len); puts = omega (arith, c.in_ok-make_room.ensures.ok.puts, c.expect.ensures.few, c.len.ensures.len) } }
+invariant_of-self-2 c = record {
+  slots = c.expect.ensures.slots;
+  marked = c.expect.ensures.marked;
+  listed = c.expect.ensures.listed;
+  order =
+      record { takes = λ kept. absurd (cc (kept, c.in_ok-make_room.ensures.kept)); puts = λ kept. absurd (cc (kept, c.in_ok-make_room.ensures.kept)) };
+  room =
+      record {
+        few = omega (arith, c.in_ok-make_room.ensures.ok.few, c.expect.ensures.few, c.len.ensures.len);
+        takes = omega (arith, c.in_ok-make_room.ensures.ok.takes, c.expect.ensures.few, c.len.ensures.len);
+        puts =
+            omega (arith, c.in_ok-make_room.ensures.ok.puts, c.expect.ensures.few, c.len.ensures.len);
+      };
+}
 
 pub invariant_of-self : goal.invariant_of-self
 invariant_of-self c = record {

@@ -19,9 +19,24 @@ invariant_of-self c = record {
   listed = subst (AreListed c.self.inside.by_id.items) (sym (ap deciders c.judge_ids.ensures.slots ∙ decided_deciders c.args.used.now c.args.ids.now c.self.inside.slots.entries)) c.self.invariant.listed;
   order = record { takes = λ kept. absurd (cc kept); puts = λ kept. absurd (cc kept) };
   room = record {
-    few = omega (arith, c.self.invariant.room.few, as_many_slots c.self.inside.slots.entries c.judge_ids.new.slots.entries (ap deciders c.judge_ids.ensures.slots ∙ decided_deciders c.args.used.now c.args.ids.now c.self.inside.slots.entries));
-    takes = omega (arith, c.self.invariant.room.takes, as_many_slots c.self.inside.slots.entries c.judge_ids.new.slots.entries (ap deciders c.judge_ids.ensures.slots ∙ decided_deciders c.args.used.now c.args.ids.now c.self.inside.slots.entries));
-    puts = omega (arith, c.self.invariant.room.puts, as_many_slots c.self.inside.slots.entries c.judge_ids.new.slots.entries (ap deciders c.judge_ids.ensures.slots ∙ decided_deciders c.args.used.now c.args.ids.now c.self.inside.slots.entries));
+    few = omega (
+      arith,
+      c.self.invariant.room.few,
+      as_many_slots c.self.inside.slots.entries c.judge_ids.new.slots.entries
+          (ap deciders c.judge_ids.ensures.slots ∙ decided_deciders c.args.used.now c.args.ids.now c.self.inside.slots.entries),
+    );
+    takes = omega (
+      arith,
+      c.self.invariant.room.takes,
+      as_many_slots c.self.inside.slots.entries c.judge_ids.new.slots.entries
+          (ap deciders c.judge_ids.ensures.slots ∙ decided_deciders c.args.used.now c.args.ids.now c.self.inside.slots.entries),
+    );
+    puts = omega (
+      arith,
+      c.self.invariant.room.puts,
+      as_many_slots c.self.inside.slots.entries c.judge_ids.new.slots.entries
+          (ap deciders c.judge_ids.ensures.slots ∙ decided_deciders c.args.used.now c.args.ids.now c.self.inside.slots.entries),
+    );
   };
 }
 

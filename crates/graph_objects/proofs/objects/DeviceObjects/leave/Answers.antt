@@ -12,4 +12,18 @@ pub returns-clause-wishes : goal.returns-clause-wishes
 returns-clause-wishes c = c.leave.ensures.wishes ∙ ap (λ (m : Marks). m.wishes) c.self.view_is
 
 pub invariant_of-self : goal.invariant_of-self
-invariant_of-self c = record { slots = c.leave.ensures.slots; marked = c.leave.ensures.marked; listed = subst (AreListed c.self.inside.by_id.items) (sym c.leave.ensures.deciders) c.self.invariant.listed; order = record { takes = λ kept. absurd (cc kept); puts = λ kept. absurd (cc kept) }; room = record { few = omega (arith, c.self.invariant.room.few, as_many_slots c.self.inside.slots.entries c.leave.new.slots.entries c.leave.ensures.deciders); takes = omega (arith, c.self.invariant.room.takes, as_many_slots c.self.inside.slots.entries c.leave.new.slots.entries c.leave.ensures.deciders); puts = omega (arith, c.self.invariant.room.puts, as_many_slots c.self.inside.slots.entries c.leave.new.slots.entries c.leave.ensures.deciders) } }
+invariant_of-self c = record {
+  slots = c.leave.ensures.slots;
+  marked = c.leave.ensures.marked;
+  listed = subst (AreListed c.self.inside.by_id.items) (sym c.leave.ensures.deciders) c.self.invariant.listed;
+  order =
+      record { takes = λ kept. absurd (cc kept); puts = λ kept. absurd (cc kept) };
+  room =
+      record {
+        few = omega (arith, c.self.invariant.room.few, as_many_slots c.self.inside.slots.entries c.leave.new.slots.entries c.leave.ensures.deciders);
+        takes =
+            omega (arith, c.self.invariant.room.takes, as_many_slots c.self.inside.slots.entries c.leave.new.slots.entries c.leave.ensures.deciders);
+        puts =
+            omega (arith, c.self.invariant.room.puts, as_many_slots c.self.inside.slots.entries c.leave.new.slots.entries c.leave.ensures.deciders);
+      };
+}

@@ -28,8 +28,10 @@ invariant_of-self c =
       marked = c.take.ensures.marked;
       listed = subst (AreListed c.self.inside.by_id.items) (sym c.take.ensures.deciders) c.self.invariant.listed;
       order = record {
-        takes = λ kept. c.drop_done.ensures.listed (takes_go_on es now wanted size c.args.object.now c.take.ensures.held c.take.ensures.steady (c.is_next-stays.ensures.first kept) c.self.inside.order.takes.items (c.self.invariant.order.takes (c.is_next-stays.ensures.kept kept)));
-        puts = λ kept. puts_go_on es now wanted size c.args.object.now c.take.ensures.held c.take.ensures.steady (c.is_next-stays.ensures.first kept) c.self.inside.order.puts.items (c.self.invariant.order.puts (c.is_next-stays.ensures.kept kept));
+        takes = λ kept. c.drop_done.ensures.listed (takes_go_on es now wanted size c.args.object.now c.take.ensures.held c.take.ensures.steady (c.is_next-stays.ensures.first kept) c.self.inside.order.takes.items
+            (c.self.invariant.order.takes (c.is_next-stays.ensures.kept kept)));
+        puts = λ kept. puts_go_on es now wanted size c.args.object.now c.take.ensures.held c.take.ensures.steady (c.is_next-stays.ensures.first kept) c.self.inside.order.puts.items
+            (c.self.invariant.order.puts (c.is_next-stays.ensures.kept kept));
       };
       room = record { few = omega (arith, c.self.invariant.room.few, size); takes = omega (arith, c.self.invariant.room.takes, size, c.drop_done.ensures.capacity); puts = omega (arith, c.self.invariant.room.puts, size) };
     }

@@ -39,7 +39,8 @@ loop-call-preserved g c =
     let kernel_later = c.loop-call.invariant.kernel_later in
     let out_later = c.loop-call.invariant.out_later in
     record {
-      settled = settled_more (calls_of c.args.self.now) (calls_of c.did.new.self) c.in-Some.call first so_far last (subst (λ rest. SettledAlone (calls_of c.args.self.now) rest first so_far) c.did.ensures.left c.loop-call.invariant.settled) c.in-Ok.ensures.did c.in-Ok.ensures.logged c.in-Ok.ensures.asked c.in-Ok-write_line.ensures.written;
+      settled = settled_more (calls_of c.args.self.now) (calls_of c.did.new.self) c.in-Some.call first so_far last (subst (λ rest. SettledAlone (calls_of c.args.self.now) rest first so_far) c.did.ensures.left c.loop-call.invariant.settled)
+          c.in-Ok.ensures.did c.in-Ok.ensures.logged c.in-Ok.ensures.asked c.in-Ok-write_line.ensures.written;
       ready = c.did.ensures.ready;
       of = holds_then g.K.Kernel c.loop-call.kernel c.apply.new.self c.loop-call.self c.did.new.self c.in-Some.call c.loop-call.invariant.of c.in-Ok.ensures.devices c.in-Ok.ensures.did c.did.ensures.held c.did.ensures.stays.known;
       stays = alike_on c.args.self.now c.loop-call.self c.did.new.self c.loop-call.invariant.stays c.did.ensures.stays;
@@ -57,7 +58,8 @@ returns-in_default-apply-clause-ends g c =
     let rose = c.in_default-apply.ensures.cause.failed in
     let later = c.loop-call.invariant.kernel_later in
     subst (λ rest. StopsAtCall (calls_of c.args.self.now) rest first last) (sym split)
-    (stops_at_call (calls_of c.args.self.now) (drop 1 (calls_of c.loop-call.self)) c.in-Some.call first so_far last (subst (λ rest. SettledAlone (calls_of c.args.self.now) rest first so_far) split c.loop-call.invariant.settled) c.in_default-apply.ensures.err.0 c.in_default-apply.ensures.err.1 refl c.in_default-apply.ensures.asked (omega arith))
+    (stops_at_call (calls_of c.args.self.now) (drop 1 (calls_of c.loop-call.self)) c.in-Some.call first so_far last (subst (λ rest. SettledAlone (calls_of c.args.self.now) rest first so_far) split c.loop-call.invariant.settled)
+    c.in_default-apply.ensures.err.0 c.in_default-apply.ensures.err.1 refl c.in_default-apply.ensures.asked (omega arith))
 
 pub returns-in_default-apply-clause-of : goal.returns-in_default-apply-clause-of
 returns-in_default-apply-clause-of g c =
@@ -71,10 +73,12 @@ returns-in_default-write_line-clause-ends g c =
     let last = outside_of g.O.Sink g.K.Kernel c.write_line.new.out c.apply.new.self in
     let rose = c.in_default-write_line.ensures.cause.failed in
     let later = c.loop-call.invariant.out_later in
-    stops_at_line (calls_of c.args.self.now) (calls_of c.did.new.self) c.in-Some.call first so_far last (subst (λ rest. SettledAlone (calls_of c.args.self.now) rest first so_far) c.did.ensures.left c.loop-call.invariant.settled) c.in-Ok.ensures.did c.in-Ok.ensures.logged c.in-Ok.ensures.asked c.in_default-write_line.ensures.in_part (omega arith)
+    stops_at_line (calls_of c.args.self.now) (calls_of c.did.new.self) c.in-Some.call first so_far last (subst (λ rest. SettledAlone (calls_of c.args.self.now) rest first so_far) c.did.ensures.left c.loop-call.invariant.settled)
+    c.in-Ok.ensures.did c.in-Ok.ensures.logged c.in-Ok.ensures.asked c.in_default-write_line.ensures.in_part (omega arith)
 
 pub returns-in_default-write_line-clause-of : goal.returns-in_default-write_line-clause-of
-returns-in_default-write_line-clause-of g c = holds_then g.K.Kernel c.loop-call.kernel c.apply.new.self c.loop-call.self c.did.new.self c.in-Some.call c.loop-call.invariant.of c.in-Ok.ensures.devices c.in-Ok.ensures.did c.did.ensures.held c.did.ensures.stays.known
+returns-in_default-write_line-clause-of g c = holds_then g.K.Kernel c.loop-call.kernel c.apply.new.self c.loop-call.self c.did.new.self c.in-Some.call c.loop-call.invariant.of c.in-Ok.ensures.devices c.in-Ok.ensures.did c.did.ensures.held
+    c.did.ensures.stays.known
 
 pub returns-in_default-write_line-clause-stays : goal.returns-in_default-write_line-clause-stays
 returns-in_default-write_line-clause-stays g c = alike_on c.args.self.now c.loop-call.self c.did.new.self c.loop-call.invariant.stays c.did.ensures.stays

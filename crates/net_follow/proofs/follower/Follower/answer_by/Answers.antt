@@ -22,7 +22,8 @@ let_down-requires-clause-place g c = place_within (inputs_of c.args.self.now).co
 
 pub set_layer-requires : goal.set_layer-requires
 set_layer-requires g c = record {
-  room = layer_room c.args.self.now c.args.place c.args.interface.now c.args.number c.args.answer c.requires.step c.requires.place c.requires.free c.requires.room c.let_down.new.self.reach (ap (λ (s : States). s.reach) c.let_down.ensures.kept);
+  room = layer_room c.args.self.now c.args.place c.args.interface.now c.args.number c.args.answer c.requires.step c.requires.place c.requires.free c.requires.room c.let_down.new.self.reach
+      (ap (λ (s : States). s.reach) c.let_down.ensures.kept);
 }
 
 pub touch_one-requires : goal.touch_one-requires
@@ -44,11 +45,14 @@ refresh-requires-clause-tied g c =
     let then : Inputs = changed (inputs_of old) what in
     let is : c.answer.new.self.inputs ≡ then = ap (λ (k : Known). k.inputs) c.answer.ensures in
     let d = c.let_down.ensures in
-    let telling = tells old c.args.place c.args.interface.now c.args.number c.args.answer c.requires.step c.requires.place c.requires.free c.requires.room c.conf-rows.ensures.once c.let_down.new.self c.let_down.new.settling d.tied d.counted d.list d.stays c.layer_told-was.result c.layer_told-was.ensures in
+    let telling = tells old c.args.place c.args.interface.now c.args.number c.args.answer c.requires.step c.requires.place c.requires.free c.requires.room c.conf-rows.ensures.once c.let_down.new.self c.let_down.new.settling d.tied d.counted
+    d.list d.stays c.layer_told-was.result c.layer_told-was.ensures in
     let reaches : IsReachOf then c.set_layer.new.self = c.set_layer.ensures.told (inputs_of old) then c.args.interface.now d.tied.reach c.requires.place telling in
     let states : States = record c.let_down.new.self { reach = c.set_layer.new.self } in
-    let down : IsDown c.answer.new.self.inputs c.deref.result.now states c.let_down.new.settling = down_at c.answer.new.self.inputs then c.deref.result.now (c.args.place ∷ []) states c.let_down.new.settling is (c.deref.ensures.value ∙ c.touch_one.ensures.touched)
-    (all_down old c.args.place c.args.interface.now c.args.number c.args.answer c.requires.step c.requires.place c.requires.free c.requires.room c.conf-rows.ensures.once c.let_down.new.self c.let_down.new.settling d.tied d.counted d.list d.stays c.set_layer.new.self reaches) in
+    let down : IsDown c.answer.new.self.inputs c.deref.result.now states c.let_down.new.settling = down_at c.answer.new.self.inputs
+    then c.deref.result.now (c.args.place ∷ []) states c.let_down.new.settling is (c.deref.ensures.value ∙ c.touch_one.ensures.touched)
+    (all_down old c.args.place c.args.interface.now c.args.number c.args.answer c.requires.step c.requires.place c.requires.free c.requires.room c.conf-rows.ensures.once c.let_down.new.self c.let_down.new.settling d.tied d.counted d.list
+    d.stays c.set_layer.new.self reaches) in
     down.tied
 
 pub refresh-requires-clause-counted : goal.refresh-requires-clause-counted
@@ -58,11 +62,14 @@ refresh-requires-clause-counted g c =
     let then : Inputs = changed (inputs_of old) what in
     let is : c.answer.new.self.inputs ≡ then = ap (λ (k : Known). k.inputs) c.answer.ensures in
     let d = c.let_down.ensures in
-    let telling = tells old c.args.place c.args.interface.now c.args.number c.args.answer c.requires.step c.requires.place c.requires.free c.requires.room c.conf-rows.ensures.once c.let_down.new.self c.let_down.new.settling d.tied d.counted d.list d.stays c.layer_told-was.result c.layer_told-was.ensures in
+    let telling = tells old c.args.place c.args.interface.now c.args.number c.args.answer c.requires.step c.requires.place c.requires.free c.requires.room c.conf-rows.ensures.once c.let_down.new.self c.let_down.new.settling d.tied d.counted
+    d.list d.stays c.layer_told-was.result c.layer_told-was.ensures in
     let reaches : IsReachOf then c.set_layer.new.self = c.set_layer.ensures.told (inputs_of old) then c.args.interface.now d.tied.reach c.requires.place telling in
     let states : States = record c.let_down.new.self { reach = c.set_layer.new.self } in
-    let down : IsDown c.answer.new.self.inputs c.deref.result.now states c.let_down.new.settling = down_at c.answer.new.self.inputs then c.deref.result.now (c.args.place ∷ []) states c.let_down.new.settling is (c.deref.ensures.value ∙ c.touch_one.ensures.touched)
-    (all_down old c.args.place c.args.interface.now c.args.number c.args.answer c.requires.step c.requires.place c.requires.free c.requires.room c.conf-rows.ensures.once c.let_down.new.self c.let_down.new.settling d.tied d.counted d.list d.stays c.set_layer.new.self reaches) in
+    let down : IsDown c.answer.new.self.inputs c.deref.result.now states c.let_down.new.settling = down_at c.answer.new.self.inputs
+    then c.deref.result.now (c.args.place ∷ []) states c.let_down.new.settling is (c.deref.ensures.value ∙ c.touch_one.ensures.touched)
+    (all_down old c.args.place c.args.interface.now c.args.number c.args.answer c.requires.step c.requires.place c.requires.free c.requires.room c.conf-rows.ensures.once c.let_down.new.self c.let_down.new.settling d.tied d.counted d.list
+    d.stays c.set_layer.new.self reaches) in
     down.counted
 
 pub refresh-requires-clause-follow : goal.refresh-requires-clause-follow
@@ -72,11 +79,14 @@ refresh-requires-clause-follow g c =
     let then : Inputs = changed (inputs_of old) what in
     let is : c.answer.new.self.inputs ≡ then = ap (λ (k : Known). k.inputs) c.answer.ensures in
     let d = c.let_down.ensures in
-    let telling = tells old c.args.place c.args.interface.now c.args.number c.args.answer c.requires.step c.requires.place c.requires.free c.requires.room c.conf-rows.ensures.once c.let_down.new.self c.let_down.new.settling d.tied d.counted d.list d.stays c.layer_told-was.result c.layer_told-was.ensures in
+    let telling = tells old c.args.place c.args.interface.now c.args.number c.args.answer c.requires.step c.requires.place c.requires.free c.requires.room c.conf-rows.ensures.once c.let_down.new.self c.let_down.new.settling d.tied d.counted
+    d.list d.stays c.layer_told-was.result c.layer_told-was.ensures in
     let reaches : IsReachOf then c.set_layer.new.self = c.set_layer.ensures.told (inputs_of old) then c.args.interface.now d.tied.reach c.requires.place telling in
     let states : States = record c.let_down.new.self { reach = c.set_layer.new.self } in
-    let down : IsDown c.answer.new.self.inputs c.deref.result.now states c.let_down.new.settling = down_at c.answer.new.self.inputs then c.deref.result.now (c.args.place ∷ []) states c.let_down.new.settling is (c.deref.ensures.value ∙ c.touch_one.ensures.touched)
-    (all_down old c.args.place c.args.interface.now c.args.number c.args.answer c.requires.step c.requires.place c.requires.free c.requires.room c.conf-rows.ensures.once c.let_down.new.self c.let_down.new.settling d.tied d.counted d.list d.stays c.set_layer.new.self reaches) in
+    let down : IsDown c.answer.new.self.inputs c.deref.result.now states c.let_down.new.settling = down_at c.answer.new.self.inputs
+    then c.deref.result.now (c.args.place ∷ []) states c.let_down.new.settling is (c.deref.ensures.value ∙ c.touch_one.ensures.touched)
+    (all_down old c.args.place c.args.interface.now c.args.number c.args.answer c.requires.step c.requires.place c.requires.free c.requires.room c.conf-rows.ensures.once c.let_down.new.self c.let_down.new.settling d.tied d.counted d.list
+    d.stays c.set_layer.new.self reaches) in
     down.follow
 
 pub look-requires : goal.look-requires

@@ -47,7 +47,8 @@ follow-requires g c =
     let awaited : Follower = record old { states = record old.states { reach = a.before } } in
     let middle : Follower = record old { inputs = c.happen.new.self; settling = c.tell_graph.new.settling; states = record old.states { reach = c.touch.new.reach }; touched = c.touch.new.touched } in
     moving middle now places (ap (λ (k : Known). k.inputs) c.happen.ensures) refl
-    (device_moves (inputs_of old) what places are awaited.states c.touch.new.reach c.tell_graph.new.settling a.step.states (c.touch.ensures.reach now there) (c.tell_graph.ensures.counted (inputs_of old) old.states.list.items a.step.counted) c.tell_graph.ensures.calm c.requires.next)
+    (device_moves (inputs_of old) what places are awaited.states c.touch.new.reach c.tell_graph.new.settling a.step.states (c.touch.ensures.reach now there) (c.tell_graph.ensures.counted (inputs_of old) old.states.list.items a.step.counted)
+    c.tell_graph.ensures.calm c.requires.next)
     c.requires.told
     (room_kept awaited middle (ap (λ (k : Known). k.inputs.conf) c.happen.ensures) c.touch.ensures.capacity refl a.step.room)
 

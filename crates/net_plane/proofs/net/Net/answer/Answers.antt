@@ -10,10 +10,12 @@ pub take_answer-requires-clause-free : goal.take_answer-requires-clause-free
 take_answer-requires-clause-free c = sym c.refusal_of_answer.ensures ∙ c.in-None.is
 
 pub returns-in-Some-clause-refused : goal.returns-in-Some-clause-refused
-returns-in-Some-clause-refused c = answers_refused (Unit {0}) (refusal (moment_of c.args.self.now) (event.Answer c.args.interface c.args.number c.args.answer)) c.in-Some.why c.of.result (sym c.refusal_of_answer.ensures ∙ c.in-Some.is) c.of.ensures
+returns-in-Some-clause-refused c = answers_refused (Unit {0}) (refusal (moment_of c.args.self.now) (event.Answer c.args.interface c.args.number c.args.answer)) c.in-Some.why c.of.result (sym c.refusal_of_answer.ensures ∙ c.in-Some.is)
+    c.of.ensures
 
 pub returns-in-Some-clause-kernel : goal.returns-in-Some-clause-kernel
 returns-in-Some-clause-kernel c = kernel_stays c.args.self.now c.args.self.now refl
 
 pub returns-in-None-clause-refused : goal.returns-in-None-clause-refused
-returns-in-None-clause-refused c = answers_free (Unit {0}) (refusal (moment_of c.args.self.now) (event.Answer c.args.interface c.args.number c.args.answer)) c.take_answer.result (sym c.refusal_of_answer.ensures ∙ c.in-None.is) c.take_answer.ensures.causes
+returns-in-None-clause-refused c = answers_free (Unit {0}) (refusal (moment_of c.args.self.now) (event.Answer c.args.interface c.args.number c.args.answer)) c.take_answer.result (sym c.refusal_of_answer.ensures ∙ c.in-None.is)
+    c.take_answer.ensures.causes

@@ -16,4 +16,5 @@ pub returns-in-Some-clause-kernel : goal.returns-in-Some-clause-kernel
 returns-in-Some-clause-kernel c = kernel_stays c.args.self.now c.args.self.now refl
 
 pub returns-in-None-clause-refused : goal.returns-in-None-clause-refused
-returns-in-None-clause-refused c = answers_free (Unit {0}) (refusal (moment_of c.args.self.now) (event.Radio c.args.radio c.args.number c.args.ports)) c.take_ports.result (sym c.refusal_of_ports.ensures ∙ c.in-None.is) c.take_ports.ensures.causes
+returns-in-None-clause-refused c = answers_free (Unit {0}) (refusal (moment_of c.args.self.now) (event.Radio c.args.radio c.args.number c.args.ports)) c.take_ports.result (sym c.refusal_of_ports.ensures ∙ c.in-None.is)
+    c.take_ports.ensures.causes

@@ -4,7 +4,9 @@ use Rattle.net_reach.proofs.ReachLemmas.{walked}
 use Rattle.net_reach.proofs.reach.Reach.touch_above.Goals as goal
 
 pub returns-clause-touched : goal.returns-clause-touched
-returns-clause-touched c = λ inputs is. walked inputs c.args.self.now is c.args.name.now c.as_slice-names.result.now c.places-rows.result.now c.climb.new.rows c.clear.new.self c.touch_at.new.touched c.touch_rows.new.touched c.sort.new.self c.as_slice-names.ensures.value c.places-rows.ensures.places c.climb.ensures.bound c.clear.ensures c.climb.ensures.first c.climb.ensures.further c.climb.ensures.only c.touch_at.ensures.stays c.touch_at.ensures.touches c.touch_at.ensures.only c.touch_rows.ensures c.sort.ensures.same c.sort.ensures.rising
+returns-clause-touched c = λ inputs is. walked inputs c.args.self.now is c.args.name.now c.as_slice-names.result.now c.places-rows.result.now c.climb.new.rows c.clear.new.self c.touch_at.new.touched c.touch_rows.new.touched c.sort.new.self
+    c.as_slice-names.ensures.value c.places-rows.ensures.places c.climb.ensures.bound c.clear.ensures c.climb.ensures.first c.climb.ensures.further c.climb.ensures.only c.touch_at.ensures.stays c.touch_at.ensures.touches
+    c.touch_at.ensures.only c.touch_rows.ensures c.sort.ensures.same c.sort.ensures.rising
 
 pub returns-clause-stays : goal.returns-clause-stays
 returns-clause-stays c = λ inputs is. record {

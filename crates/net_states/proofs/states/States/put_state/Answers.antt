@@ -30,7 +30,8 @@ pub give-requires-clause-places : goal.give-requires-clause-places
 give-requires-clause-places g c = λ row there.
     let inputs = c.args.inputs.now.inputs in
     let is = stands inputs c.args.self.now c.args.place c.index.result.now c.requires.tied c.requires.place c.index.ensures in
-    places_after c.args.settling.now.gifts c.withdraw.new.settling.gifts (gives (facts_of inputs) row c.index.result.now) (gives (facts_of inputs) row c.args.new) (c.withdraw.ensures.gifts row there) (c.requires.can row c.index.result.now there is).places
+    places_after c.args.settling.now.gifts c.withdraw.new.settling.gifts (gives (facts_of inputs) row c.index.result.now) (gives (facts_of inputs) row c.args.new) (c.withdraw.ensures.gifts row there)
+    (c.requires.can row c.index.result.now there is).places
 
 pub give-requires-clause-few : goal.give-requires-clause-few
 give-requires-clause-few g c = λ row o there.

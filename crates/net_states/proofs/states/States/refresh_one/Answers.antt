@@ -20,7 +20,8 @@ returns-then-index-clause-follows g c =
     let old = c.index.result.now in
     let is = stands inputs states c.args.place old c.requires.tied c.requires.place c.index.ensures in
     let found = at_within inputs.conf.interfaces c.args.place c.requires.place in
-    follows_next inputs states c.put_state.new.self.list.items c.requires.tied c.args.place found.0 old c.next_state-new.result found.1 is c.if-index.true (c.next_state-new.ensures found.0 old found.1 is c.if-index.true) c.put_state.ensures.list
+    follows_next inputs states c.put_state.new.self.list.items c.requires.tied c.args.place found.0 old c.next_state-new.result found.1 is c.if-index.true (c.next_state-new.ensures found.0 old found.1 is c.if-index.true)
+    c.put_state.ensures.list
 
 pub returns-else-index-clause-follows : goal.returns-else-index-clause-follows
 returns-else-index-clause-follows g c =

@@ -3,7 +3,8 @@ use Rattle.net_view.proofs.PlaceLemmas.{by_map, by_map_none}
 use Rattle.net_view.proofs.index.Index.radio_ask.Goals as goal
 
 pub returns-in-Some : goal.returns-in-Some
-returns-in-Some c = by_map (λ (o : OpenRadio). o.ask.name) c.args.inputs.now.radios c.args.name.now c.args.self.now.radio_asks c.in-Some.place.now c.as_slice.result.now c.get-in-Some.result c.requires.radio_asks c.in-Some.ensures.value c.as_slice.ensures c.get-in-Some.ensures.lookup
+returns-in-Some c = by_map (λ (o : OpenRadio). o.ask.name) c.args.inputs.now.radios c.args.name.now c.args.self.now.radio_asks c.in-Some.place.now c.as_slice.result.now c.get-in-Some.result c.requires.radio_asks c.in-Some.ensures.value
+    c.as_slice.ensures c.get-in-Some.ensures.lookup
 
 pub returns-in-None : goal.returns-in-None
 returns-in-None c = by_map_none (λ (o : OpenRadio). o.ask.name) c.args.inputs.now.radios c.args.name.now c.args.self.now.radio_asks c.requires.radio_asks c.in-None.ensures.value

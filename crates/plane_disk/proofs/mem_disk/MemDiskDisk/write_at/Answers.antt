@@ -45,7 +45,8 @@ returns-then-fails-clause-ends c = record {
   failing = ap (λ d. d.failing) c.self.view_is;
   fuse = ap (λ d. d.fuse) c.self.view_is;
   made = c.saturating_add-self-inside.ensures ∙ ap (λ d. next_count d.made) c.self.view_is;
-  fails = inl (subst (λ d. IsToFail d.failing d.fuse c.saturating_add-self-inside.result) c.self.view_is (subst (λ f. IsToFail f c.self.inside.fuse c.saturating_add-self-inside.result) c.deref.ensures.value (c.is_to_fail-fails.ensures.0 c.if-fails.true)));
+  fails = inl (subst (λ d. IsToFail d.failing d.fuse c.saturating_add-self-inside.result) c.self.view_is
+      (subst (λ f. IsToFail f c.self.inside.fuse c.saturating_add-self-inside.result) c.deref.ensures.value (c.is_to_fail-fails.ensures.0 c.if-fails.true)));
   passes = tt;
   faultless = tt;
   later = omega (arith, ap (λ d. d.refused) c.self.view_is);

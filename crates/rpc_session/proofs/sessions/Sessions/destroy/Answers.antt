@@ -13,4 +13,5 @@ with_rows next same = ap (the_list next) same
 pub returns-clause-done : goal.returns-clause-done
 returns-clause-done c =
     let at = rw c.deref.ensures.value at c.in-Ok.ensures.found in
-    rw (sym c.self.view_is) (destroyed_made (record { sessions = c.self.inside.rows.items; next = c.self.inside.next }) c.args.sid 0 c.in-Ok.place _ c.self.invariant.rise c.if-sid-eq0.false at (with_rows c.self.inside.next c.remove.ensures.items))
+    rw (sym c.self.view_is) (destroyed_made (record { sessions = c.self.inside.rows.items; next = c.self.inside.next }) c.args.sid 0 c.in-Ok.place _ c.self.invariant.rise c.if-sid-eq0.false at
+    (with_rows c.self.inside.next c.remove.ensures.items))

@@ -6,4 +6,5 @@ use Rattle.rpc_session.proofs.sessions.Sessions.grant.Goals as goal
 pub returns-clause-made : goal.returns-clause-made
 returns-clause-made c other =
     let at = rw c.deref.ensures.value at c.in-Ok.ensures.found in
-    rw (sym c.self.view_is) (made_at (record { sessions = c.self.inside.rows.items; next = c.self.inside.next }) c.args.sid 0 c.in-Ok.place (with_grant c.args.grant.now) c.index_mut.result.now c.add.new.self c.self.invariant.rise at c.index_mut.ensures.value c.in_ok-add.ensures.ok)
+    rw (sym c.self.view_is) (made_at (record { sessions = c.self.inside.rows.items; next = c.self.inside.next }) c.args.sid 0 c.in-Ok.place (with_grant c.args.grant.now) c.index_mut.result.now c.add.new.self c.self.invariant.rise at
+    c.index_mut.ensures.value c.in_ok-add.ensures.ok)

@@ -6,7 +6,8 @@ use Rattle.rpc_session.proofs.sessions.Sessions.used.Goals as goal
 pub returns-then-not-is_live-clause-done : goal.returns-then-not-is_live-clause-done
 returns-then-not-is_live-clause-done c =
     let at = rw c.deref.ensures.value at c.in-Ok.ensures.found in
-    rw (sym c.self.view_is) (used_late (record { sessions = c.self.inside.rows.items; next = c.self.inside.next }) c.args.sid c.args.now c.in-Ok.place c.index_mut-session.result.now c.self.invariant.rise at c.index_mut-session.ensures.value (grind (arith, c.is_live.ensures, c.if-not-is_live.true)))
+    rw (sym c.self.view_is) (used_late (record { sessions = c.self.inside.rows.items; next = c.self.inside.next }) c.args.sid c.args.now c.in-Ok.place c.index_mut-session.result.now c.self.invariant.rise at c.index_mut-session.ensures.value
+    (grind (arith, c.is_live.ensures, c.if-not-is_live.true)))
 
 pub invariant_of-self-2 : goal.invariant_of-self-2
 invariant_of-self-2 c =
@@ -16,4 +17,5 @@ invariant_of-self-2 c =
 pub returns-clause-done : goal.returns-clause-done
 returns-clause-done c =
     let at = rw c.deref.ensures.value at c.in-Ok.ensures.found in
-    rw (sym c.self.view_is) (used_made (record { sessions = c.self.inside.rows.items; next = c.self.inside.next }) c.args.sid c.args.now c.in-Ok.place c.index_mut-session.result.now c.self.invariant.rise at c.index_mut-session.ensures.value (grind (arith, c.is_live.ensures, c.if-not-is_live.false)))
+    rw (sym c.self.view_is) (used_made (record { sessions = c.self.inside.rows.items; next = c.self.inside.next }) c.args.sid c.args.now c.in-Ok.place c.index_mut-session.result.now c.self.invariant.rise at c.index_mut-session.ensures.value
+    (grind (arith, c.is_live.ensures, c.if-not-is_live.false)))

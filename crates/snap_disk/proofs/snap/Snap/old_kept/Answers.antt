@@ -21,7 +21,8 @@ returns-clause-staged g c =
     let few : length c.in_ok-files.files < 2 ^ 32 = omega (arith, fewer, e, c.requires.open.within.few) in
     let files = subst (ArePackageFiles count) is (old_packages new count ps c.requires.open.count c.requires.open.within) in
     record {
-      reads = body_back (g.D.Disk.view c.args.disk.now).names c.count-count.ensures.named (record { pending = c.args.pending; files = c.in_ok-files.files }) (omega arith) (omega arith) few files (subst (AreRising 2) is (old_rising new 2 ps));
+      reads = body_back (g.D.Disk.view c.args.disk.now).names c.count-count.ensures.named (record { pending = c.args.pending; files = c.in_ok-files.files }) (omega arith) (omega arith) few files
+          (subst (AreRising 2) is (old_rising new 2 ps));
       back = subst (λ (f : _). GivesBack f new ps) is (gives_back new ps);
       files = files;
     }

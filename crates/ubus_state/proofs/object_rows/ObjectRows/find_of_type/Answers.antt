@@ -14,7 +14,8 @@ returns-in-Some c =
     let climb = climbs object_number rows c.args.self.now.rising.0 in
     let typed : Object → Bool = λ object. object.objtype == c.args.objtype in
     let numbers = sym (numbers_in object_number type_pair (λ object. refl) rows c.args.self.now.by_type c.args.objtype climb c.pairs_of.ensures.ordered c.args.self.now.typed) in
-    c.find.ensures ∙ ap (λ (n : ℕ). find (has_number n) rows) c.from.ensures ∙ first_kept object_number typed rows c.in-Some.first.now.1 _ climb (numbers ∙ ap (map (λ (pair : ℕ × ℕ). pair.1)) (sym c.pairs_of.ensures.pairs ∙ c.in-Some.ensures.steps))
+    c.find.ensures ∙ ap (λ (n : ℕ). find (has_number n) rows) c.from.ensures
+    ∙ first_kept object_number typed rows c.in-Some.first.now.1 _ climb (numbers ∙ ap (map (λ (pair : ℕ × ℕ). pair.1)) (sym c.pairs_of.ensures.pairs ∙ c.in-Some.ensures.steps))
 
 pub returns-in-None : goal.returns-in-None
 returns-in-None c =

@@ -13,7 +13,8 @@ returns-in-Some-clause-rows c =
     let rows : List Object = c.args.self.now.rows.items in
     let at : position (has_number c.args.number) rows ≡ Some c.in-Some.place = ap (position (has_number c.args.number)) (sym c.deref.ensures.value) ∙ sym c.in-Some.ensures.place in
     let within : c.in-Some.place < length rows = subst (λ (rs : List Object). c.in-Some.place < length rs) c.deref.ensures.value c.in-Some.ensures.within in
-    c.take.ensures.rows ∙ removed_numbered object_number rows c.in-Some.place c.args.number event_object (climbs object_number rows c.args.self.now.rising.0) within (number_there object_number rows c.in-Some.place c.args.number event_object at)
+    c.take.ensures.rows ∙ removed_numbered object_number rows c.in-Some.place c.args.number event_object (climbs object_number rows c.args.self.now.rising.0) within
+    (number_there object_number rows c.in-Some.place c.args.number event_object at)
 
 pub returns-in_default-clause-rows : goal.returns-in_default-clause-rows
 returns-in_default-clause-rows c =

@@ -19,5 +19,6 @@ invariant_of-self c =
           (updates_at c.args.self.now.by_owner c.remove.new.self c.pair.result (owner_pair object) false c.pair.ensures c.remove.ensures.updates.0) c.remove-object.ensures.items;
       typed = row_taken object_number type_pair (λ other. refl) c.args.self.now.by_type c.remove-2.new.self rows c.remove-object.new.self.items c.args.place object c.args.self.now.typed climb c.requires c.remove-object.ensures.value
           (updates_at c.args.self.now.by_type c.remove-2.new.self c.pair-2.result (type_pair object) false c.pair-2.ensures c.remove-2.ensures.updates.0) c.remove-object.ensures.items;
-      named = path_taken c.args.self.now.by_path c.forget_path.new.paths rows c.remove-object.new.self.items c.args.place object c.args.self.now.named c.requires c.remove-object.ensures.value c.forget_path.ensures c.remove-object.ensures.items;
+      named = path_taken c.args.self.now.by_path c.forget_path.new.paths rows c.remove-object.new.self.items c.args.place object c.args.self.now.named c.requires c.remove-object.ensures.value c.forget_path.ensures
+          c.remove-object.ensures.items;
     }

@@ -8,7 +8,8 @@ use Rattle.uci_staged.proofs.staged.Staged.drop_package.Goals as goal
 
 pub returns-in-Ok-clause-on : goal.returns-in-Ok-clause-on
 returns-in-Ok-clause-on g c =
-    let on = without_on (g.T.Disk.view c.args.disk.now) (g.T.Disk.view c.empty_own.new.disk) c.args.holder c.args.file c.args.self.now.changes.items c.drop_all.new.changes.items (g.met.T.Disk.sound c.args.disk.now) c.in-Ok.ensures.follows c.requires.number c.requires.on.lines c.requires.on.kept c.drop_all.ensures c.in-Ok.ensures.filled
+    let on = without_on (g.T.Disk.view c.args.disk.now) (g.T.Disk.view c.empty_own.new.disk) c.args.holder c.args.file c.args.self.now.changes.items c.drop_all.new.changes.items (g.met.T.Disk.sound c.args.disk.now) c.in-Ok.ensures.follows
+    c.requires.number c.requires.on.lines c.requires.on.kept c.drop_all.ensures c.in-Ok.ensures.filled
     (λ other. ap g.T.Disk.view (c.in-Ok.ensures.aside other)) in
     record { lines = on.0; kept = on.1 }
 

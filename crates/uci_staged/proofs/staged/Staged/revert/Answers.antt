@@ -11,7 +11,8 @@ returns-in-Ok-clause-on g c =
     let old = g.T.Disk.view c.args.disk.now in
     let new = g.T.Disk.view c.keep.new.disk in
     let file = c.args.file in
-    let on = reverted_on old new c.args.holder file c.args.path.now c.args.self.now.changes.items c.revert.new.changes.items (g.met.T.Disk.sound c.args.disk.now) c.in-Ok.ensures.follows c.requires.number c.requires.on.lines c.requires.on.kept c.revert.ensures
+    let on = reverted_on old new c.args.holder file c.args.path.now c.args.self.now.changes.items c.revert.new.changes.items (g.met.T.Disk.sound c.args.disk.now) c.in-Ok.ensures.follows c.requires.number c.requires.on.lines
+    c.requires.on.kept c.revert.ensures
     (λ own. subst (λ (l : List StagedChange). HasFilled old new file (kept_text file (Some c.args.path.now) l)) c.as_slice.ensures.value (c.in-Ok.ensures.filled own))
     (λ other. ap g.T.Disk.view (c.in-Ok.ensures.aside other)) in
     record { lines = on.0; kept = on.1 }

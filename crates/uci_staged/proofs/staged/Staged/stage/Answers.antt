@@ -21,7 +21,8 @@ returns-in-Ok-keep-clause-on g c =
     let old = g.T.Disk.view c.args.disk.now in
     let new = g.T.Disk.view c.keep.new.disk in
     let file = c.args.change.file in
-    let on = staged_more old new c.args.self.now.changes.items c.push.new.self.items c.args.change (g.met.T.Disk.sound c.args.disk.now) c.in-Ok-keep.ensures.follows c.requires.on.lines c.requires.on.kept c.requires.change c.in-Ok.ensures.items
+    let on = staged_more old new c.args.self.now.changes.items c.push.new.self.items c.args.change (g.met.T.Disk.sound c.args.disk.now) c.in-Ok-keep.ensures.follows c.requires.on.lines c.requires.on.kept c.requires.change
+    c.in-Ok.ensures.items
     (λ own. subst (λ (l : List StagedChange). HasFilled old new file (kept_text file None l)) c.as_slice.ensures.value (c.in-Ok-keep.ensures.filled own))
     (λ other. ap g.T.Disk.view (c.in-Ok-keep.ensures.aside other)) in
     record { lines = on.0; kept = on.1 }

@@ -26,7 +26,8 @@ returns-in-Ok-keep-clause-on g c =
     let file = c.args.file in
     let changes = c.args.self.now.changes.items in
     let grown : c.append.new.self.items ≡ changes ++ changes_at c.args.holder file c.args.deltas.items = c.in-Ok-append.ensures.items ∙ ap (λ (l : List StagedChange). changes ++ l) c.in-Ok.ensures in
-    let on = staged_all_more old new changes c.append.new.self.items c.args.holder file c.args.deltas.items (g.met.T.Disk.sound c.args.disk.now) c.in-Ok-keep.ensures.follows c.requires.number c.requires.on.lines c.requires.on.kept c.requires.changes grown
+    let on = staged_all_more old new changes c.append.new.self.items c.args.holder file c.args.deltas.items (g.met.T.Disk.sound c.args.disk.now) c.in-Ok-keep.ensures.follows c.requires.number c.requires.on.lines c.requires.on.kept
+    c.requires.changes grown
     (λ own. subst (λ (l : List StagedChange). HasFilled old new file (kept_text file None l)) c.as_slice.ensures.value (c.in-Ok-keep.ensures.filled own))
     (λ other. ap g.T.Disk.view (c.in-Ok-keep.ensures.aside other)) in
     record { lines = on.0; kept = on.1 }

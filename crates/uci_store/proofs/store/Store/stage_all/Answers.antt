@@ -7,7 +7,8 @@ use Rattle.uci_store.proofs.store.Store.stage_all.Goals as goal
 
 pub stage_all-requires-clause-changes : goal.stage_all-requires-clause-changes
 stage_all-requires-clause-changes g c =
-    batch_lines c.args.self.now (g.T.Disk.view c.args.staged.now) c.in_ok-view.view c.take_all.new.tree c.args.holder c.in-Some.file c.args.«package».now c.args.deltas.items c.requires.on c.in-Some.ensures.low c.in-Some.ensures.number c.in-Some.ensures.name c.in_ok-view.ensures.valid c.requires.one
+    batch_lines c.args.self.now (g.T.Disk.view c.args.staged.now) c.in_ok-view.view c.take_all.new.tree c.args.holder c.in-Some.file c.args.«package».now c.args.deltas.items c.requires.on c.in-Some.ensures.low c.in-Some.ensures.number
+    c.in-Some.ensures.name c.in_ok-view.ensures.valid c.requires.one
     (subst (λ (l : List Delta). all_taken c.in_ok-view.view l ≡ Ok c.take_all.new.tree) c.as_slice.ensures.value c.in-Ok.ensures.done)
 
 pub returns-in-Ok-stage_all-clause-done : goal.returns-in-Ok-stage_all-clause-done
@@ -27,6 +28,7 @@ returns-in-Ok-stage_all-clause-done g c =
 pub returns-clause-refused : goal.returns-clause-refused
 returns-clause-refused g c =
     let number : file_of (names_of c.args.self.now) c.args.«package».now ≡ Some c.in-Some.file = search rules in
-    batch_not_kept c.args.self.now c.args.holder c.in-Some.file c.args.«package».now c.args.deltas.items c.in_ok-view.view c.take_all.new.tree (g.T.Disk.view c.args.staged.now) (g.T.Disk.view c.stage_all.new.disk) (has_failed c.args.self.now) (has_failed c.failed_by.new.self) c.in-Err-stage_all.error c.failed_by.result c.in_ok-refuse_failed.ensures.ready number c.in_ok-view.ensures.seen
+    batch_not_kept c.args.self.now c.args.holder c.in-Some.file c.args.«package».now c.args.deltas.items c.in_ok-view.view c.take_all.new.tree (g.T.Disk.view c.args.staged.now) (g.T.Disk.view c.stage_all.new.disk)
+    (has_failed c.args.self.now) (has_failed c.failed_by.new.self) c.in-Err-stage_all.error c.failed_by.result c.in_ok-refuse_failed.ensures.ready number c.in_ok-view.ensures.seen
     (subst (λ (l : List Delta). all_taken c.in_ok-view.view l ≡ Ok c.take_all.new.tree) c.as_slice.ensures.value c.in-Ok.ensures.done)
     c.in-Err-stage_all.ensures.refused c.failed_by.ensures.answer

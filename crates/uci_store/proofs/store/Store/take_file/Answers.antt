@@ -5,7 +5,8 @@ use Rattle.uci_store.proofs.store.Store.take_file.Goals as goal
 
 pub returns-in_ok-push-in-Ok-clause-more : goal.returns-in_ok-push-in-Ok-clause-more
 returns-in_ok-push-in-Ok-clause-more c =
-    taken_on c.args.self.now c.args.holder (c.args.place + 2) (c.args.place + 3) c.args.so_far.now.files.items c.push.new.self.items c.in-Ok.new c.args.so_far.now.large (omega arith) c.in-Ok.ensures.number c.in-Ok.ensures.is c.in_ok-push-in-Ok.ensures.items c.requires.so_far
+    taken_on c.args.self.now c.args.holder (c.args.place + 2) (c.args.place + 3) c.args.so_far.now.files.items c.push.new.self.items c.in-Ok.new c.args.so_far.now.large (omega arith) c.in-Ok.ensures.number c.in-Ok.ensures.is
+    c.in_ok-push-in-Ok.ensures.items c.requires.so_far
 
 pub returns-in-Err-TooLarge-clause-more : goal.returns-in-Err-TooLarge-clause-more
 returns-in-Err-TooLarge-clause-more c =

@@ -16,7 +16,8 @@ pub returns-clause-indexed : goal.returns-clause-indexed
 returns-clause-indexed c = written_slots c.args.self.now.places _ _ c.in_ok-value.value _ c.requires c.in-Some.ensures.found
 
 pub returns-clause-made : goal.returns-clause-made
-returns-clause-made c = put_in_slot _ _ (appended c.args.item) c.in_ok-value.value _ _ _ c.requires.apart c.in-Some.ensures.found c.index_mut-slot.ensures.value (c.in_ok-value.ensures ∙ ap (λ (z : Option Opt). appended c.args.item (value_of z)) c.take-before.ensures.value)
+returns-clause-made c = put_in_slot _ _ (appended c.args.item) c.in_ok-value.value _ _ _ c.requires.apart c.in-Some.ensures.found c.index_mut-slot.ensures.value
+    (c.in_ok-value.ensures ∙ ap (λ (z : Option Opt). appended c.args.item (value_of z)) c.take-before.ensures.value)
 
 pub returns-in_default-clause-made : goal.returns-in_default-clause-made
 returns-in_default-clause-made c = on_ok_weaker c.put.result (λ e. e ∙ put_anew _ _ (appended c.args.item) (Many c.in_ok-items.items) c.in_default.ensures.none (ap Many c.in_ok-items.ensures)) c.put.ensures.made

@@ -14,4 +14,5 @@ returns-in-None-clause-none c =
     (λ many. inr (omega (arith, many, c.min-count.ensures, c.len.ensures, c.args.self.now.slots.ok.0)))
     (cases_lt (length c.args.self.now.slots.items) SCANNED) in
     let front : c.split_at.result.0.now ≡ take c.min-count.result c.args.self.now.slots.items = c.split_at.ensures.front ∙ ap (take c.min-count.result) c.as_slice.ensures.value in
-    where_none c.copied.result (λ e. let none : get (slice_cmp nat_cmp) c.args.self.now.places c.args.name.now ≡ None = cc in found_nowhere c.args.self.now.places c.args.self.now.slots.items c.split_at.result.0.now c.args.name.now c.min-count.result c.requires front all c.in-None.ensures.none none)
+    where_none c.copied.result (λ e. let none : get (slice_cmp nat_cmp) c.args.self.now.places c.args.name.now ≡ None = cc in
+    found_nowhere c.args.self.now.places c.args.self.now.slots.items c.split_at.result.0.now c.args.name.now c.min-count.result c.requires front all c.in-None.ensures.none none)

@@ -35,7 +35,8 @@ loop-id-preserved g c =
     let whole : now ≡ record was { members = told_to was.members id a b n } = c.set_claim.ensures.net ∙ ap (λ net. with_claim net id n) c.set_device.ensures.net in
     let within : id < length was.members = omega (arith, c.loop-id-test.true, c.len-id-end.ensures, inv.size) in
     let same : row_of (member_at was.members id) ≡ row_of (member_at told id) = ap row_of (inv.left id (omega arith)) ∙ same_rows_at c.args.self.now.members told id c.requires.rows in
-    let here : member_at now.members id ≡ member_at told id = ap (λ (net : Network). member_at net.members id) whole ∙ told_here was.members (member_at told id) id a b n within same (ap (λ (m : Member). m.present) t) (ap (λ (m : Member). m.carrier) t) (ap (λ (m : Member). m.claims) t) in
+    let here : member_at now.members id ≡ member_at told id = ap (λ (net : Network). member_at net.members id) whole
+    ∙ told_here was.members (member_at told id) id a b n within same (ap (λ (m : Member). m.present) t) (ap (λ (m : Member). m.carrier) t) (ap (λ (m : Member). m.claims) t) in
     let beside : (k : ℕ) → k ≢ id → member_at now.members k ≡ member_at was.members k = λ k ne. ap (λ (net : Network). member_at net.members k) whole ∙ told_beside was.members id a b n k ne in
     record {
       room = c.set_claim.ensures.uses.stay.room ∙ c.set_device.ensures.uses.stay.room ∙ inv.room;

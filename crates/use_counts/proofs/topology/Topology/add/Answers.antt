@@ -21,10 +21,12 @@ pub invariant_of-self-clause-uppers_are : goal.invariant_of-self-clause-uppers_a
 invariant_of-self-clause-uppers_are c k h =
     let t = c.args.self.now in
     ap (λ (lists : List (Vec ℕ Global)). items_at lists k) c.push_reserved-2.ensures.items
-    ∙ lists_more upper_end lower_end t.uppers.items c.new.result t.edges.items c.new.ensures.items (lowers_within t.ranks.items (vec_len t.uppers) (length t.uppers.items) t.edges.items (omega (arith, t.uppers.ok.0)) t.stand) (λ j i. t.uppers_are j (omega (arith, i, t.uppers.ok.0))) k (omega (arith, h, c.push_reserved-2.ensures.len, t.uppers.ok.0))
+    ∙ lists_more upper_end lower_end t.uppers.items c.new.result t.edges.items c.new.ensures.items (lowers_within t.ranks.items (vec_len t.uppers) (length t.uppers.items) t.edges.items (omega (arith, t.uppers.ok.0)) t.stand)
+    (λ j i. t.uppers_are j (omega (arith, i, t.uppers.ok.0))) k (omega (arith, h, c.push_reserved-2.ensures.len, t.uppers.ok.0))
 
 pub invariant_of-self-clause-lowers_are : goal.invariant_of-self-clause-lowers_are
 invariant_of-self-clause-lowers_are c k h =
     let t = c.args.self.now in
     ap (λ (lists : List (Vec ℕ Global)). items_at lists k) c.push_reserved-3.ensures.items
-    ∙ lists_more lower_end upper_end t.lowers.items c.new-2.result t.edges.items c.new-2.ensures.items (uppers_within t.ranks.items (vec_len t.uppers) (length t.lowers.items) t.edges.items (omega (arith, t.lowers.ok.0, t.sizes)) t.stand) (λ j i. t.lowers_are j (omega (arith, i, t.lowers.ok.0))) k (omega (arith, h, c.push_reserved-3.ensures.len, t.lowers.ok.0))
+    ∙ lists_more lower_end upper_end t.lowers.items c.new-2.result t.edges.items c.new-2.ensures.items (uppers_within t.ranks.items (vec_len t.uppers) (length t.lowers.items) t.edges.items (omega (arith, t.lowers.ok.0, t.sizes)) t.stand)
+    (λ j i. t.lowers_are j (omega (arith, i, t.lowers.ok.0))) k (omega (arith, h, c.push_reserved-3.ensures.len, t.lowers.ok.0))
