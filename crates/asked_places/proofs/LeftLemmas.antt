@@ -1,4 +1,4 @@
--- Asks that are left, place by place.
+-- Requests that are left, place by place.
 use Rattle.std.proofs.Common.{ℕ, ◌≡◌, List, [], ◌∷◌, ◌++◌, Bool, true, false, cond, Option, Some, None, refl, ap, sym, ◌∙◌}
 use Rattle.std.specs.Prelude.{not, ◌&&◌, ◌||◌, option_to_list, slice_get}
 use Rattle.std.specs.List.{cons_option}
@@ -6,12 +6,12 @@ use Rattle.std.specs.Option.{option_map_or, option_and_then}
 use Rattle.std.proofs.lemmas.List.Elements.{filter_agree, filter_map-append}
 use Rattle.net_rows.specs.declared.rows.InterfaceRow.{InterfaceRow}
 use Rattle.net_rules.specs.declared.answer.Answer.{Answer}
-use Rattle.net_rules.specs.declared.ask.InterfaceAsk.{InterfaceAsk}
+use Rattle.net_rules.specs.declared.request.InterfaceRequest.{InterfaceRequest}
 use Rattle.net_rules.specs.declared.inputs.Inputs.{Inputs}
 use Rattle.net_rules.specs.declared.inputs.OpenInterface.{OpenInterface}
 use Rattle.net_rules.specs.Facts.{Facts}
 use Rattle.net_rules.specs.Inputs.{facts_of, open_interface}
-use Rattle.net_rules.specs.Need.{same_interface_ask}
+use Rattle.net_rules.specs.Need.{same_interface_request}
 use Rattle.net_rules.specs.After.{is_same_need}
 use Rattle.net_rules.proofs.NeedLemmas.{same_need_of}
 use Rattle.net_rules.specs.Touched.{is_needed}
@@ -23,9 +23,9 @@ use Rattle.asked_places.specs.Touched.{has, names_of_rows, is_touched}
 use Rattle.asked_places.specs.Losing.{lost_number, lost_row, lost_at, lost_at_places, left_at}
 use Rattle.asked_places.proofs.PlaceLemmas.{touched_behind, place_of_first}
 
--- whether an ask is needed reads no answers
+-- whether a request is needed reads no answers
 pub needed_same : (facts : Facts) (answer : List ℕ → Option Answer) (o : OpenInterface) → is_needed (record facts { answer = answer }) o ≡ is_needed facts o
-needed_same facts answer o = ap (λ (need : Option InterfaceAsk). is_same_need same_interface_ask need o.ask) (same_need_of facts answer o.ask.name)
+needed_same facts answer o = ap (λ (need : Option InterfaceRequest). is_same_need same_interface_request need o.request) (same_need_of facts answer o.request.name)
 
 -- at no place all are left
 none_touched : (rows : List InterfaceRow) (name : List ℕ) (o : Option ℕ) → option_map_or (has []) o false ≡ false
@@ -35,8 +35,8 @@ none_touched rows name (Some place) = refl
 pub left_none : (inputs : Inputs) → left_at inputs [] ≡ inputs
 left_none inputs =
     ap (λ (os : List OpenInterface). let now : Inputs = record inputs { interfaces = os } in now)
-    (filter_agree (λ (o : OpenInterface). not (is_touched inputs.conf.interfaces [] o.ask.name) || is_needed (facts_of inputs) o) (λ o. true)
-    (λ o. ap (λ b. not b || is_needed (facts_of inputs) o) (none_touched inputs.conf.interfaces o.ask.name (place_of (names_of_rows inputs.conf.interfaces) o.ask.name))) inputs.interfaces
+    (filter_agree (λ (o : OpenInterface). not (is_touched inputs.conf.interfaces [] o.request.name) || is_needed (facts_of inputs) o) (λ o. true)
+    (λ o. ap (λ b. not b || is_needed (facts_of inputs) o) (none_touched inputs.conf.interfaces o.request.name (place_of (names_of_rows inputs.conf.interfaces) o.request.name))) inputs.interfaces
     ∙ all_pass inputs.interfaces)
 
 -- a place more
@@ -55,13 +55,13 @@ left_more inputs done place =
     let facts = facts_of inputs in
     let now = facts_of (left_at inputs done) in
     ap (λ (os : List OpenInterface). let after : Inputs = record inputs { interfaces = os } in after)
-    (filter_twice (λ (o : OpenInterface). not (is_touched rows (place ∷ []) o.ask.name) || is_needed now o) (λ (o : OpenInterface). not (is_touched rows done o.ask.name) || is_needed facts o) inputs.interfaces
-    ∙ filter_agree (λ (o : OpenInterface). (not (is_touched rows (place ∷ []) o.ask.name) || is_needed now o) && (not (is_touched rows done o.ask.name) || is_needed facts o))
-    (λ (o : OpenInterface). not (is_touched rows (done ++ place ∷ []) o.ask.name) || is_needed facts o)
+    (filter_twice (λ (o : OpenInterface). not (is_touched rows (place ∷ []) o.request.name) || is_needed now o) (λ (o : OpenInterface). not (is_touched rows done o.request.name) || is_needed facts o) inputs.interfaces
+    ∙ filter_agree (λ (o : OpenInterface). (not (is_touched rows (place ∷ []) o.request.name) || is_needed now o) && (not (is_touched rows done o.request.name) || is_needed facts o))
+    (λ (o : OpenInterface). not (is_touched rows (done ++ place ∷ []) o.request.name) || is_needed facts o)
     (λ o.
-    ap (λ n. (not (is_touched rows (place ∷ []) o.ask.name) || n) && (not (is_touched rows done o.ask.name) || is_needed facts o)) (needed_same facts now.answer o)
-    ∙ both_left (is_touched rows done o.ask.name) (is_touched rows (place ∷ []) o.ask.name) (is_needed facts o)
-    ∙ ap (λ b. not b || is_needed facts o) (sym (touched_behind rows done (place ∷ []) o.ask.name)))
+    ap (λ n. (not (is_touched rows (place ∷ []) o.request.name) || n) && (not (is_touched rows done o.request.name) || is_needed facts o)) (needed_same facts now.answer o)
+    ∙ both_left (is_touched rows done o.request.name) (is_touched rows (place ∷ []) o.request.name) (is_needed facts o)
+    ∙ ap (λ b. not b || is_needed facts o) (sym (touched_behind rows done (place ∷ []) o.request.name)))
     inputs.interfaces)
 
 -- what is lost at another place

@@ -1,4 +1,4 @@
--- The numbers of lost asks, in order.
+-- The numbers of lost requests, in order.
 use Rattle.std.proofs.Common.{arith, ℕ, ◌≡◌, ◌≤◌, ◌<◌, ◌+◌, List, [], ◌∷◌, Bool, true, false, cond, Contains, Option, Some, None, refl, ap, sym, subst, ◌∙◌, Less, Equal, Greater}
 use Rattle.std.specs.Prelude.{◌↔◌, filter, not, nat_lt, ◌&&◌, ◌==◌, slice_get}
 use Rattle.std.specs.List.{IsDistinct, cons_option}
@@ -66,34 +66,34 @@ rising_of least bound (n ∷ ns) sorted within =
 pub rising_below : (bound : ℕ) (ns : List ℕ) → IsStrictlySortedBy nat_cmp ns → ((n : ℕ) → Contains ns n → n < bound) → AreRising 0 bound ns
 rising_below bound ns sorted within = rising_of 0 bound ns sorted (λ n member. (omega arith, within n member))
 
--- a place with its lost ask
+-- a place with its lost request
 pub record IsLostAt (inputs : Inputs) (place n : ℕ) : Type 0 where
   pub row : InterfaceRow
   pub at : slice_get inputs.conf.interfaces place ≡ Some row
   pub first : is_first inputs.conf.interfaces place row.name ≡ true
   pub asked : OpenInterface
   pub member : Contains inputs.interfaces asked
-  pub named : asked.ask.name ≡ row.name
+  pub named : asked.request.name ≡ row.name
   pub needless : is_needed (facts_of inputs) asked ≡ false
   pub number : asked.number ≡ n
 
 pub lost_is : (inputs : Inputs) (place n : ℕ) → lost_at inputs place ≡ Some n → IsLostAt inputs place n
 lost_is inputs place n h = by (slice_get inputs.conf.interfaces place) refl h
   where
-    of_ask : (row : InterfaceRow) → slice_get inputs.conf.interfaces place ≡ Some row → is_first inputs.conf.interfaces place row.name ≡ true → (found : Option OpenInterface) → open_interface inputs.interfaces row.name ≡ found
+    of_request : (row : InterfaceRow) → slice_get inputs.conf.interfaces place ≡ Some row → is_first inputs.conf.interfaces place row.name ≡ true → (found : Option OpenInterface) → open_interface inputs.interfaces row.name ≡ found
         → lost_number (facts_of inputs) found ≡ Some n → IsLostAt inputs place n
-    of_ask row at first None found h = cc h
-    of_ask row at first (Some o) found h = needless (is_needed (facts_of inputs) o) refl h
+    of_request row at first None found h = cc h
+    of_request row at first (Some o) found h = needless (is_needed (facts_of inputs) o) refl h
       where
         needless : (b : Bool) → is_needed (facts_of inputs) o ≡ b → cond {A = Option ℕ} b None (Some o.number) ≡ Some n → IsLostAt inputs place n
         needless true is h = cc h
         needless false is h =
-            let there = found_member (λ (x : OpenInterface). x.ask.name) inputs.interfaces row.name o found in
+            let there = found_member (λ (x : OpenInterface). x.request.name) inputs.interfaces row.name o found in
             record { row = row; at = at; first = first; asked = o; member = there.member; named = there.same; needless = is; number = some_is o.number n h }
 
     of_row : (row : InterfaceRow) → slice_get inputs.conf.interfaces place ≡ Some row → (b : Bool) → is_first inputs.conf.interfaces place row.name ≡ b
         → cond {A = Option ℕ} b (lost_number (facts_of inputs) (open_interface inputs.interfaces row.name)) None ≡ Some n → IsLostAt inputs place n
-    of_row row at true is h = of_ask row at is (open_interface inputs.interfaces row.name) refl h
+    of_row row at true is h = of_request row at is (open_interface inputs.interfaces row.name) refl h
     of_row row at false is h = cc h
 
     by : (found : Option InterfaceRow) → slice_get inputs.conf.interfaces place ≡ found → option_and_then (lost_row inputs place) found ≡ Some n → IsLostAt inputs place n
@@ -111,7 +111,7 @@ module _ (inputs : Inputs) (once : StandOnce inputs) (places : List ℕ) where
   touched = is_touched inputs.conf.interfaces places
 
   abbrev is_lost : OpenInterface → Bool
-  is_lost o = touched o.ask.name && not (is_needed (facts_of inputs) o)
+  is_lost o = touched o.request.name && not (is_needed (facts_of inputs) o)
 
   abbrev number : OpenInterface → ℕ
   number o = o.number
@@ -120,10 +120,10 @@ module _ (inputs : Inputs) (once : StandOnce inputs) (places : List ℕ) where
   lost_here n h =
       let from = from_filter_map (lost_at inputs) places n h in
       let lost = lost_is inputs from.source n from.gives in
-      let place : place_of (names_of_rows inputs.conf.interfaces) lost.asked.ask.name ≡ Some from.source = ap (place_of (names_of_rows inputs.conf.interfaces)) lost.named
+      let place : place_of (names_of_rows inputs.conf.interfaces) lost.asked.request.name ≡ Some from.source = ap (place_of (names_of_rows inputs.conf.interfaces)) lost.named
       ∙ place_of_first inputs.conf.interfaces from.source lost.row lost.at lost.first in
-      let on : touched lost.asked.ask.name ≡ true = ap (λ (o : Option ℕ). option_map_or (has places) o false) place ∙ has_member places from.source from.member in
-      let passes : is_lost lost.asked ≡ true = of_both (touched lost.asked.ask.name) (not (is_needed (facts_of inputs) lost.asked)) on (ap not lost.needless) in
+      let on : touched lost.asked.request.name ≡ true = ap (λ (o : Option ℕ). option_map_or (has places) o false) place ∙ has_member places from.source from.member in
+      let passes : is_lost lost.asked ≡ true = of_both (touched lost.asked.request.name) (not (is_needed (facts_of inputs) lost.asked)) on (ap not lost.needless) in
       subst (Contains (lost_numbers (facts_of inputs) touched inputs.interfaces)) lost.number
       (map_member number (filter is_lost inputs.interfaces) lost.asked (in_filter is_lost inputs.interfaces lost.asked lost.member passes))
 
@@ -132,15 +132,16 @@ module _ (inputs : Inputs) (once : StandOnce inputs) (places : List ℕ) where
       let from = member_of_map number (filter is_lost inputs.interfaces) n h in
       let o = from.source in
       let member = within_filter is_lost inputs.interfaces o from.member in
-      let parts = both (touched o.ask.name) (not (is_needed (facts_of inputs) o)) (from_filter is_lost inputs.interfaces o from.member) in
+      let parts = both (touched o.request.name) (not (is_needed (facts_of inputs) o)) (from_filter is_lost inputs.interfaces o from.member) in
       let needless : is_needed (facts_of inputs) o ≡ false = false_of_not (is_needed (facts_of inputs) o) (λ yes. not_true (is_needed (facts_of inputs) o) parts.1 yes) in
-      by o member needless (place_of (names_of_rows inputs.conf.interfaces) o.ask.name) refl parts.0 from.same
+      by o member needless (place_of (names_of_rows inputs.conf.interfaces) o.request.name) refl parts.0 from.same
     where
-      by : (o : OpenInterface) → Contains inputs.interfaces o → is_needed (facts_of inputs) o ≡ false → (found : Option ℕ) → place_of (names_of_rows inputs.conf.interfaces) o.ask.name ≡ found → option_map_or (has places) found false ≡ true
+      by : (o : OpenInterface) → Contains inputs.interfaces o → is_needed (facts_of inputs) o ≡ false → (found : Option ℕ) → place_of (names_of_rows inputs.conf.interfaces) o.request.name ≡ found → option_map_or (has places) found false
+          ≡ true
           → o.number ≡ n → Contains (lost_at_places inputs places) n
       by o member needless None at on same = cc on
       by o member needless (Some p) at on same =
-          let there = first_at_place inputs.conf.interfaces o.ask.name p at in
+          let there = first_at_place inputs.conf.interfaces o.request.name p at in
           let first : is_first inputs.conf.interfaces p there.row.name ≡ true = ap (is_first inputs.conf.interfaces p) there.named ∙ there.first in
           let lost = one_lost inputs once p there.row o there.at first member (sym there.named) needless in
           in_filter_map (lost_at inputs) places p n (member_has places p on) (lost ∙ ap (λ (k : ℕ). Some k) same)
@@ -173,7 +174,7 @@ lost_apart inputs once p q n first second =
     let a = lost_is inputs p n first in
     let b = lost_is inputs q n second in
     let same : a.asked ≡ b.asked = one_of_number inputs once a.asked b.asked a.member b.member (a.number ∙ sym b.number) in
-    let name : a.row.name ≡ b.row.name = sym a.named ∙ ap (λ (o : OpenInterface). o.ask.name) same ∙ b.named in
+    let name : a.row.name ≡ b.row.name = sym a.named ∙ ap (λ (o : OpenInterface). o.request.name) same ∙ b.named in
     some_is p q (sym (place_of_first inputs.conf.interfaces p a.row a.at a.first) ∙ ap (place_of (names_of_rows inputs.conf.interfaces)) name ∙ place_of_first inputs.conf.interfaces q b.row b.at b.first)
 
 pub lost_once : (inputs : Inputs) → StandOnce inputs → (least bound : ℕ) (places : List ℕ) → AreRising least bound places → IsDistinct (λ a b. a == b) (lost_at_places inputs places)

@@ -1,8 +1,8 @@
--- Asks of touched interfaces, place by place of their rows.
+-- Requests of touched interfaces, place by place of their rows.
 
 -- touched interfaces
 pub mod Touched
--- asks that are lost
+-- requests that are lost
 pub mod Losing
--- asks that are opened
+-- requests that are opened
 pub mod Opening

@@ -1,4 +1,4 @@
--- Asks that are lost.
+-- Requests that are lost.
 use Rattle.std.specs.Prelude.{ℕ, List, Option, None, Some, filter_map, slice_get, if◌then◌else◌}
 use Rattle.std.specs.Option.{option_and_then}
 use Rattle.net_rows.specs.declared.rows.InterfaceRow.{InterfaceRow}
@@ -6,11 +6,11 @@ use Rattle.net_rules.specs.declared.inputs.Inputs.{Inputs}
 use Rattle.net_rules.specs.declared.inputs.OpenInterface.{OpenInterface}
 use Rattle.net_rules.specs.Facts.{Facts}
 use Rattle.net_rules.specs.Inputs.{facts_of, open_interface}
-use Rattle.net_rules.specs.Touched.{is_needed, left_asks}
+use Rattle.net_rules.specs.Touched.{is_needed, left_requests}
 use Rattle.net_rules.specs.States.{is_first}
 use Rattle.asked_places.specs.Touched.{is_touched}
 
--- the number of an open ask that is no longer needed
+-- the number of an open request that is no longer needed
 abbrev pub lost_number : Facts → Option OpenInterface → Option ℕ
 lost_number facts None = None
 lost_number facts (Some o) = if is_needed facts o then None else Some o.number
@@ -24,12 +24,12 @@ lost_row inputs place row =
 abbrev pub lost_at : Inputs → ℕ → Option ℕ
 lost_at inputs place = option_and_then (lost_row inputs place) (slice_get inputs.conf.interfaces place)
 
--- the numbers of the asks that are lost at some places, in their order
+-- the numbers of the requests that are lost at some places, in their order
 abbrev pub lost_at_places : Inputs → List ℕ → List ℕ
 lost_at_places inputs places = filter_map (lost_at inputs) places
 
--- the inputs without the asks of the interfaces at some places that are no longer needed
+-- the inputs without the requests of the interfaces at some places that are no longer needed
 abbrev pub left_at : Inputs → List ℕ → Inputs
 left_at inputs places = record inputs {
-  interfaces = left_asks (facts_of inputs) (is_touched inputs.conf.interfaces places) inputs.interfaces;
+  interfaces = left_requests (facts_of inputs) (is_touched inputs.conf.interfaces places) inputs.interfaces;
 }

@@ -12,17 +12,17 @@ ghost use Rattle.net_rules.specs.Inputs.{facts_of, open_interface};
 ghost use Rattle.net_rules.specs.Numbers.{AreRising};
 ghost use Rattle.net_rules.specs.After.{opened_interfaces};
 ghost use Rattle.net_rules.specs.Notices.{interface_notice};
-ghost use Rattle.net_rules.specs.Touched.{is_needed, lost_numbers, touched_asks, asked_of};
+ghost use Rattle.net_rules.specs.Touched.{is_needed, lost_numbers, touched_requests, asked_of};
 ghost use Rattle.known_inputs.specs.Known.{StandOnce};
-ghost use Rattle.known_inputs.specs.Steps.{without_ask};
+ghost use Rattle.known_inputs.specs.Steps.{without_request};
 ghost use Rattle.net_rules.specs.States.{is_first};
 ghost use Rattle.asked_places.specs.Touched.{has, is_touched};
 ghost use Rattle.asked_places.specs.Losing.{lost_at, lost_at_places, left_at};
 ghost use Rattle.asked_places.specs.Opening.{opened_after, told_of_all};
 
-/// The asks of touched interfaces that are no longer needed are lost one place after the other: at
-/// no place none; what is lost at a place more, behind others, is what is lost at all of them.
-pub fn asks_are_lost_by_place()
+/// The requests of touched interfaces that are no longer needed are lost one place after the other:
+/// at no place none; what is lost at a place more, behind others, is what is lost at all of them.
+pub fn requests_are_lost_by_place()
     ensures none { (inputs : Inputs) → left_at inputs [] ≡ inputs }
     ensures more { (inputs : Inputs) (done : List ℕ) (place : ℕ)
         → left_at (left_at inputs done) (place ∷ []) ≡ left_at inputs (done ++ place ∷ []) }
@@ -33,14 +33,14 @@ pub fn asks_are_lost_by_place()
         ≡ lost_at_places inputs done ++ option_to_list (lost_at inputs place) }
 {}
 
-/// What is lost at a place is the open ask of its row, where that is the first of its name and is
-/// not needed; it goes by its number. Where none is lost, the asks stay.
-pub fn lost_asks_are_those_of_touched()
+/// What is lost at a place is the open request of its row, where that is the first of its name and
+/// is not needed; it goes by its number. Where none is lost, the requests stay.
+pub fn lost_requests_are_those_of_touched()
     ensures one { (inputs : Inputs) (place : ℕ) (row : InterfaceRow) (o : OpenInterface)
         → StandOnce inputs → slice_get inputs.conf.interfaces place ≡ Some row
         → is_first inputs.conf.interfaces place row.name ≡ true
         → open_interface inputs.interfaces row.name ≡ Some o → is_needed (facts_of inputs) o ≡ false
-        → (left_at inputs (place ∷ []) ≡ without_ask inputs o.number)
+        → (left_at inputs (place ∷ []) ≡ without_request inputs o.number)
         × (lost_at inputs place ≡ Some o.number) }
     ensures stay { (inputs : Inputs) (place : ℕ) → StandOnce inputs → lost_at inputs place ≡ None
         → left_at inputs (place ∷ []) ≡ inputs }
@@ -65,9 +65,9 @@ pub fn lost_numbers_are_in_order()
         inputs.interfaces }
 {}
 
-/// Where the asks that are lost at rising places are gone, those that are opened place by place are
-/// the asks of touched interfaces, and what is told of each is told of them.
-pub fn asks_are_opened_by_place()
+/// Where the requests that are lost at rising places are gone, those that are opened place by place
+/// are the requests of touched interfaces, and what is told of each is told of them.
+pub fn requests_are_opened_by_place()
     ensures asked { (inputs : Inputs) (places : List ℕ)
         → AreRising 0 (length inputs.conf.interfaces) places
         → fold opened_after (left_at inputs places) places
@@ -76,6 +76,6 @@ pub fn asks_are_opened_by_place()
         → AreRising 0 (length inputs.conf.interfaces) places
         → told_of_all (left_at inputs places) places
         ≡ map (interface_notice inputs.conf) (opened_interfaces inputs.next
-        (touched_asks inputs (is_touched inputs.conf.interfaces places)
+        (touched_requests inputs (is_touched inputs.conf.interfaces places)
         (left_at inputs places).interfaces)) }
 {}

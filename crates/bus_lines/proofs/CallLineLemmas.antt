@@ -84,7 +84,7 @@ module _ (world : World) (number : ℕ) (words : CallWords) (args : List Attr)
         asked = out.asked;
         used = out.used;
         answer = out.answer;
-        asks = out.asks;
+        requests = out.requests;
         refusal = out.refusal;
       }
       object_called now seen (Err stop.DiskFailed) failed = record {
@@ -114,7 +114,7 @@ module _ (world : World) (number : ℕ) (words : CallWords) (args : List Attr)
       asked = asked;
       used = used;
       answer = tells.is;
-      asks = tells.asks;
+      requests = tells.requests;
       refusal = tells.refusal;
     }
 
@@ -133,7 +133,7 @@ module _ (world : World) (number : ℕ) (words : CallWords) (args : List Attr)
     asked = asked;
     used = used;
     answer = tells.is;
-    asks = tells.asks;
+    requests = tells.requests;
     refusal = tells.refusal;
   }
 
@@ -145,17 +145,17 @@ module _ (world : World) (number : ℕ) (words : CallWords) (args : List Attr)
       → now ≡ with_parts world done.parts → Asks done.asked failed seen.kernel
       → CallsPath world.now word failed (record (parts_of world) { sessions = list }) (call_with words args) all done
       → IsHalted Cuts Passes now seen
-  path_left list all admits word failed done now seen next asks (CallsPath.none is) = record {
+  path_left list all admits word failed done now seen next requests (CallsPath.none is) = record {
     cut = untouched world.net;
     cuts = CallLineCuts.in_front;
-    left = cut_unasked world.net now.net failed seen.kernel (ap (λ (w : World). w.net.held) next) asks;
+    left = cut_unasked world.net now.net failed seen.kernel (ap (λ (w : World). w.net.held) next) requests;
     files = subst Passes (sym (ap (λ (w : World). w.files) next)) CallLinePasses.front;
   }
-  path_left list all admits word failed _ now seen next asks (CallsPath.some object is done calls) = record {
+  path_left list all admits word failed _ now seen next requests (CallsPath.some object is done calls) = record {
     cut = behind_call done failed;
     cuts = CallLineCuts.within args read list all admits object is word (behind_call done failed)
         (CallCuts.behind failed done calls);
-    left = record { held = ap (λ (w : World). w.net.held) next; asked = asks.asked; cause = asks.cause };
+    left = record { held = ap (λ (w : World). w.net.held) next; asked = requests.asked; cause = requests.cause };
     files = subst Passes (sym (ap (λ (w : World). w.files) next))
         (CallLinePasses.within args read list all admits object is done.parts.files
         (done_passes world.now word failed (record (parts_of world) { sessions = list }) object words.method
@@ -165,14 +165,14 @@ module _ (world : World) (number : ℕ) (words : CallWords) (args : List Attr)
   for_left : (word : ℕ) (failed : Bool) (done : Called) (now : World) (seen : Seen)
       → now ≡ with_parts world done.parts → Asks done.asked failed seen.kernel
       → ForDoes world words args word failed done → IsHalted Cuts Passes now seen
-  for_left word failed _ now seen next asks (CallsFor.refused list answer admits) = record {
+  for_left word failed _ now seen next requests (CallsFor.refused list answer admits) = record {
     cut = untouched world.net;
     cuts = CallLineCuts.in_front;
-    left = cut_unasked world.net now.net failed seen.kernel (ap (λ (w : World). w.net.held) next) asks;
+    left = cut_unasked world.net now.net failed seen.kernel (ap (λ (w : World). w.net.held) next) requests;
     files = subst Passes (sym (ap (λ (w : World). w.files) next)) CallLinePasses.front;
   }
-  for_left word failed _ now seen next asks (CallsFor.admitted list all admits done calls) =
-      path_left list all admits word failed done now seen next asks calls
+  for_left word failed _ now seen next requests (CallsFor.admitted list all admits done calls) =
+      path_left list all admits word failed done now seen next requests calls
 
   pub left_behind : (now : World) (seen : Seen) (told : Outcome)
       → IsOut (ForDoes world words args) world now seen told → IsHalted Cuts Passes now seen
@@ -195,8 +195,8 @@ module _ (world : World) (number : ℕ) (words : CallWords) (args : List Attr)
       used = out.used;
       sent = tells.sent;
       shown = tells.shown
-          ∙ ap (λ (a : List ℕ). a ++ reply_line told.answer.status told.answer.payload) out.asks
-          ∙ ap (λ (a : LocalAnswer). out.done.asks ++ reply_line a.status a.payload) out.answer;
+          ∙ ap (λ (a : List ℕ). a ++ reply_line told.answer.status told.answer.payload) out.requests
+          ∙ ap (λ (a : LocalAnswer). out.done.requests ++ reply_line a.status a.payload) out.answer;
       refusal = tells.refusal
           ∙ ap (λ (a : LocalAnswer). first_of (option_map (λ why. error_line (error.Status why)) (status_at a.status)) told.refusal) out.answer
           ∙ ap (λ (r : Option (List ℕ)). first_of (option_map (λ why. error_line (error.Status why)) (status_at out.done.answer.status)) r) out.refusal

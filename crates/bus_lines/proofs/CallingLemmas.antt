@@ -46,7 +46,7 @@ module _ (world now : World) (object : LocalObject) (method : List ℕ) (args : 
     asked = is.asked;
     used = subst (λ (b : Bool). Uses seen.supply (used_by b word) seen.supply_now) is.created used;
     answer = is.answer;
-    asks = is.asks;
+    requests = is.requests;
     refusal = is.refusal;
   }
 
@@ -85,12 +85,12 @@ ends_as world object method other args others now seen result same also ends =
 reload_files : (parts : Parts) (answer : LocalAnswer) (reload : Bool) (done : Called)
     → Reloads parts answer reload done → done.parts.files ≡ parts.files
 reload_files parts answer reload done Reloads.not = refl
-reload_files parts answer reload done (Reloads.anew act asks) = refl
+reload_files parts answer reload done (Reloads.anew act requests) = refl
 
 network_files : (before : Parts) (object : NetObject) (method : List ℕ) (args : List Attr) (failed : Bool)
     (done : Called) → NetworkCalled before object method args failed done
     → done.parts.files ≡ before.files
-network_files before object method args failed done (NetworkCalled.carried net_call asks act means) = refl
+network_files before object method args failed done (NetworkCalled.carried net_call requests act means) = refl
 network_files before object method args failed done (NetworkCalled.no_method none) = refl
 network_files before object method args failed done (NetworkCalled.bad_argument nothing) = refl
 

@@ -92,7 +92,7 @@ fault_is : (world : World) (key : ℕ) (fault : Option FrameError) → fault_did
   world = record world { bus = (faulted world.bus key fault).part };
   asked = [];
   sent = (faulted world.bus key fault).told;
-  asks = [];
+  requests = [];
   reply = [];
   refusal = option_map fault_error fault;
   words = [];
@@ -105,7 +105,7 @@ fault_is world key (Some why) = at (closed world.bus key)
           world = record world { bus = (came_or_stays world.bus answer).part };
           asked = [];
           sent = (came_or_stays world.bus answer).told;
-          asks = [];
+          requests = [];
           reply = [];
           refusal = Some (fault_error why);
           words = [];
@@ -125,7 +125,7 @@ fed_done world key fed mid part seen all told served ends =
       world = record front.world { bus = came.part };
       asked = [];
       sent = came.told;
-      asks = [];
+      requests = [];
       reply = [];
       refusal = option_map fault_error fed.fault;
       words = [];
@@ -141,9 +141,9 @@ fed_done world key fed mid part seen all told served ends =
       used = subst (λ (w : List ℕ). Uses seen.supply w seen.supply_now) (sym (append-nil front.words)) served.used;
       sent = ends.sent ∙ ap (λ (s : List ℕ). s ++ (faulted mid.bus key fed.fault).told) served.sent
           ∙ ap (λ (c : Came). front.sent ++ c.told) came_is;
-      shown = ends.shown ∙ served.asks ∙ sym (append-nil front.asks)
-          ∙ sym (append-nil (front.asks ++ []))
-          ∙ ap (λ (r : List ℕ). (front.asks ++ []) ++ r) (sym (append-nil front.reply ∙ reply));
+      shown = ends.shown ∙ served.requests ∙ sym (append-nil front.requests)
+          ∙ sym (append-nil (front.requests ++ []))
+          ∙ ap (λ (r : List ℕ). (front.requests ++ []) ++ r) (sym (append-nil front.reply ∙ reply));
       refusal = ends.refusal
           ∙ ap (λ (r : Option (List ℕ)). first_of r (option_map (λ why. error_line (fault_error why)) fed.fault)) served.refusal
           ∙ ap (λ (r : Option (List ℕ)). first_of (option_map error_line front.refusal) r) (fault_line fed.fault)

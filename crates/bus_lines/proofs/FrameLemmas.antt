@@ -49,7 +49,7 @@ map_first f (Some a) b = refl
 gathers_nothing : (world : World) (all : Gathered) → Gathers (nothing_did world) all all
 gathers_nothing world all = record {
   sent = sym (append-nil all.sent.items);
-  asks = sym (append-nil all.asks.items);
+  requests = sym (append-nil all.requests.items);
   refusal = first_none all.refusal;
 }
 
@@ -58,7 +58,7 @@ gathers_more : (one other : Did) (a b c : Gathered) → Gathers one a b → Gath
     → Gathers (followed one other) a c
 gathers_more one other a b c p q = record {
   sent = q.sent ∙ ap (λ (s : List ℕ). s ++ other.sent) p.sent ∙ append_assoc a.sent.items one.sent other.sent;
-  asks = q.asks ∙ ap (λ (s : List ℕ). s ++ other.asks) p.asks ∙ append_assoc a.asks.items one.asks other.asks;
+  requests = q.requests ∙ ap (λ (s : List ℕ). s ++ other.requests) p.requests ∙ append_assoc a.requests.items one.requests other.requests;
   refusal = q.refusal
       ∙ ap (λ (r : Option (List ℕ)). first_of r (option_map error_line other.refusal)) p.refusal
       ∙ first_joins a.refusal (option_map error_line one.refusal) (option_map error_line other.refusal)
@@ -144,7 +144,7 @@ module _ (world : World) (call : LocalCall) where
           used = out.used;
           gathers = record {
             sent = replied.is.lines ∙ ap (λ (c : Came). a.sent.items ++ c.told) came;
-            asks = replied.asks ∙ ap (λ (s : List ℕ). a.asks.items ++ s) out.asks;
+            requests = replied.requests ∙ ap (λ (s : List ℕ). a.requests.items ++ s) out.requests;
             refusal = replied.refusal ∙ ap (λ (r : Option (List ℕ)). first_of a.refusal r) out.refusal;
           };
         }
@@ -178,10 +178,10 @@ module _ (world : World) (number : ℕ) (frame : Frame) where
 
   -- the frame handed no call out
   pub no_call : (next : World) (seen : Seen) (a b : Gathered) → next ≡ mid → came.call ≡ None
-      → b.sent.items ≡ a.sent.items ++ came.told → b.asks.items ≡ a.asks.items → b.refusal ≡ a.refusal
+      → b.sent.items ≡ a.sent.items ++ came.told → b.requests.items ≡ a.requests.items → b.refusal ≡ a.refusal
       → Asks [] false seen.kernel → Uses seen.supply [] seen.supply_now
       → HasStepped (OneDoes world number frame) next seen a b
-  no_call next seen a b at none sent asks refusal asked used = record {
+  no_call next seen a b at none sent requests refusal asked used = record {
     word = 0;
     failed = false;
     did = followed (came_did world came) (nothing_did mid);
@@ -195,7 +195,7 @@ module _ (world : World) (number : ℕ) (frame : Frame) where
     used = used;
     gathers = record {
       sent = sent ∙ ap (λ (s : List ℕ). a.sent.items ++ s) (sym (append-nil came.told));
-      asks = asks ∙ sym (append-nil a.asks.items);
+      requests = requests ∙ sym (append-nil a.requests.items);
       refusal = refusal ∙ first_none a.refusal;
     };
   }
@@ -212,12 +212,12 @@ module _ (world : World) (number : ℕ) (frame : Frame) where
         record { word = word; is = FrameCuts.within call handed object is cut cuts }
 
     pub call_ends : {X : Type 0} (now : World) (seen : Seen) (a b c : Gathered)
-        → b.sent.items ≡ a.sent.items ++ came.told → b.asks.items ≡ a.asks.items → b.refusal ≡ a.refusal
+        → b.sent.items ≡ a.sent.items ++ came.told → b.requests.items ≡ a.requests.items → b.refusal ≡ a.refusal
         → (result : Result X CallStop)
         → StepEnds (HandedDoes mid call) (HandedCuts mid call) (HandedPasses mid call) now seen b c result
         → StepEnds (OneDoes world number frame) (OneCuts world number frame)
         (FramePasses world number frame) now seen a c result
-    call_ends now seen a b c sent asks refusal (Ok done) step = record {
+    call_ends now seen a b c sent requests refusal (Ok done) step = record {
       word = step.word;
       failed = step.failed;
       did = followed (came_did world came) step.did;
@@ -233,17 +233,17 @@ module _ (world : World) (number : ℕ) (frame : Frame) where
       gathers = gathers_more (came_did world came) step.did a b c
           (record {
             sent = sent;
-            asks = asks ∙ sym (append-nil a.asks.items);
+            requests = requests ∙ sym (append-nil a.requests.items);
             refusal = refusal ∙ first_none a.refusal;
           }) step.gathers;
     }
-    call_ends now seen a b c sent asks refusal (Err stop.DiskFailed) failed = record {
+    call_ends now seen a b c sent requests refusal (Err stop.DiskFailed) failed = record {
       cause = failed.cause;
       cut = failed.cut;
       cuts = frame_cuts failed.cut failed.cuts;
       left = failed.left;
     }
-    call_ends now seen a b c sent asks refusal (Err stop.Memory) halted = record {
+    call_ends now seen a b c sent requests refusal (Err stop.Memory) halted = record {
       cut = halted.cut;
       cuts = frame_cuts halted.cut halted.cuts;
       left = halted.left;
@@ -257,11 +257,11 @@ module _ (world : World) (number : ℕ) (frame : Frame) where
           frame_passes folder (subst (λ (w : World). HandedPasses w call folder) left passes)
 
       pub ends_at : {X : Type 0} (now : World) (seen : Seen) (a b c : Gathered)
-          → b.sent.items ≡ a.sent.items ++ came.told → b.asks.items ≡ a.asks.items → b.refusal ≡ a.refusal
+          → b.sent.items ≡ a.sent.items ++ came.told → b.requests.items ≡ a.requests.items → b.refusal ≡ a.refusal
           → (result : Result X CallStop)
           → StepEnds (HandedDoes at call) (HandedCuts at call) (HandedPasses at call) now seen b c result
           → StepEnds (OneDoes world number frame) (OneCuts world number frame)
           (FramePasses world number frame) now seen a c result
-      ends_at now seen a b c sent asks refusal result ends =
-          call_ends now seen a b c sent asks refusal result
+      ends_at now seen a b c sent requests refusal result ends =
+          call_ends now seen a b c sent requests refusal result
           (subst (λ (w : World). StepEnds (HandedDoes w call) (HandedCuts w call) (HandedPasses w call) now seen b c result) left ends)

@@ -33,8 +33,8 @@ use Rattle.bus_lines.proofs.FrameLemmas.{map_first}
 -- no frame was served
 pub none_served : (world : World) (number : ℕ) (seen : Seen) (all : Gathered)
     → AsksBy [] [] seen.kernel → Uses seen.supply [] seen.supply_now → all.sent.items ≡ []
-    → all.asks.items ≡ [] → all.refusal ≡ None → HasServed world number [] world seen all
-none_served world number seen all asked used sent asks refusal = record {
+    → all.requests.items ≡ [] → all.refusal ≡ None → HasServed world number [] world seen all
+none_served world number seen all asked used sent requests refusal = record {
   words = [];
   failures = [];
   did = nothing_did world;
@@ -43,7 +43,7 @@ none_served world number seen all asked used sent asks refusal = record {
   asked = asked;
   used = used;
   sent = sent;
-  asks = asks;
+  requests = requests;
   refusal = refusal;
 }
 
@@ -65,7 +65,7 @@ module _ (world : World) (number : ℕ) (done : List Frame) (at : World) (seen :
       cut (subst (λ (w : World). FrameCuts w cuts.word number frame cut) served.next cuts.is)
 
 module _ (asked between after : Option (List Asked)) (faults mid now : ℕ)
-    (words mid_words now_words : Supply) (disks_front disks_behind disks : DiskFaults) where
+    (words mid_words now_words : Supply) (disks_front disks_after disks : DiskFaults) where
   abbrev pub front : Seen
   front = record {
     kernel = record { asked = asked; asked_now = between; faults = faults; faults_now = mid };
@@ -79,7 +79,7 @@ module _ (asked between after : Option (List Asked)) (faults mid now : ℕ)
     kernel = record { asked = between; asked_now = after; faults = mid; faults_now = now };
     supply = mid_words;
     supply_now = now_words;
-    disks = disks_behind;
+    disks = disks_after;
   }
 
   abbrev pub both : Seen
@@ -107,7 +107,7 @@ module _ (asked between after : Option (List Asked)) (faults mid now : ℕ)
           step.failed served.asked step.asked;
       used = uses_more words mid_words now_words served.did.words step.did.words served.used step.used;
       sent = step.gathers.sent ∙ ap (λ (s : List ℕ). s ++ step.did.sent) served.sent;
-      asks = step.gathers.asks ∙ ap (λ (s : List ℕ). s ++ step.did.asks) served.asks;
+      requests = step.gathers.requests ∙ ap (λ (s : List ℕ). s ++ step.did.requests) served.requests;
       refusal = step.gathers.refusal
           ∙ ap (λ (r : Option (List ℕ)). first_of r (option_map error_line step.did.refusal)) served.refusal
           ∙ sym (map_first error_line served.did.refusal step.did.refusal);
@@ -116,7 +116,7 @@ module _ (asked between after : Option (List Asked)) (faults mid now : ℕ)
     -- it is one of these, and was stopped
     module _ (frames rest : List Frame) (parts : frames ≡ done ++ frame ∷ rest) where
       pub one_stopped : (X : Type 0) (next : World) (a b : Gathered) (why : CallStop)
-          → (DiskRose disks_behind → DiskRose disks)
+          → (DiskRose disks_after → DiskRose disks)
           → StepEnds {X = X} (OneDoes at number frame) (OneCuts at number frame)
           (FramePasses at number frame) next behind a b (Err why)
           → ServeEnds world number frames (FramesCut world number frames)

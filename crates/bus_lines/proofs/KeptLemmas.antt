@@ -83,14 +83,14 @@ still_open value old new a b c d stays =
     record { files = stays.files; staged = stays.staged; ready = stays.ready (λ e. cc e) }
 
 -- a disk that failed in a call failed since an earlier moment
-rose_behind : (a b c : ℕ) → a ≤ b → Rose b c → Rose a c
-rose_behind a b c first rose = omega (arith, first, rose)
+rose_after : (a b c : ℕ) → a ≤ b → Rose b c → Rose a c
+rose_after a b c first rose = omega (arith, first, rose)
 
 pub disk_rose : (f s a b c d : ℕ) → f ≤ a → s ≤ c
     → DiskRose (record { files = a; files_now = b; staged = c; staged_now = d })
     → DiskRose (record { files = f; files_now = b; staged = s; staged_now = d })
-disk_rose f s a b c d files staged (inl rose) = inl (rose_behind f a b files rose)
-disk_rose f s a b c d files staged (inr rose) = inr (rose_behind s c d staged rose)
+disk_rose f s a b c d files staged (inl rose) = inl (rose_after f a b files rose)
+disk_rose f s a b c d files staged (inr rose) = inr (rose_after s c d staged rose)
 
 -- ---- images
 

@@ -41,18 +41,18 @@ cut_nothing net asked faults =
 -- one event
 pub asks_once : (what : List Asked) (failed : Bool) (kernel : Telled) → Asks what failed kernel
     → AsksBy what (failed ∷ []) kernel
-asks_once what failed kernel asks = record {
-  record_of = asks.asked;
-  cause = rose_once failed kernel.faults kernel.faults_now asks.cause;
+asks_once what failed kernel requests = record {
+  record_of = requests.asked;
+  cause = rose_once failed kernel.faults kernel.faults_now requests.cause;
 }
 
 -- nothing was asked, whatever is said of failures
 pub cut_unasked : (before now : Moment) (failed : Bool) (kernel : Telled) → now.held ≡ before.held
     → Asks [] failed kernel → IsCutSo (untouched before) now kernel
-cut_unasked before now failed kernel held asks = record {
+cut_unasked before now failed kernel held requests = record {
   held = held;
-  asked = asks.asked;
-  cause = rose_less (once_if failed) kernel.faults kernel.faults_now asks.cause;
+  asked = requests.asked;
+  cause = rose_less (once_if failed) kernel.faults kernel.faults_now requests.cause;
 }
 
 events_more : (some : List Bool) (failed : Bool)

@@ -39,7 +39,7 @@ pub record IsOut (Does : ℕ → Bool → Called → Type 0) (before now : World
   pub asked : Asks done.asked failed seen.kernel
   pub used : Uses seen.supply (used_by done.has_created word) seen.supply_now
   pub answer : told.answer ≡ done.answer
-  pub asks : told.asks ≡ done.asks
+  pub requests : told.requests ≡ done.requests
   pub refusal : told.refusal ≡ option_map error_line done.refusal
 
 -- how a call ended that does this, may be cut so, and passes through these folders

@@ -63,7 +63,7 @@ replied_did world word call done =
       world = record mid { bus = replied.part };
       asked = done.asked;
       sent = replied.told;
-      asks = done.asks;
+      requests = done.requests;
       reply = [];
       refusal = done.refusal;
       words = used_by done.has_created word;

@@ -4,20 +4,20 @@ use Rattle.kern_model.specs.declared.kernel.Asked.{Asked}
 use Rattle.script_lines.specs.declared.line_error.LineError.{LineError}
 use Rattle.bus_lines.specs.World.{World}
 
--- The world behind it, what the kernel was asked, the lines of sends, of asks and of the reply, why the line is
+-- The world behind it, what the kernel was asked, the lines of sends, of requests and of the reply, why the line is
 -- refused, if it is, and the random words that it used up.
 pub record Did : Type 0 where
   pub world : World
   pub asked : List Asked
   pub sent : List ℕ
-  pub asks : List ℕ
+  pub requests : List ℕ
   pub reply : List ℕ
   pub refusal : Option LineError
   pub words : List ℕ
 
 abbrev pub nothing_did : World → Did
 nothing_did world =
-    record { world = world; asked = []; sent = []; asks = []; reply = []; refusal = None; words = [] }
+    record { world = world; asked = []; sent = []; requests = []; reply = []; refusal = None; words = [] }
 
 abbrev pub refused_did : World → LineError → Did
 refused_did world error = record (nothing_did world) { refusal = Some error }
@@ -33,7 +33,7 @@ followed a b = record {
   world = b.world;
   asked = a.asked ++ b.asked;
   sent = a.sent ++ b.sent;
-  asks = a.asks ++ b.asks;
+  requests = a.requests ++ b.requests;
   reply = a.reply ++ b.reply;
   refusal = first_of a.refusal b.refusal;
   words = a.words ++ b.words;

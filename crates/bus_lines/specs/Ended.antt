@@ -49,7 +49,7 @@ pub record IsTold (did : Did) (failures : List Bool) (now : World) (seen : Seen)
   pub asked : AsksBy did.asked failures seen.kernel
   pub used : Uses seen.supply did.words seen.supply_now
   pub sent : told.sent ≡ did.sent
-  pub shown : told.told.shown ≡ did.asks ++ did.reply
+  pub shown : told.told.shown ≡ did.requests ++ did.reply
   pub refusal : told.told.refusal ≡ option_map error_line did.refusal
 
 -- the line was carried out, with some luck: the random words at hand, and whether the kernel failed at its events

@@ -69,7 +69,7 @@ pub record HasServed (world : World) (number : ℕ) (frames : List Frame) (now :
   pub asked : AsksBy did.asked failures seen.kernel
   pub used : Uses seen.supply did.words seen.supply_now
   pub sent : all.sent.items ≡ did.sent
-  pub asks : all.asks.items ≡ did.asks
+  pub requests : all.requests.items ≡ did.requests
   pub refusal : all.refusal ≡ option_map error_line did.refusal
 
 abbrev pub ServeEnds : World → ℕ → List Frame → (Cut → Type 0) → (Folder → Type 0) → World → Seen

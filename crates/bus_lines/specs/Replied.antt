@@ -17,7 +17,7 @@ use Rattle.bus_lines.specs.CallLine.{status_at}
 -- a call is answered so, and nothing else comes of it
 pub record IsQuiet (answer : LocalAnswer) (outcome : Outcome) : Type 0 where
   pub is : outcome.answer ≡ answer
-  pub asks : outcome.asks ≡ []
+  pub requests : outcome.requests ≡ []
   pub refusal : outcome.refusal ≡ None
   pub created : outcome.has_created ≡ false
 
@@ -31,11 +31,11 @@ pub record TellsReply (text : List ℕ) (status : ℕ) (refusal : Option (List �
   pub shown : told.shown ≡ text
   pub line : told.refusal ≡ refusal_line status refusal
 
--- a call is told: its asks and its reply, and its status or the refusal of the reload behind it
+-- a call is told: its requests and its reply, and its status or the refusal of the reload behind it
 pub record TellsOutcome (outcome : Outcome) (told : Handled) : Type 0 where
   pub sent : told.sent ≡ []
   pub shown : told.told.shown
-      ≡ outcome.asks ++ reply_line outcome.answer.status outcome.answer.payload
+      ≡ outcome.requests ++ reply_line outcome.answer.status outcome.answer.payload
   pub refusal : told.told.refusal ≡ refusal_line outcome.answer.status outcome.refusal
 
 -- a line is refused with this error

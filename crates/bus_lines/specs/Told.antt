@@ -55,12 +55,12 @@ pub record EndsBytes (before : BusPart) (key : ℕ) (fault : Option FrameError) 
     (told : Handled) : Type 0 where
   pub part : now ≡ (faulted before key fault).part
   pub sent : told.sent ≡ all.sent.items ++ (faulted before key fault).told
-  pub shown : told.told.shown ≡ all.asks.items
+  pub shown : told.told.shown ≡ all.requests.items
   pub refusal : told.told.refusal
       ≡ first_of all.refusal (option_map (λ why. error_line (fault_error why)) fault)
 
 -- what was gathered is told, and then this error where no refusal came before
 pub record TellsGathered (all : Gathered) (error : Option LineError) (told : Handled) : Type 0 where
   pub sent : told.sent ≡ all.sent.items
-  pub shown : told.told.shown ≡ all.asks.items
+  pub shown : told.told.shown ≡ all.requests.items
   pub refusal : told.told.refusal ≡ first_of all.refusal (option_map error_line error)

@@ -11,11 +11,11 @@ use rpc_objects::{LocalAnswer, Outcome};
 use std::alloc::Global;
 use ubus_table::LocalCall;
 
-/// The lines of sends, the lines of asks, and the line of the first refusal.
+/// The lines of sends, the lines of requests, and the line of the first refusal.
 #[derive(Drop)]
 pub(crate) struct Gathered {
     pub(crate) sent: Vec<u8>,
-    pub(crate) asks: Vec<u8>,
+    pub(crate) requests: Vec<u8>,
     pub(crate) refusal: Option<Text>,
 }
 
@@ -23,12 +23,12 @@ impl Gathered {
     /// Nothing yet.
     pub(crate) fn new(alloc: Global) -> Gathered
         ensures sent { result.sent.items ≡ [] }
-        ensures asks { result.asks.items ≡ [] }
+        ensures requests { result.requests.items ≡ [] }
         ensures refusal { result.refusal ≡ None }
     {
         Gathered {
             sent: Vec::new(alloc),
-            asks: Vec::new(alloc),
+            requests: Vec::new(alloc),
             refusal: None,
         }
     }
@@ -47,11 +47,11 @@ impl Gathered {
     {
         let Outcome {
             answer,
-            asks,
+            requests,
             refusal,
             ..
         } = outcome;
-        self.asks.extend_from_slice(asks.as_bytes())?;
+        self.requests.extend_from_slice(requests.as_bytes())?;
         self.refuse(refusal);
         let LocalAnswer { status, payload } = answer;
         bus.reply(call, status, payload, &mut self.sent)
@@ -60,7 +60,7 @@ impl Gathered {
     /// A refusal is kept where none came before.
     fn refuse(&mut self, refusal: Option<Text>)
         ensures sent { self.new.sent ≡ self.old.sent }
-        ensures asks { self.new.asks ≡ self.old.asks }
+        ensures requests { self.new.requests ≡ self.old.requests }
         ensures refusal { self.new.refusal ≡ first_of self.old.refusal refusal }
     {
         if self.refusal.is_none() {

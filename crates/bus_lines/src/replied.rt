@@ -17,23 +17,24 @@ pub(crate) fn quiet(alloc: Global, answer: LocalAnswer) -> Outcome
 {
     Outcome {
         answer,
-        asks: Text::from_vec(Vec::new(alloc)),
+        requests: Text::from_vec(Vec::new(alloc)),
         refusal: None,
         has_created: false,
     }
 }
 
-/// Tells of a call: the asks and the reply, and the status of the reply or the refusal of a reload.
+/// Tells of a call: the requests and the reply, and the status of the reply or the refusal of a
+/// reload.
 pub(crate) fn tell_outcome(alloc: Global, outcome: Outcome) -> Result<Handled, Memory>
     ensures { IfOk result (spec.TellsOutcome outcome) }
 {
     let Outcome {
         answer,
-        asks,
+        requests,
         refusal,
         ..
     } = outcome;
-    let mut shown = asks.into_vec();
+    let mut shown = requests.into_vec();
     append_reply(alloc, answer.status, &answer.payload, &mut shown)?;
     let told = tell_reply(alloc, Text::from_vec(shown), answer.status, refusal)?;
     Ok(Handled {

@@ -116,10 +116,10 @@ fn tell_gathered(
 {
     let Gathered {
         sent,
-        asks,
+        requests,
         refusal,
     } = gathered;
-    let shown = Text::from_vec(asks);
+    let shown = Text::from_vec(requests);
     let told = match refusal {
         Some(line) => Told {
             shown,

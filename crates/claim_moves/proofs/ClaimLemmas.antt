@@ -54,58 +54,58 @@ moved_one name old new before now moves q = by (bytes_eq name q) refl (moves q)
 pub moved_none : (old new : InterfaceState) (s : Known) → MovesNamed None old new s s
 moved_none old new s q = refl
 
--- a name that is neither its device nor its layer is not used
+-- a name that is neither its device nor its layer-3 device is not used
 neither : (a b : Bool) → ((a && false) || (b && false)) ≡ false
 neither true true = refl
 neither true false = refl
 neither false true = refl
 neither false false = refl
 
-pub unused : (st : InterfaceState) (q : List ℕ) → is_name st.device q ≡ false → is_name st.layer q ≡ false → claim_of q st ≡ 0
-unused st q no_device no_layer = ap one
-    (ap (λ b. (st.is_claimed && b) || (st.is_up && is_name st.layer q)) no_device
-    ∙ ap (λ b. (st.is_claimed && false) || (st.is_up && b)) no_layer
+pub unused : (st : InterfaceState) (q : List ℕ) → is_name st.device q ≡ false → is_name st.l3_device q ≡ false → claim_of q st ≡ 0
+unused st q no_device no_l3_device = ap one
+    (ap (λ b. (st.is_claimed && b) || (st.is_up && is_name st.l3_device q)) no_device
+    ∙ ap (λ b. (st.is_claimed && false) || (st.is_up && b)) no_l3_device
     ∙ neither st.is_claimed st.is_up)
 
 -- ---- three names, apart from each other
 
 module _ (old new : InterfaceState) where
   abbrev pub second_name : Option (List ℕ)
-  second_name = apart_from old.device None old.layer
+  second_name = apart_from old.device None old.l3_device
 
   abbrev pub third_name : Option (List ℕ)
-  third_name = apart_from old.device old.layer new.layer
+  third_name = apart_from old.device old.l3_device new.l3_device
 
-  no_old_layer : (q : List ℕ) → is_name old.device q ≡ false → is_name second_name q ≡ false → is_name old.layer q ≡ false
-  no_old_layer q no_device no_second = false_of_not (is_name old.layer q) (λ is.
-      elim (either (is_name old.device q) false (not_apart old.device None old.layer q no_second is)) as (λ _. ⊥) [
+  no_old_l3_device : (q : List ℕ) → is_name old.device q ≡ false → is_name second_name q ≡ false → is_name old.l3_device q ≡ false
+  no_old_l3_device q no_device no_second = false_of_not (is_name old.l3_device q) (λ is.
+      elim (either (is_name old.device q) false (not_apart old.device None old.l3_device q no_second is)) as (λ _. ⊥) [
         | inl h ↦ cc (h, no_device)
         | inr h ↦ cc h
       ])
 
-  no_new_layer : (q : List ℕ) → is_name old.device q ≡ false → is_name old.layer q ≡ false → is_name third_name q ≡ false → is_name new.layer q ≡ false
-  no_new_layer q no_device no_layer no_third = false_of_not (is_name new.layer q) (λ is.
-      elim (either (is_name old.device q) (is_name old.layer q) (not_apart old.device old.layer new.layer q no_third is)) as (λ _. ⊥) [
+  no_new_l3_device : (q : List ℕ) → is_name old.device q ≡ false → is_name old.l3_device q ≡ false → is_name third_name q ≡ false → is_name new.l3_device q ≡ false
+  no_new_l3_device q no_device no_l3_device no_third = false_of_not (is_name new.l3_device q) (λ is.
+      elim (either (is_name old.device q) (is_name old.l3_device q) (not_apart old.device old.l3_device new.l3_device q no_third is)) as (λ _. ⊥) [
         | inl h ↦ cc (h, no_device)
-        | inr h ↦ cc (h, no_layer)
+        | inr h ↦ cc (h, no_l3_device)
       ])
 
   -- a name of the three is that of one alone
   second_alone : (q : List ℕ) → is_name second_name q ≡ true → (is_name old.device q ≡ false) × (is_name third_name q ≡ false)
   second_alone q h =
-      let apart = named_apart old.device None old.layer q h in
-      (apart.off_first, false_of_not (is_name third_name q) (λ third. let other = named_apart old.device old.layer new.layer q third in cc (other.off_second, apart.is)))
+      let apart = named_apart old.device None old.l3_device q h in
+      (apart.off_first, false_of_not (is_name third_name q) (λ third. let other = named_apart old.device old.l3_device new.l3_device q third in cc (other.off_second, apart.is)))
 
   first_alone : (q : List ℕ) → is_name old.device q ≡ true → (is_name second_name q ≡ false) × (is_name third_name q ≡ false)
   first_alone q h = (
-    false_of_not (is_name second_name q) (λ second. let other = named_apart old.device None old.layer q second in cc (other.off_first, h)),
-    false_of_not (is_name third_name q) (λ third. let other = named_apart old.device old.layer new.layer q third in cc (other.off_first, h)),
+    false_of_not (is_name second_name q) (λ second. let other = named_apart old.device None old.l3_device q second in cc (other.off_first, h)),
+    false_of_not (is_name third_name q) (λ third. let other = named_apart old.device old.l3_device new.l3_device q third in cc (other.off_first, h)),
   )
 
   third_alone : (q : List ℕ) → is_name third_name q ≡ true → (is_name old.device q ≡ false) × (is_name second_name q ≡ false)
   third_alone q h =
-      let apart = named_apart old.device old.layer new.layer q h in
-      (apart.off_first, false_of_not (is_name second_name q) (λ second. let other = named_apart old.device None old.layer q second in cc (other.is, apart.off_second)))
+      let apart = named_apart old.device old.l3_device new.l3_device q h in
+      (apart.off_first, false_of_not (is_name second_name q) (λ second. let other = named_apart old.device None old.l3_device q second in cc (other.is, apart.off_second)))
 
   told : (o : Option (List ℕ)) (q : List ℕ) (st : InterfaceState) → is_name o q ≡ true → claim_where o q st ≡ claim_of q st
   told o q st h = ap (λ b. cond b (claim_of q st) 0) h
@@ -156,9 +156,9 @@ module _ (old new : InterfaceState) where
           let z = left_by second_name s t second q is_b in
           omega (arith, three_sum, x1, x2, y, z)
       by false false false is_a is_b is_c =
-          let no_layer = no_old_layer q is_a is_b in
-          let x1 = unused old q is_a no_layer in
-          let x2 = unused new q (ap (λ (d : Option (List ℕ)). is_name d q) same ∙ is_a) (no_new_layer q is_a no_layer is_c) in
+          let no_l3_device = no_old_l3_device q is_a is_b in
+          let x1 = unused old q is_a no_l3_device in
+          let x2 = unused new q (ap (λ (d : Option (List ℕ)). is_name d q) same ∙ is_a) (no_new_l3_device q is_a no_l3_device is_c) in
           let y = left_by old.device r s first q is_a in
           let z = left_by second_name s t second q is_b in
           let w = left_by third_name t u third q is_c in

@@ -21,7 +21,7 @@ pub fn forget_claims<L: Ledger>(graph: &mut Graph, states: &[InterfaceState], st
 {
     for state in states {
         forget_claim(graph, &state.device, steps);
-        forget_claim(graph, &state.layer, steps);
+        forget_claim(graph, &state.l3_device, steps);
     }
 }
 

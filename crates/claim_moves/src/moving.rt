@@ -25,9 +25,9 @@ pub fn move_claims<L: Ledger>(
     ensures stays { DiffersInClaims graph.old graph.new }
 {
     move_named(graph, &old.device, old, new, steps);
-    let before = apart_from(&old.device, &None, &old.layer);
+    let before = apart_from(&old.device, &None, &old.l3_device);
     move_named(graph, &before, old, new, steps);
-    let now = apart_from(&old.device, &old.layer, &new.layer);
+    let now = apart_from(&old.device, &old.l3_device, &new.l3_device);
     move_named(graph, &now, old, new, steps);
 }
 

@@ -486,10 +486,10 @@ impl Graph {
     }
 
     /// Whether the link of a name is taken, or a link on which the name stands.
-    pub fn falls(&self, name: &DevName) -> bool
-        ensures { result ≡ calls.falls_in self.now name.now }
+    pub fn loses_link(&self, name: &DevName) -> bool
+        ensures { result ≡ calls.loses_link_in self.now name.now }
     {
-        self.objects.falls(name)
+        self.objects.loses_link(name)
     }
 
     /// How many objects are in one of what is held and what is wanted, and not in the other.

@@ -17,14 +17,14 @@ use Rattle.gift_places.specs.Expecting.{held_alone, all_held_alone, with_held_al
 
 -- a gift that is held, and nothing else is told of it
 abbrev just_held : Object → Gift
-just_held o = record { object = o; givers = 0; held = true; falls = false }
+just_held o = record { object = o; givers = 0; held = true; loses_link = false }
 
 noted_last : (gs : Gifts) (o : Object) → has_place gs o ≡ false → noted (gs ++ empty_gift o ∷ []) o true ≡ gs ++ just_held o ∷ []
 noted_last [] o none = ap (λ b. (if b then just_held o else empty_gift o) ∷ []) (of_itself o)
 noted_last (x ∷ xs) o none = by (is_of o x) none (noted_last xs o)
   where
     by : (b : Bool) → is_some (cond b (Some x) (gift_of xs o)) ≡ false → (has_place xs o ≡ false → noted (xs ++ empty_gift o ∷ []) o true ≡ xs ++ just_held o ∷ [])
-        → (if b then record x { held = true; falls = false } else x) ∷ noted (xs ++ empty_gift o ∷ []) o true ≡ x ∷ (xs ++ just_held o ∷ [])
+        → (if b then record x { held = true; loses_link = false } else x) ∷ noted (xs ++ empty_gift o ∷ []) o true ≡ x ∷ (xs ++ just_held o ∷ [])
     by true none rest = cc none
     by false none rest = ap (λ (ys : Gifts). x ∷ ys) (rest none)
 

@@ -32,7 +32,7 @@ pub record HasMorePlaces (before now : Gifts) : Type 0 where
 
 -- a gift that is held and that nobody gives
 abbrev pub held_alone : Gift → Gift
-held_alone g = record g { givers = 0; falls = false }
+held_alone g = record g { givers = 0; loses_link = false }
 
 -- of some gifts those that are held, and nobody gives them
 abbrev pub all_held_alone : Gifts → Gifts

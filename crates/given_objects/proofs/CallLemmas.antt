@@ -27,7 +27,7 @@ use Rattle.kern_calls.specs.Upper.{is_upper, upper_part, is_upper_take, is_upper
 use Rattle.kern_calls.proofs.UpperLemmas.{upper_taken, upper_put}
 use Rattle.given_objects.specs.declared.gift.Gift.{Gift}
 use Rattle.given_objects.specs.Gifts.{Gifts, is_given, held_of, given_of, AreGifts}
-use Rattle.given_objects.specs.First.{is_take_due, is_put_due, plain_take, IsFirstGift, NoneDue, KnowFalls}
+use Rattle.given_objects.specs.First.{is_take_due, is_put_due, plain_take, IsFirstGift, NoneDue, KnowLostLinks}
 use Rattle.given_objects.proofs.ChangeLemmas.{HasGift, of_gift, has_gift, one_gift}
 use Rattle.given_objects.proofs.OrderLemmas.{no_mac, takes_in_order, puts_in_order}
 
@@ -58,7 +58,7 @@ find_none p (x ∷ xs) none = by (find_none p xs (λ y m. none y (there x xs y m
     by rest true is = absurd (none x (here x xs) is)
     by rest false is = find_step p x xs false is ∙ rest
 
-module _ (devices : Devices) (held wanted : Objects) (gs : Gifts) (are : AreGifts gs) (own_held : upper_part held ≡ held_of gs) (own_given : upper_part wanted ≡ given_of gs) (know : KnowFalls held wanted gs) where
+module _ (devices : Devices) (held wanted : Objects) (gs : Gifts) (are : AreGifts gs) (own_held : upper_part held ≡ held_of gs) (own_given : upper_part wanted ≡ given_of gs) (know : KnowLostLinks held wanted gs) where
   -- gifts are in both sides as they tell
   held_is : (g : Gift) → Contains gs g → g.held ≡ true → Has held g.object
   held_is g member h = (of_retained held is_upper g.object (subst (λ s. Has s g.object) (sym own_held) (of_gift (λ (g : Gift). g.held) gs g member h))).0
@@ -85,12 +85,12 @@ module _ (devices : Devices) (held wanted : Objects) (gs : Gifts) (are : AreGift
   -- what is due is taken
   is_taken_gift : (g : Gift) → Contains gs g → is_take_due g ≡ true → is_taken held wanted g.object ≡ true
   is_taken_gift g member due =
-      let parts = both g.held (not (is_given g) || g.falls) due in
+      let parts = both g.held (not (is_given g) || g.loses_link) due in
       upper_taken held wanted g.object (are.upper g member) (held_is g member parts.0)
-      ∙ (elim (true_or_not (is_given g)) as (λ _. (not (set.contains wanted g.object) || touched.falls held wanted (name_of g.object)) ≡ true) [
-        | inl given ↦ of_right (not (set.contains wanted g.object)) (touched.falls held wanted (name_of g.object))
-            (sym (know g member parts.0 given) ∙ (elim (either (not (is_given g)) g.falls parts.1) as (λ _. g.falls ≡ true) [ inl none ↦ absurd (not_true (is_given g) none given) | inr falls ↦ falls ]))
-        | inr none ↦ of_left (not (set.contains wanted g.object)) (touched.falls held wanted (name_of g.object))
+      ∙ (elim (true_or_not (is_given g)) as (λ _. (not (set.contains wanted g.object) || touched.loses_link held wanted (name_of g.object)) ≡ true) [
+        | inl given ↦ of_right (not (set.contains wanted g.object)) (touched.loses_link held wanted (name_of g.object))
+            (sym (know g member parts.0 given) ∙ (elim (either (not (is_given g)) g.loses_link parts.1) as (λ _. g.loses_link ≡ true) [ inl none ↦ absurd (not_true (is_given g) none given) | inr loses_link ↦ loses_link ]))
+        | inr none ↦ of_left (not (set.contains wanted g.object)) (touched.loses_link held wanted (name_of g.object))
             (of_not (set.contains wanted g.object) (λ is. none (given_tells g member is)))
       ])
 
@@ -103,14 +103,14 @@ module _ (devices : Devices) (held wanted : Objects) (gs : Gifts) (are : AreGift
       record {
         gift = g;
         member = from.member;
-        passes = of_both g.held (not (is_given g) || g.falls) from.passes
-            (elim (true_or_not (is_given g)) as (λ _. (not (is_given g) || g.falls) ≡ true) [
-              | inr none ↦ of_left (not (is_given g)) g.falls (of_not (is_given g) none)
-              | inl given ↦ of_right (not (is_given g)) g.falls
+        passes = of_both g.held (not (is_given g) || g.loses_link) from.passes
+            (elim (true_or_not (is_given g)) as (λ _. (not (is_given g) || g.loses_link) ≡ true) [
+              | inr none ↦ of_left (not (is_given g)) g.loses_link (of_not (is_given g) none)
+              | inl given ↦ of_right (not (is_given g)) g.loses_link
                   (know g from.member from.passes given
-                  ∙ (elim (either (not (set.contains wanted o)) (touched.falls held wanted (name_of o)) (sym (upper_taken held wanted o upper had) ∙ taken)) as (λ _. touched.falls held wanted (name_of g.object) ≡ true) [
+                  ∙ (elim (either (not (set.contains wanted o)) (touched.loses_link held wanted (name_of o)) (sym (upper_taken held wanted o upper had) ∙ taken)) as (λ _. touched.loses_link held wanted (name_of g.object) ≡ true) [
                     | inl unwanted ↦ absurd (not_true (set.contains wanted o) unwanted (subst (Has wanted) from.is (wanted_is g from.member given)))
-                    | inr falls ↦ subst (λ x. touched.falls held wanted (name_of x) ≡ true) (sym from.is) falls
+                    | inr loses_link ↦ subst (λ x. touched.loses_link held wanted (name_of x) ≡ true) (sym from.is) loses_link
                   ]))
             ]);
         is = from.is;
@@ -121,7 +121,7 @@ module _ (devices : Devices) (held wanted : Objects) (gs : Gifts) (are : AreGift
   is_put_gift g member due =
       let parts = both (is_given g) (not g.held) due in
       upper_put held wanted g.object (are.upper g member) (wanted_is g member parts.0)
-      ∙ of_left (not (set.contains held g.object)) (touched.falls held wanted (name_of g.object))
+      ∙ of_left (not (set.contains held g.object)) (touched.loses_link held wanted (name_of g.object))
       (of_not (set.contains held g.object) (λ is. not_true g.held parts.1 (held_tells g member is)))
 
   -- and what is put is due, where nothing is to be taken
@@ -134,11 +134,11 @@ module _ (devices : Devices) (held wanted : Objects) (gs : Gifts) (are : AreGift
         gift = g;
         member = from.member;
         passes = of_both (is_given g) (not g.held) from.passes (of_not g.held (λ had.
-            none g from.member (of_both g.held (not (is_given g) || g.falls) had (of_right (not (is_given g)) g.falls
+            none g from.member (of_both g.held (not (is_given g) || g.loses_link) had (of_right (not (is_given g)) g.loses_link
             (know g from.member had from.passes
-            ∙ (elim (either (not (set.contains held o)) (touched.falls held wanted (name_of o)) (sym (upper_put held wanted o upper is) ∙ puts)) as (λ _. touched.falls held wanted (name_of g.object) ≡ true) [
+            ∙ (elim (either (not (set.contains held o)) (touched.loses_link held wanted (name_of o)) (sym (upper_put held wanted o upper is) ∙ puts)) as (λ _. touched.loses_link held wanted (name_of g.object) ≡ true) [
               | inl unheld ↦ absurd (not_true (set.contains held o) unheld (subst (Has held) from.is (held_is g from.member had)))
-              | inr falls ↦ subst (λ x. touched.falls held wanted (name_of x) ≡ true) (sym from.is) falls
+              | inr loses_link ↦ subst (λ x. touched.loses_link held wanted (name_of x) ≡ true) (sym from.is) loses_link
             ]))))));
         is = from.is;
       }

@@ -19,7 +19,7 @@ use Rattle.kern_model.proofs.SetLemmas.{same_object, has_retained, of_retained, 
 use Rattle.kern_calls.specs.Upper.{is_upper}
 use Rattle.given_objects.specs.declared.gift.Gift.{Gift}
 use Rattle.given_objects.specs.Gifts.{Gifts, is_of, gift_of, has_place, givers_of, is_given, objects_by, held_of, given_of, AreGifts}
-use Rattle.given_objects.specs.Changes.{empty_gift, with_place, changed, given_once_more, given_once_less, noted, with_falls}
+use Rattle.given_objects.specs.Changes.{empty_gift, with_place, changed, given_once_more, given_once_less, noted, with_lost_link}
 use Rattle.given_objects.proofs.ChangeLemmas.{of_itself, one_gift, found_gift, some_givers, set_stays, set_grows, set_shrinks, changed_gifts}
 use Rattle.given_objects.proofs.FirstLemmas.{old_or_new}
 
@@ -81,14 +81,14 @@ pub withdraw_gifts : (gs : Gifts) (o : Object) → AreGifts gs → AreGifts (giv
 withdraw_gifts gs o are = changed_gifts (λ (g : Gift). record g { givers = g.givers - 1 }) gs o (λ g. refl) are
 
 pub note_gifts : (gs : Gifts) (o : Object) (held : Bool) → AreGifts gs → AreGifts (noted gs o held)
-note_gifts gs o held are = changed_gifts (λ (g : Gift). record g { held = held; falls = false }) gs o (λ g. refl) are
+note_gifts gs o held are = changed_gifts (λ (g : Gift). record g { held = held; loses_link = false }) gs o (λ g. refl) are
 
 -- what is told of a name at a place is a change of one gift
-told_at : (gs : Gifts) (place : ℕ) (falls : Bool) (g : Gift) → slice_get gs place ≡ Some g → with_falls gs place falls ≡ slice_set gs place (record g { falls = falls })
-told_at gs place falls g at = ap (λ r. option_map_or (λ (g : Gift). slice_set gs place (record g { falls = falls })) r gs) at
+told_at : (gs : Gifts) (place : ℕ) (loses_link : Bool) (g : Gift) → slice_get gs place ≡ Some g → with_lost_link gs place loses_link ≡ slice_set gs place (record g { loses_link = loses_link })
+told_at gs place loses_link g at = ap (λ r. option_map_or (λ (g : Gift). slice_set gs place (record g { loses_link = loses_link })) r gs) at
 
-not_told : (gs : Gifts) (place : ℕ) (falls : Bool) → slice_get gs place ≡ None → with_falls gs place falls ≡ gs
-not_told gs place falls at = ap (λ r. option_map_or (λ (g : Gift). slice_set gs place (record g { falls = falls })) r gs) at
+not_told : (gs : Gifts) (place : ℕ) (loses_link : Bool) → slice_get gs place ≡ None → with_lost_link gs place loses_link ≡ gs
+not_told gs place loses_link at = ap (λ r. option_map_or (λ (g : Gift). slice_set gs place (record g { loses_link = loses_link })) r gs) at
 
 -- what is told that was known
 set_same : (gs : Gifts) (place : ℕ) (g : Gift) → slice_get gs place ≡ Some g → slice_set gs place g ≡ gs
@@ -102,8 +102,8 @@ same_flag true false is = cc is
 same_flag false true is = cc is
 same_flag false false is = refl
 
-pub told_again : (gs : Gifts) (place : ℕ) (falls : Bool) (g : Gift) → slice_get gs place ≡ Some g → g.falls ≡ falls → gs ≡ with_falls gs place falls
-told_again gs place falls g at is = sym (told_at gs place falls g at ∙ ap (λ (b : Bool). slice_set gs place (record g { falls = b })) (sym is) ∙ set_same gs place g at)
+pub told_again : (gs : Gifts) (place : ℕ) (loses_link : Bool) (g : Gift) → slice_get gs place ≡ Some g → g.loses_link ≡ loses_link → gs ≡ with_lost_link gs place loses_link
+told_again gs place loses_link g at is = sym (told_at gs place loses_link g at ∙ ap (λ (b : Bool). slice_set gs place (record g { loses_link = b })) (sym is) ∙ set_same gs place g at)
 
 -- one gift in another's place, with the same of all that a test or a map sees
 module _ {Y : Type 0} (f : Gift → Y) where
@@ -143,32 +143,32 @@ at_member [] place g at = cc at
 at_member (x ∷ xs) zero g at = subst (Contains (x ∷ xs)) (cc at) (here x xs)
 at_member (x ∷ xs) (suc i) g at = there x xs g (at_member xs i g at)
 
-module _ (gs : Gifts) (place : ℕ) (falls : Bool) where
-  pub by_place : (P : Gifts → Type 0) → P gs → ((g : Gift) → slice_get gs place ≡ Some g → P (slice_set gs place (record g { falls = falls }))) → P (with_falls gs place falls)
+module _ (gs : Gifts) (place : ℕ) (loses_link : Bool) where
+  pub by_place : (P : Gifts → Type 0) → P gs → ((g : Gift) → slice_get gs place ≡ Some g → P (slice_set gs place (record g { loses_link = loses_link }))) → P (with_lost_link gs place loses_link)
   by_place P stays told = by (slice_get gs place) refl
     where
-      by : (r : Option Gift) → slice_get gs place ≡ r → P (with_falls gs place falls)
-      by None at = subst P (sym (not_told gs place falls at)) stays
-      by (Some g) at = subst P (sym (told_at gs place falls g at)) (told g at)
+      by : (r : Option Gift) → slice_get gs place ≡ r → P (with_lost_link gs place loses_link)
+      by None at = subst P (sym (not_told gs place loses_link at)) stays
+      by (Some g) at = subst P (sym (told_at gs place loses_link g at)) (told g at)
 
-  pub falls_gifts : AreGifts gs → AreGifts (with_falls gs place falls)
-  falls_gifts are = by_place AreGifts are (λ g at. record {
-    once = subst AreDistinct (sym (same_map (λ (g : Gift). g.object) gs place g (record g { falls = falls }) at refl)) are.once;
-    upper = λ x member. elim (set_member gs place (record g { falls = falls }) x member) as (λ _. is_upper x.object ≡ true) [
+  pub loses_link_gifts : AreGifts gs → AreGifts (with_lost_link gs place loses_link)
+  loses_link_gifts are = by_place AreGifts are (λ g at. record {
+    once = subst AreDistinct (sym (same_map (λ (g : Gift). g.object) gs place g (record g { loses_link = loses_link }) at refl)) are.once;
+    upper = λ x member. elim (set_member gs place (record g { loses_link = loses_link }) x member) as (λ _. is_upper x.object ≡ true) [
       | inl old ↦ are.upper x old
       | inr new ↦ subst (λ (y : Gift). is_upper y.object ≡ true) new (are.upper g (at_member gs place g at))
     ];
-    fit = λ x member. elim (set_member gs place (record g { falls = falls }) x member) as (λ _. IsPrintable x.object) [
+    fit = λ x member. elim (set_member gs place (record g { loses_link = loses_link }) x member) as (λ _. IsPrintable x.object) [
       | inl old ↦ are.fit x old
       | inr new ↦ subst (λ (y : Gift). IsPrintable y.object) new (are.fit g (at_member gs place g at))
     ];
   })
 
-  pub falls_held : held_of (with_falls gs place falls) ≡ held_of gs
-  falls_held = by_place (λ xs. held_of xs ≡ held_of gs) refl (λ g at. ap set.from_list (same_filter (λ (g : Gift). g.held) gs place g (record g { falls = falls }) at refl refl))
+  pub loses_link_held : held_of (with_lost_link gs place loses_link) ≡ held_of gs
+  loses_link_held = by_place (λ xs. held_of xs ≡ held_of gs) refl (λ g at. ap set.from_list (same_filter (λ (g : Gift). g.held) gs place g (record g { loses_link = loses_link }) at refl refl))
 
-  pub falls_given : given_of (with_falls gs place falls) ≡ given_of gs
-  falls_given = by_place (λ xs. given_of xs ≡ given_of gs) refl (λ g at. ap set.from_list (same_filter is_given gs place g (record g { falls = falls }) at refl refl))
+  pub loses_link_given : given_of (with_lost_link gs place loses_link) ≡ given_of gs
+  loses_link_given = by_place (λ xs. given_of xs ≡ given_of gs) refl (λ g at. ap set.from_list (same_filter is_given gs place g (record g { loses_link = loses_link }) at refl refl))
 
 -- a place without givers adds nothing to a set of what passes a test
 place_adds_none : (test : Gift → Bool) (gs : Gifts) (o : Object) → test (empty_gift o) ≡ false → objects_by test (with_place gs o) ≡ objects_by test gs
@@ -190,7 +190,7 @@ place_given gs o = place_adds_none is_given gs o refl
 
 -- what notes do
 pub note_given : (gs : Gifts) (o : Object) (held : Bool) → given_of (noted gs o held) ≡ given_of gs
-note_given gs o held = set_stays (λ (g : Gift). record g { held = held; falls = false }) gs o (λ g. refl) is_given (λ g member is. refl)
+note_given gs o held = set_stays (λ (g : Gift). record g { held = held; loses_link = false }) gs o (λ g. refl) is_given (λ g member is. refl)
 
 never_replaces : (o x : Object) → is_upper o ≡ true → not (replaces o x) ≡ true
 never_replaces (object.Address dev cidr) x h = refl
@@ -199,13 +199,13 @@ never_replaces o x h = absurd (cc h)
 
 pub note_put : (gs : Gifts) (o : Object) → has_place gs o ≡ true → is_upper o ≡ true → held_of (noted gs o true) ≡ after_call (held_of gs) (Put o)
 note_put gs o place upper =
-    set_grows (λ (g : Gift). record g { held = true; falls = false }) gs o (λ g. refl) (λ (g : Gift). g.held) place (λ g. refl)
+    set_grows (λ (g : Gift). record g { held = true; loses_link = false }) gs o (λ g. refl) (λ (g : Gift). g.held) place (λ g. refl)
     ∙ ap (λ s. set.insert s o) (sym (same_members (set.retain (held_of gs) (λ x. not (replaces o x))) (held_of gs)
     (λ x h. (of_retained (held_of gs) (λ y. not (replaces o y)) x h).0)
     (λ x h. has_retained (held_of gs) (λ y. not (replaces o y)) x h (never_replaces o x upper))))
 
 pub note_take : (gs : Gifts) (o : Object) → held_of (noted gs o false) ≡ set.remove (held_of gs) o
-note_take gs o = set_shrinks (λ (g : Gift). record g { held = false; falls = false }) gs o (λ g. refl) (λ (g : Gift). g.held) (λ g member is. refl)
+note_take gs o = set_shrinks (λ (g : Gift). record g { held = false; loses_link = false }) gs o (λ g. refl) (λ (g : Gift). g.held) (λ g member is. refl)
 
 -- what givers do
 pub give_held : (gs : Gifts) (o : Object) → held_of (given_once_more gs o) ≡ held_of gs

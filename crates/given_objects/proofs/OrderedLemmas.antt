@@ -25,7 +25,7 @@ use Rattle.given_objects.specs.declared.first.Turn.{Turn}
 use Rattle.given_objects.specs.declared.first.Turn.TheVariants.{Takes, Puts}
 use Rattle.given_objects.specs.declared.order.Placed.{Placed}
 use Rattle.given_objects.specs.Gifts.{Gifts, is_of, gift_of, is_given, AreGifts}
-use Rattle.given_objects.specs.Changes.{changed, noted, with_falls}
+use Rattle.given_objects.specs.Changes.{changed, noted, with_lost_link}
 use Rattle.given_objects.specs.Keys.{key_eq}
 use Rattle.given_objects.specs.Inside.{Entries, gift_in, listed}
 use Rattle.given_objects.specs.First.{IsFirstGift, NoneDue}
@@ -44,7 +44,7 @@ places_total = then_total (on_total (λ p. p.rank) nat_cmp_total) (on_total (λ 
 -- what is due comes
 pub due_comes : (turn : Turn) (g : Gift) → is_due turn g ≡ true → is_coming turn g ≡ true
 due_comes Takes g due = due
-due_comes Puts g due = by (is_given g) g.held g.falls due
+due_comes Puts g due = by (is_given g) g.held g.loses_link due
   where
     by : (a h f : Bool) → (a && not h) ≡ true → (a && (not h || f)) ≡ true
     by true false f h = refl
@@ -296,10 +296,10 @@ module _ (turn : Turn) (gs : Gifts) where
             done p (at ∙ ap (λ (x : Placed). Some x) same)
 
 -- What comes after a call that was due came before it.
-came : (turn : Turn) (held : Bool) (g : Gift) → is_due (turn_of held) g ≡ true → is_coming turn (record g { held = held; falls = false }) ≡ true → is_coming turn g ≡ true
+came : (turn : Turn) (held : Bool) (g : Gift) → is_due (turn_of held) g ≡ true → is_coming turn (record g { held = held; loses_link = false }) ≡ true → is_coming turn g ≡ true
 came Takes true g due comes = by (is_given g) g.held due comes
   where
-    by : (a h : Bool) → (a && not h) ≡ true → (true && (not a || false)) ≡ true → (h && (not a || g.falls)) ≡ true
+    by : (a h : Bool) → (a && not h) ≡ true → (true && (not a || false)) ≡ true → (h && (not a || g.loses_link)) ≡ true
     by true h due comes = absurd (cc comes)
     by false h due comes = absurd (cc due)
 came Puts true g due comes = absurd (by (is_given g) comes)
@@ -308,7 +308,7 @@ came Puts true g due comes = absurd (by (is_given g) comes)
     by true comes = cc comes
     by false comes = cc comes
 came Takes false g due comes = absurd (cc comes)
-came Puts false g due comes = by (is_given g) g.held g.falls due comes
+came Puts false g due comes = by (is_given g) g.held g.loses_link due comes
   where
     by : (a h f : Bool) → (h && (not a || f)) ≡ true → (a && (not false || false)) ≡ true → (a && (not h || f)) ≡ true
     by true true true due comes = refl
@@ -321,7 +321,7 @@ pub lists_go_on : (turn : Turn) (gs now : Gifts) (o : Object) (held : Bool) → 
 lists_go_on turn gs now o held is due ps lists = subst (λ (xs : Gifts). ListsComing turn xs ps) (sym is) (record {
   at = lists.at;
   all = λ g member comes.
-      let past = was_gift (λ (x : Gift). record x { held = held; falls = false }) gs o g member in
+      let past = was_gift (λ (x : Gift). record x { held = held; loses_link = false }) gs o g member in
       elim past.by as (λ _. Contains ps (placed turn g.object)) [
         | inl made ↦ subst (λ (x : Gift). Contains ps (placed turn x.object)) made.1
             (lists.all past.was past.member (came turn held past.was (due past.was past.member made.0) (ap (is_coming turn) made.1 ∙ comes)))
@@ -344,8 +344,9 @@ one_more es now g is = let more = longer (listed es) in omega (arith, as_many no
     longer [] = refl
     longer (x ∷ xs) = let rest = longer xs in omega (arith, rest)
 
-pub as_many_told : (es now : Entries) (place : ℕ) (falls : Bool) → listed now ≡ with_falls (listed es) place falls → length now ≡ length es
-as_many_told es now place falls is = sym (as_many now) ∙ ap length is ∙ by_place (listed es) place falls (λ (gs : Gifts). length gs ≡ length (listed es)) refl (λ g at. length-set (listed es) place (record g { falls = falls })) ∙ as_many es
+pub as_many_told : (es now : Entries) (place : ℕ) (loses_link : Bool) → listed now ≡ with_lost_link (listed es) place loses_link → length now ≡ length es
+as_many_told es now place loses_link is = sym (as_many now) ∙ ap length is
+    ∙ by_place (listed es) place loses_link (λ (gs : Gifts). length gs ≡ length (listed es)) refl (λ g at. length-set (listed es) place (record g { loses_link = loses_link })) ∙ as_many es
 
 -- the gift at the place of a key that was due is every gift of its object
 pub due_there : (gs : Gifts) → AreGifts gs → (k : GiftKey) (es : Entries) → listed es ≡ gs → (held : Bool) (i : ℕ) (found : Gift) → position (key_eq k) (keys_of es) ≡ Some i → slice_get (listed es) i ≡ Some found

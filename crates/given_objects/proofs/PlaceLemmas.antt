@@ -7,7 +7,7 @@ use Rattle.kern_model.specs.declared.object.Object.{Object}
 use Rattle.kern_model.specs.ObjectOrder.{object_cmp}
 use Rattle.given_objects.specs.declared.gift.Gift.{Gift}
 use Rattle.given_objects.specs.Gifts.{Gifts, is_of, gift_of, has_place, givers_of}
-use Rattle.given_objects.specs.Changes.{empty_gift, with_place, given_once_more, given_once_less, noted, with_falls}
+use Rattle.given_objects.specs.Changes.{empty_gift, with_place, given_once_more, given_once_less, noted, with_lost_link}
 use Rattle.given_objects.proofs.ChangeLemmas.{of_itself}
 use Rattle.given_objects.proofs.KeepLemmas.{place_stays, givers_stay, givers_made, by_place}
 
@@ -18,7 +18,7 @@ abbrev less : Gift → Gift
 less g = record g { givers = g.givers - 1 }
 
 abbrev note : Bool → Gift → Gift
-note held g = record g { held = held; falls = false }
+note held g = record g { held = held; loses_link = false }
 
 -- places stay
 pub give_places : (gs : Gifts) (o x : Object) → has_place (given_once_more gs o) x ≡ has_place gs x
@@ -65,13 +65,13 @@ module _ {Y : Type 0} (f : Option Gift → Y) (x : Object) (alike : (g h : Gift)
       by true rest = refl
       by false rest = rest
 
-pub falls_places : (gs : Gifts) (place : ℕ) (falls : Bool) (x : Object) → has_place (with_falls gs place falls) x ≡ has_place gs x
-falls_places gs place falls x = by_place gs place falls (λ xs. has_place xs x ≡ has_place gs x) refl
-    (λ g at. found_alike is_some x (λ g h object givers. refl) gs place g (record g { falls = falls }) at refl refl)
+pub loses_link_places : (gs : Gifts) (place : ℕ) (loses_link : Bool) (x : Object) → has_place (with_lost_link gs place loses_link) x ≡ has_place gs x
+loses_link_places gs place loses_link x = by_place gs place loses_link (λ xs. has_place xs x ≡ has_place gs x) refl
+    (λ g at. found_alike is_some x (λ g h object givers. refl) gs place g (record g { loses_link = loses_link }) at refl refl)
 
-pub falls_givers : (gs : Gifts) (place : ℕ) (falls : Bool) (x : Object) → givers_of (with_falls gs place falls) x ≡ givers_of gs x
-falls_givers gs place falls x = by_place gs place falls (λ xs. givers_of xs x ≡ givers_of gs x) refl
-    (λ g at. found_alike (λ r. option_map_or (λ (g : Gift). g.givers) r 0) x (λ g h object givers. givers) gs place g (record g { falls = falls }) at refl refl)
+pub loses_link_givers : (gs : Gifts) (place : ℕ) (loses_link : Bool) (x : Object) → givers_of (with_lost_link gs place loses_link) x ≡ givers_of gs x
+loses_link_givers gs place loses_link x = by_place gs place loses_link (λ xs. givers_of xs x ≡ givers_of gs x) refl
+    (λ g at. found_alike (λ r. option_map_or (λ (g : Gift). g.givers) r 0) x (λ g h object givers. givers) gs place g (record g { loses_link = loses_link }) at refl refl)
 
 -- a place that is expected
 module _ (gs : Gifts) (o : Object) where

@@ -15,7 +15,7 @@ use Rattle.given_objects.specs.declared.key.GiftKey.{GiftKey}
 use Rattle.given_objects.specs.declared.gift.Gift.{Gift}
 use Rattle.given_objects.specs.declared.gift.Counts.{Counts}
 use Rattle.given_objects.specs.Gifts.{Gifts, gift_of, has_place, givers_of}
-use Rattle.given_objects.specs.Changes.{changed, with_place, empty_gift, with_falls}
+use Rattle.given_objects.specs.Changes.{changed, with_place, empty_gift, with_lost_link}
 use Rattle.given_objects.specs.Keys.{key_eq}
 use Rattle.given_objects.specs.Inside.{Entries, gift_in, listed}
 use Rattle.given_objects.proofs.KeyLemmas.{key_same, key_itself}
@@ -135,12 +135,12 @@ set_at [] i c w at = cc at
 set_at (e ∷ es) zero c w at = refl
 set_at (e ∷ es) (suc i) c w at = ap (λ gs. gift_in e ∷ gs) (set_at es i c w at)
 
-pub falls_at : (es : Entries) (i : ℕ) (c : Counts) (falls : Bool) → slice_get (map (λ (e : GiftKey × Counts). e.1) es) i ≡ Some c
-    → listed (set_value_at es i (record c { falls = falls })) ≡ with_falls (listed es) i falls
-falls_at es i c falls at =
+pub loses_link_at : (es : Entries) (i : ℕ) (c : Counts) (loses_link : Bool) → slice_get (map (λ (e : GiftKey × Counts). e.1) es) i ≡ Some c
+    → listed (set_value_at es i (record c { loses_link = loses_link })) ≡ with_lost_link (listed es) i loses_link
+loses_link_at es i c loses_link at =
     let gs = listed es in
-    set_at es i c (record c { falls = falls }) at
-    ∙ sym (ap (λ r. option_map_or (λ (g : Gift). slice_set gs i (record g { falls = falls })) r gs) (read_at es i (get_or (keys_of es) i some_key, c) (pair_at es i c some_key at)))
+    set_at es i c (record c { loses_link = loses_link }) at
+    ∙ sym (ap (λ r. option_map_or (λ (g : Gift). slice_set gs i (record g { loses_link = loses_link })) r gs) (read_at es i (get_or (keys_of es) i some_key, c) (pair_at es i c some_key at)))
 
 pub gift_told : (es : Entries) (i : ℕ) (c : Counts) → slice_get (map (λ (e : GiftKey × Counts). e.1) es) i ≡ Some c → slice_get (listed es) i ≡ Some (gift_in (get_or (keys_of es) i some_key, c))
 gift_told es i c at = read_at es i (get_or (keys_of es) i some_key, c) (pair_at es i c some_key at)

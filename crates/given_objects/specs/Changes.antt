@@ -8,7 +8,7 @@ use Rattle.given_objects.specs.Gifts.{Gifts, is_of, has_place, is_given}
 
 -- a place for an object that nobody gives yet and that is not held
 abbrev pub empty_gift : Object → Gift
-empty_gift o = record { object = o; givers = 0; held = false; falls = false }
+empty_gift o = record { object = o; givers = 0; held = false; loses_link = false }
 
 -- with a place for an object, at the end where there was none
 abbrev pub with_place : Gifts → Object → Gifts
@@ -26,15 +26,15 @@ given_once_more = changed (λ g. record g { givers = g.givers + 1 })
 abbrev pub given_once_less : Gifts → Object → Gifts
 given_once_less = changed (λ g. record g { givers = g.givers - 1 })
 
--- A call of it was made: it is held now, or it is not. Its name does not fall any more: it is put where nothing falls,
--- and what is not held falls with nothing.
+-- A call of it was made: it is held now, or it is not. Its name does not fall any more: it is put where nothing loses
+-- its link, and what is not held loses its link with nothing.
 abbrev pub noted : Gifts → Object → Bool → Gifts
-noted gs o held = changed (λ g. record g { held = held; falls = false }) gs o
+noted gs o held = changed (λ g. record g { held = held; loses_link = false }) gs o
 
--- it is told whether the name of the gift at a place falls
-abbrev pub with_falls : Gifts → ℕ → Bool → Gifts
-with_falls gs place falls =
-    option_map_or (λ g. slice_set gs place (record g { falls = falls })) (slice_get gs place) gs
+-- it is told whether the name of the gift at a place loses its link
+abbrev pub with_lost_link : Gifts → ℕ → Bool → Gifts
+with_lost_link gs place loses_link =
+    option_map_or (λ g. slice_set gs place (record g { loses_link = loses_link })) (slice_get gs place) gs
 
 -- it is held or given
 abbrev pub is_live : Gift → Bool

@@ -12,9 +12,9 @@ use Rattle.kern_model.specs.CallOrder.{call_cmp}
 use Rattle.given_objects.specs.declared.gift.Gift.{Gift}
 use Rattle.given_objects.specs.Gifts.{Gifts, is_given}
 
--- a gift that is held is taken where nobody gives it, or where its name falls
+-- a gift that is held is taken where nobody gives it, or where its name loses its link
 abbrev pub is_take_due : Gift → Bool
-is_take_due g = g.held && (not (is_given g) || g.falls)
+is_take_due g = g.held && (not (is_given g) || g.loses_link)
 
 -- a gift that is given is put where it is not held
 abbrev pub is_put_due : Gift → Bool
@@ -37,8 +37,8 @@ pub record IsFirstGift (test : Gift → Bool) (call : Object → Call) (gs : Gif
 abbrev pub NoneDue : (Gift → Bool) → Gifts → Type 0
 NoneDue test gs = (g : Gift) → Contains gs g → test g ≡ true → ⊥
 
--- each gift that is held and given knows whether its name falls
-abbrev pub KnowFalls : Objects → Objects → Gifts → Type 0
-KnowFalls held wanted gs =
+-- each gift that is held and given knows whether its name loses its link
+abbrev pub KnowLostLinks : Objects → Objects → Gifts → Type 0
+KnowLostLinks held wanted gs =
     (g : Gift) → Contains gs g → g.held ≡ true → is_given g ≡ true
-    → g.falls ≡ touched.falls held wanted (name_of g.object)
+    → g.loses_link ≡ touched.loses_link held wanted (name_of g.object)

@@ -13,7 +13,7 @@ Entries = List (GiftKey × Counts)
 
 -- the gift of an entry
 abbrev pub gift_in : GiftKey × Counts → Gift
-gift_in e = record { object = e.0.0; givers = e.1.givers; held = e.1.held; falls = e.1.falls }
+gift_in e = record { object = e.0.0; givers = e.1.givers; held = e.1.held; loses_link = e.1.loses_link }
 
 abbrev pub listed : Entries → Gifts
 listed es = map gift_in es

@@ -19,10 +19,11 @@ use Rattle.given_objects.specs.Gifts.{Gifts, gift_of, is_given}
 use Rattle.given_objects.specs.First.{is_take_due}
 use Rattle.given_objects.specs.Turns.{call_of}
 
--- A gift comes in a turn: it is to be taken; or it is to be put, now or after it was taken since its name falls.
+-- A gift comes in a turn: it is to be taken; or it is to be put, now or after it was taken since its name loses its
+-- link.
 abbrev pub is_coming : Turn → Gift → Bool
 is_coming Takes g = is_take_due g
-is_coming Puts g = is_given g && (not g.held || g.falls)
+is_coming Puts g = is_given g && (not g.held || g.loses_link)
 
 -- the turn of a call that leaves an object held, or not
 abbrev pub turn_of : Bool → Turn

@@ -13,16 +13,16 @@ pub struct Gift {
     pub object: Object,
     pub givers: u64,
     pub held: bool,
-    pub falls: bool,
+    pub loses_link: bool,
 }
 
 /// What is told of an object: how often it is given, whether it is held, and whether its name
-/// falls.
+/// loses its link.
 #[derive(Clone, Copy)]
 pub(crate) struct Counts {
     pub(crate) givers: u64,
     pub(crate) held: bool,
-    pub(crate) falls: bool,
+    pub(crate) loses_link: bool,
 }
 
 impl Gift {
@@ -40,11 +40,11 @@ impl Gift {
         self.held || self.is_given()
     }
 
-    /// Whether it is to be taken: it is held, and nobody gives it or its name falls.
+    /// Whether it is to be taken: it is held, and nobody gives it or its name loses its link.
     pub(crate) fn is_take_due(&self) -> bool
         ensures { result ≡ is_take_due self.now }
     {
-        self.held && (!self.is_given() || self.falls)
+        self.held && (!self.is_given() || self.loses_link)
     }
 
     /// Whether it is to be put: it is given and not held.

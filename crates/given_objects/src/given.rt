@@ -6,7 +6,7 @@ ghost use Rattle.kern_calls.specs.Due.{due_count};
 ghost use Rattle.kern_calls.specs.Upper.{is_upper};
 ghost use Rattle.given_objects.specs.Gifts.{has_place, givers_of, held_of, given_of, AreGifts};
 ghost use Rattle.given_objects.specs.Changes.{with_place, given_once_more, given_once_less, noted};
-ghost use Rattle.given_objects.specs.Changes.{with_falls, is_live, with_live, kept_for};
+ghost use Rattle.given_objects.specs.Changes.{with_lost_link, is_live, with_live, kept_for};
 ghost use Rattle.given_objects.specs.First.{is_take_due, is_put_due, plain_take, IsFirstGift};
 ghost use Rattle.given_objects.specs.First.{NoneDue};
 
@@ -23,7 +23,7 @@ use std::alloc::Global;
 use std::marker::Model;
 
 /// The addresses and routes that interfaces give, each with how many give it, whether it is held,
-/// and whether the name that it is on falls.
+/// and whether the name that it is on loses its link.
 #[derive(Drop)]
 pub struct GivenObjects {
     table: IndexMap<GiftKey, Counts>,
@@ -77,7 +77,7 @@ impl GivenObjects {
         let counts = Counts {
             givers: 0,
             held: false,
-            falls: false,
+            loses_link: false,
         };
         let _none = self.table.insert(key, counts)?;
         add_place(&mut self.order.places);
@@ -126,23 +126,23 @@ impl GivenObjects {
         self.table[place] = Counts {
             givers,
             held,
-            falls: false,
+            loses_link: false,
         };
         self.order.is_kept &= was_due;
         go_on(&self.table, turn, &mut self.order);
         list_place(&mut self.order.places, place);
     }
 
-    /// Whether the name of the gift at a place falls.
-    pub fn note_falls(&mut self, place: usize, falls: bool)
+    /// Whether the name of the gift at a place loses its link.
+    pub fn note_lost_link(&mut self, place: usize, loses_link: bool)
         requires { place < length self.old }
-        ensures { self.new ≡ with_falls self.old place falls }
+        ensures { self.new ≡ with_lost_link self.old place loses_link }
     {
-        if self.table[place].falls == falls {
+        if self.table[place].loses_link == loses_link {
             return;
         }
         self.order.is_kept = false;
-        self.table[place].falls = falls;
+        self.table[place].loses_link = loses_link;
         list_place(&mut self.order.places, place);
     }
 
@@ -249,7 +249,7 @@ impl GivenObjects {
         let counts = Counts {
             givers: gift.givers,
             held: gift.held,
-            falls: gift.falls,
+            loses_link: gift.loses_link,
         };
         let _none = self.table.insert(GiftKey(gift.object), counts)?;
         add_place(&mut self.order.places);

@@ -15,9 +15,9 @@ ghost use Rattle.kern_calls.specs.Upper.{is_upper, upper_part, is_upper_take, is
 ghost use Rattle.given_objects.specs.Gifts.{Gifts, AreGifts, has_place, givers_of, held_of};
 ghost use Rattle.given_objects.specs.Gifts.{given_of};
 ghost use Rattle.given_objects.specs.Changes.{with_place, given_once_more, given_once_less, noted};
-ghost use Rattle.given_objects.specs.Changes.{with_falls};
+ghost use Rattle.given_objects.specs.Changes.{with_lost_link};
 ghost use Rattle.given_objects.specs.First.{is_take_due, is_put_due, plain_take, IsFirstGift};
-ghost use Rattle.given_objects.specs.First.{NoneDue, KnowFalls};
+ghost use Rattle.given_objects.specs.First.{NoneDue, KnowLostLinks};
 
 /// A call of an address or a route that is noted does to what is held what it does in a kernel, and
 /// nothing to what is given.
@@ -49,12 +49,12 @@ pub fn gifts_follow_givers()
 pub fn first_gifts_are_first_calls()
     ensures take { (devices : Devices) (held wanted : Objects) (gs : Gifts) (found : Option Object)
         → AreGifts gs → upper_part held ≡ held_of gs → upper_part wanted ≡ given_of gs
-        → KnowFalls held wanted gs → IfSome found (IsFirstGift is_take_due plain_take gs)
+        → KnowLostLinks held wanted gs → IfSome found (IsFirstGift is_take_due plain_take gs)
         → IfNone found (NoneDue is_take_due gs)
         → find is_upper_take (calls devices held wanted) ≡ option_map (own_take devices) found }
     ensures put { (devices : Devices) (held wanted : Objects) (gs : Gifts) (found : Option Object)
         → AreGifts gs → upper_part held ≡ held_of gs → upper_part wanted ≡ given_of gs
-        → KnowFalls held wanted gs → NoneDue is_take_due gs
+        → KnowLostLinks held wanted gs → NoneDue is_take_due gs
         → IfSome found (IsFirstGift is_put_due Put gs) → IfNone found (NoneDue is_put_due gs)
         → find is_upper_put (calls devices held wanted) ≡ option_map Put found }
 {}
@@ -63,10 +63,10 @@ pub fn first_gifts_are_first_calls()
 pub fn places_and_flags_move_nothing()
     ensures place_held { (gs : Gifts) (o : Object) → held_of (with_place gs o) ≡ held_of gs }
     ensures place_given { (gs : Gifts) (o : Object) → given_of (with_place gs o) ≡ given_of gs }
-    ensures falls_held { (gs : Gifts) (place : ℕ) (falls : Bool)
-        → held_of (with_falls gs place falls) ≡ held_of gs }
-    ensures falls_given { (gs : Gifts) (place : ℕ) (falls : Bool)
-        → given_of (with_falls gs place falls) ≡ given_of gs }
+    ensures loses_link_held { (gs : Gifts) (place : ℕ) (loses_link : Bool)
+        → held_of (with_lost_link gs place loses_link) ≡ held_of gs }
+    ensures loses_link_given { (gs : Gifts) (place : ℕ) (loses_link : Bool)
+        → given_of (with_lost_link gs place loses_link) ≡ given_of gs }
 {}
 
 /// Gifts stay gifts: of distinct objects, each an address or a route of its form.
@@ -78,8 +78,8 @@ pub fn gifts_stay_gifts()
     ensures withdraw { (gs : Gifts) (o : Object) → AreGifts gs → AreGifts (given_once_less gs o) }
     ensures note { (gs : Gifts) (o : Object) (held : Bool) → AreGifts gs
         → AreGifts (noted gs o held) }
-    ensures falls { (gs : Gifts) (place : ℕ) (falls : Bool) → AreGifts gs
-        → AreGifts (with_falls gs place falls) }
+    ensures loses_link { (gs : Gifts) (place : ℕ) (loses_link : Bool) → AreGifts gs
+        → AreGifts (with_lost_link gs place loses_link) }
 {}
 
 /// Places stay where they are, and one that is expected is there.
@@ -93,8 +93,8 @@ pub fn places_stay()
         → has_place (given_once_less gs o) other ≡ has_place gs other }
     ensures note { (gs : Gifts) (o : Object) (held : Bool) (other : Object)
         → has_place (noted gs o held) other ≡ has_place gs other }
-    ensures falls { (gs : Gifts) (place : ℕ) (falls : Bool) (other : Object)
-        → has_place (with_falls gs place falls) other ≡ has_place gs other }
+    ensures loses_link { (gs : Gifts) (place : ℕ) (loses_link : Bool) (other : Object)
+        → has_place (with_lost_link gs place loses_link) other ≡ has_place gs other }
 {}
 
 /// Giving and withdrawing move the count of their object by one, and nothing else moves a count.
@@ -111,6 +111,6 @@ pub fn givers_are_counted()
         → givers_of (with_place gs o) other ≡ givers_of gs other }
     ensures note { (gs : Gifts) (o : Object) (held : Bool) (other : Object)
         → givers_of (noted gs o held) other ≡ givers_of gs other }
-    ensures falls { (gs : Gifts) (place : ℕ) (falls : Bool) (other : Object)
-        → givers_of (with_falls gs place falls) other ≡ givers_of gs other }
+    ensures loses_link { (gs : Gifts) (place : ℕ) (loses_link : Bool) (other : Object)
+        → givers_of (with_lost_link gs place loses_link) other ≡ givers_of gs other }
 {}

@@ -93,7 +93,7 @@ pub(crate) fn gift_at(table: &IndexMap<GiftKey, Counts>, place: usize) -> Gift
         object: key.0,
         givers: counts.givers,
         held: counts.held,
-        falls: counts.falls,
+        loses_link: counts.loses_link,
     }
 }
 
@@ -109,13 +109,13 @@ fn gift_of(table: &IndexMap<GiftKey, Counts>, object: &Object) -> Option<Gift>
 }
 
 /// Whether a gift comes in a turn: it is to be taken; or it is to be put, be it after it was taken
-/// since its name falls.
+/// since its name loses its link.
 fn is_coming(turn: Turn, gift: &Gift) -> bool
     ensures { result ≡ spec.is_coming turn gift.now }
 {
     match turn {
         Turn::Takes => gift.is_take_due(),
-        Turn::Puts => gift.is_given() && (!gift.held || gift.falls),
+        Turn::Puts => gift.is_given() && (!gift.held || gift.loses_link),
     }
 }
 

@@ -6,4 +6,4 @@ pub mod EdgeLemmas
 pub mod BelowLemmas
 pub mod DeviceLemmas
 pub mod LowerLemmas
-pub mod FallLemmas
+pub mod LostLinkLemmas

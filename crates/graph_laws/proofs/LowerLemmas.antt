@@ -25,7 +25,7 @@ use Rattle.net_rules.specs.Used.{used}
 use Rattle.net_rules.specs.Refusal.{is_held_link}
 use Rattle.net_rules.specs.Want.{mtu_of, mac_of, masters_of, entry_counts, local_vlan, vlan_objects, objects_by, objects_of_row, objects_at, given, known_names, wanted_list, want}
 use Rattle.net_rules.proofs.ListLemmas.{IsAmong, in_join, from_join, of_cond}
-use Rattle.net_rules.proofs.GivenLemmas.{IsOn, on_layer}
+use Rattle.net_rules.proofs.GivenLemmas.{IsOn, on_l3_device}
 use Rattle.graph_rules.specs.State.{Known}
 use Rattle.graph_rules.specs.Wanted.{want_in}
 use Rattle.graph_rules.specs.Agreeing.{Agrees, wanted_on_names}
@@ -118,8 +118,8 @@ module _ (facts : Facts) where
   given_upper : (o : Object) → Contains of_interfaces o → is_lower o ≡ false
   given_upper o h =
       let from : IsAmong (given facts) (interfaces_of facts.conf) o = from_join (given facts) (interfaces_of facts.conf) o h in
-      let on = on_layer facts from.source o from.among in
-      not_lower on.layer o on.on
+      let on = on_l3_device facts from.source o from.among in
+      not_lower on.l3_device o on.on
 
   pub lower_wanted : lower_part (want facts) ≡ wanted_on_names facts
   unfolding want

@@ -25,7 +25,7 @@ ghost use Rattle.graph_rules.specs.declared.ids.RadioPort.{RadioPort};
 ghost use Rattle.graph_rules.specs.State.{Named, Known, State, name_list, names_in, place_among};
 ghost use Rattle.graph_rules.specs.State.{devices_in};
 ghost use Rattle.graph_rules.specs.Answers.{port_of, available_in, link_in, used_in};
-ghost use Rattle.graph_rules.specs.Calls.{falls_in};
+ghost use Rattle.graph_rules.specs.Calls.{loses_link_in};
 ghost use Rattle.graph_rules.specs.After.{known_of, with_names, did_after};
 ghost use Rattle.graph_rules.specs.Agreeing.{Agrees, SharesUsed, wanted_on_names};
 ghost use Rattle.graph_rules.specs.Conditions.{ArePorts, CanLoad, IsNext};
@@ -122,12 +122,12 @@ pub fn graphs_want_the_lower_part()
         → is_held_link (lower_part held) name ≡ is_held_link held name }
 {}
 
-/// Where each link that a sound graph holds is one of its rows, no used name falls. Calls of the
-/// graph keep that, and so do names with other devices and claims, further names, and objects that
-/// go. So it is once all that is wanted is held.
-pub fn links_of_rows_do_not_fall()
+/// Where each link that a sound graph holds is one of its rows, no used name loses its link. Calls
+/// of the graph keep that, and so do names with other devices and claims, further names, and
+/// objects that go. So it is once all that is wanted is held.
+pub fn links_of_rows_are_kept()
     ensures used { (s : State) → IsSound s.known → HoldsLinksOfRows s → (name : List ℕ)
-        → used_in s.known name ≡ true → falls_in s name ≡ false }
+        → used_in s.known name ≡ true → loses_link_in s name ≡ false }
     ensures kept { (s : State) (call : Call) → HoldsLinksOfRows s → IsNext s call
         → HoldsLinksOfRows (did_after s call) }
     ensures stays { (s : State) (names : List Named) (held : Objects) → HoldsLinksOfRows s

@@ -6,7 +6,7 @@
 mod laws;
 
 pub use laws::{
-    answers_need_no_claims, graphs_want_the_lower_part, links_of_rows_do_not_fall,
+    answers_need_no_claims, graphs_want_the_lower_part, links_of_rows_are_kept,
     loads_bring_few_edges, ports_of_radios_may_be_ports, rows_that_are_read_can_be_loaded,
     sound_graphs_have_few_edges, used_names_are_shared,
 };

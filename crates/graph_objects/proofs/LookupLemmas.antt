@@ -57,7 +57,7 @@ module _ (objects : Objects) (name : List ℕ) where
   no_kind_found (object.Link other kind) found = tt
   no_kind_found x found = other_found objects name x found (λ n k same. cc same)
 
--- what is taken and put, where no place of the object falls
+-- what is taken and put, where no place of the object loses its link
 module _ (held : Objects) (wanted : List Object) (o : Object) where
   replacer_found : (x : Object) → IsFound (set_of wanted) o (Some x) → replaces x o ≡ list_any (λ other. replaces other o) wanted
   replacer_found x found = true_of_both_ways (replaces x o) (list_any (λ other. replaces other o) wanted)

@@ -13,10 +13,10 @@ use Rattle.kern_model.specs.declared.object.Object.{Object}
 use Rattle.kern_model.specs.declared.object.Object.TheVariants as object
 use Rattle.kern_model.specs.ObjectOrder.{object_cmp, Objects, Has}
 use Rattle.kern_model.specs.Standing.{places_of}
-use Rattle.kern_model.specs.Touched.{falls, is_on_taken, is_touched}
+use Rattle.kern_model.specs.Touched.{loses_link, is_on_taken, is_touched}
 use Rattle.kern_model.proofs.SetLemmas.{same_object, set_of_member, member_of_set}
 use Rattle.kern_model.proofs.TestLemmas.{above_test, from_any, of_any, in_filter_map, from_filter_map}
-use Rattle.kern_model.proofs.TouchLemmas.{falls_with, falls_of, touched_cases, taken_touched, put_touched}
+use Rattle.kern_model.proofs.TouchLemmas.{loses_link_with, loses_link_of, touched_cases, taken_touched, put_touched}
 use Rattle.kern_model.proofs.GoneLemmas.{is_over_of_test, test_of_is_over}
 use Rattle.kern_calls.proofs.GoOnLemmas.{still_over}
 use Rattle.graph_objects.specs.declared.key.ObjectKey.{ObjectKey}
@@ -103,21 +103,21 @@ module _ (marks : List ℕ) (es : Entries) (marked : AreMarked marks es) (i : �
 -- where fewer links are held and more are wanted, fewer objects are on links that are taken
 module _ (held now wanted later : Objects) (links : (n : List ℕ) (k : LinkKind) → Has now (object.Link n k) → Has held (object.Link n k))
     (more : (n : List ℕ) (k : LinkKind) → Has wanted (object.Link n k) → Has later (object.Link n k)) where
-  falls_before : (name : List ℕ) → falls now later name ≡ true → falls held wanted name ≡ true
-  falls_before name h =
-      let f = falls_with now later name h in
-      falls_of held wanted name f.base f.kind (links f.base f.kind f.had) (λ is. f.unwanted (more f.base f.kind is))
+  loses_link_before : (name : List ℕ) → loses_link now later name ≡ true → loses_link held wanted name ≡ true
+  loses_link_before name h =
+      let f = loses_link_with now later name h in
+      loses_link_of held wanted name f.base f.kind (links f.base f.kind f.had) (λ is. f.unwanted (more f.base f.kind is))
       (test_of_is_over held f.base name (still_over now held f.base name (λ v kind g _. links v kind g) (is_over_of_test now f.base name f.over)))
 
   pub on_taken_before : (o : Object) → is_on_taken now later o ≡ true → is_on_taken held wanted o ≡ true
   on_taken_before o h =
-      let found = from_any (falls now later) (places_of o) h in
-      of_any (falls held wanted) (places_of o) found.passing found.member (falls_before found.passing found.passes)
+      let found = from_any (loses_link now later) (places_of o) h in
+      of_any (loses_link held wanted) (places_of o) found.passing found.member (loses_link_before found.passing found.passes)
 
 pub none_on_taken : (held wanted : Objects) → ((n : List ℕ) (k : LinkKind) → Has held (object.Link n k) → Has wanted (object.Link n k)) → (o : Object) → is_on_taken held wanted o ≡ true → ⊥
 none_on_taken held wanted all o h =
-    let found = from_any (falls held wanted) (places_of o) h in
-    let f = falls_with held wanted found.passing found.passes in
+    let found = from_any (loses_link held wanted) (places_of o) h in
+    let f = loses_link_with held wanted found.passing found.passes in
     f.unwanted (all f.base f.kind f.had)
 
 -- no more objects are on links that are taken than before
@@ -236,10 +236,10 @@ before_or_now : (i n : ℕ) → i < n + 1 → (i < n) ⊎ (i ≡ n)
 before_or_now i n h = elim (cases_eq i n) as (λ _. (i < n) ⊎ (i ≡ n)) [ inl same ↦ inr same | inr other ↦ inl (omega (arith, h, other)) ]
 
 -- the differences of the slots so far are marked
-pub record DifferencesSoFar (es : Entries) (before marks : List ℕ) (n : ℕ) (falls : Bool) : Type 0 where
+pub record DifferencesSoFar (es : Entries) (before marks : List ℕ) (n : ℕ) (loses_link : Bool) : Type 0 where
   pub size : length marks ≡ length before
   pub differing : (i : ℕ) (e : ObjectKey × Slot) → i < n → slice_get es i ≡ Some e → differs e.1 ≡ true → bit marks i ≡ 1
-  pub links : falls ≡ false → (i : ℕ) (e : ObjectKey × Slot) → i < n → slice_get es i ≡ Some e → holds_link e.1.held ≡ true → differs e.1 ≡ false
+  pub links : loses_link ≡ false → (i : ℕ) (e : ObjectKey × Slot) → i < n → slice_get es i ≡ Some e → holds_link e.1.held ≡ true → differs e.1 ≡ false
 
 neither : (a b : Bool) → (a || b) ≡ false → (a ≡ false) × (b ≡ false)
 neither true b h = cc h
@@ -252,9 +252,9 @@ not_both false b h g = refl
 pub no_differences : (es : Entries) (marks : List ℕ) → DifferencesSoFar es marks marks 0 false
 no_differences es marks = record { size = refl; differing = λ i e before at h. absurd (omega (arith, before)); links = λ h i e before at link. absurd (omega (arith, before)) }
 
-pub more_differences : (es : Entries) (before marks next : List ℕ) (n : ℕ) (falls : Bool) (s : Slot) (b link : Bool) → DifferencesSoFar es before marks n falls → slice_get (map (λ (e : ObjectKey × Slot). e.1) es) n ≡ Some s
-    → b ≡ differs s → link ≡ holds_link s.held → IsPut marks next n b → DifferencesSoFar es before next (n + 1) (falls || (b && link))
-more_differences es before marks next n falls s b link so_far here apart_is link_is put = record {
+pub more_differences : (es : Entries) (before marks next : List ℕ) (n : ℕ) (loses_link : Bool) (s : Slot) (b link : Bool) → DifferencesSoFar es before marks n loses_link → slice_get (map (λ (e : ObjectKey × Slot). e.1) es) n ≡ Some s
+    → b ≡ differs s → link ≡ holds_link s.held → IsPut marks next n b → DifferencesSoFar es before next (n + 1) (loses_link || (b && link))
+more_differences es before marks next n loses_link s b link so_far here apart_is link_is put = record {
   size = put.size ∙ so_far.size;
   differing = λ i e below at h. elim (before_or_now i n below) as (λ _. bit next i ≡ 1) [
     | inl lower ↦ put.others i (λ same. omega (arith, same, lower)) ∙ so_far.differing i e lower at h
@@ -263,7 +263,7 @@ more_differences es before marks next n falls s b link so_far here apart_is link
         ap (bit next) same ∙ put.here ∙ ap (λ t. if t then 1 else 0) (apart_is ∙ ap differs is ∙ h)
   ];
   links = λ none i e below at held.
-      let parts = neither falls (b && link) none in
+      let parts = neither loses_link (b && link) none in
       elim (before_or_now i n below) as (λ _. differs e.1 ≡ false) [
         | inl lower ↦ so_far.links parts.0 i e lower at held
         | inr same ↦
@@ -272,11 +272,11 @@ more_differences es before marks next n falls s b link so_far here apart_is link
       ];
 }
 
-pub all_differences : (es : Entries) (before marks : List ℕ) (n : ℕ) (falls : Bool) → n ≡ length es → DifferencesSoFar es before marks n falls → MarkDifferences marks es
-all_differences es before marks n falls all so_far i e at h = so_far.differing i e (omega (arith, all, slice_get_within es i e at)) at h
+pub all_differences : (es : Entries) (before marks : List ℕ) (n : ℕ) (loses_link : Bool) → n ≡ length es → DifferencesSoFar es before marks n loses_link → MarkDifferences marks es
+all_differences es before marks n loses_link all so_far i e at h = so_far.differing i e (omega (arith, all, slice_get_within es i e at)) at h
 
-pub links_wanted : (es : Entries) (before marks : List ℕ) (n : ℕ) (falls : Bool) → n ≡ length es → DifferencesSoFar es before marks n falls → falls ≡ false → AreLinksWanted es
-links_wanted es before marks n falls all so_far none name kind h =
+pub links_wanted : (es : Entries) (before marks : List ℕ) (n : ℕ) (loses_link : Bool) → n ≡ length es → DifferencesSoFar es before marks n loses_link → loses_link ≡ false → AreLinksWanted es
+links_wanted es before marks n loses_link all so_far none name kind h =
     let from = in_slot Held es (object.Link name kind) h in
     let at = some_at es from.member.0 from.source from.member.1 from.member.2 in
     let even = so_far.links none from.member.0 from.source (omega (arith, all, from.member.1)) at (ap holds_link from.gives) in

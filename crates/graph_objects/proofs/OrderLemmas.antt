@@ -145,20 +145,20 @@ module _ (held wanted : Objects) (steady : IsSteady wanted) (o : Object) (is : H
     ]
   ]
 
-  nothing_falls : (x : Object) → is_on_taken now wanted x ≡ true → ⊥
-  nothing_falls x h = none_on_taken now wanted link_wanted x h
+  no_link_is_lost : (x : Object) → is_on_taken now wanted x ≡ true → ⊥
+  no_link_is_lost x h = none_on_taken now wanted link_wanted x h
 
   pub still_none_taken : (x : Object) → is_taken now wanted x ≡ true → ⊥
   still_none_taken x taken =
       let h = taken_held now wanted x taken in
       elim (touched_cases now wanted x h (taken_touched now wanted x taken)) as (λ _. ⊥) [
-        | inr stands ↦ nothing_falls x stands
+        | inr stands ↦ no_link_is_lost x stands
         | inl unwanted ↦ elim (kept x h) as (λ _. ⊥) [
           | inl same ↦ unwanted (subst (Has wanted) (sym same) is)
           | inr had ↦ elim (true_or_not (is_replaced held wanted x)) as (λ _. ⊥) [
             | inl replaced ↦
                 let by = replaced_by held wanted x replaced in
-                taken_not_replaced now wanted x taken (is_replaced_of_all now wanted x unwanted (nothing_falls x) by.by by.is by.place)
+                taken_not_replaced now wanted x taken (is_replaced_of_all now wanted x unwanted (no_link_is_lost x) by.by by.is by.place)
             | inr stays ↦ done x (taken_of held wanted x had (touched_held held wanted x had unwanted) stays)
           ]
         ]
@@ -167,7 +167,7 @@ module _ (held wanted : Objects) (steady : IsSteady wanted) (o : Object) (is : H
   pub was_to_be_put : (x : Object) → is_put now wanted x ≡ true → is_put held wanted x ≡ true
   was_to_be_put x due =
       let there = put_wanted now wanted x due in
-      let gone : Has now x → ⊥ = λ h. elim (touched_cases now wanted x h (put_touched now wanted x due)) as (λ _. ⊥) [ inl unwanted ↦ unwanted there | inr stands ↦ nothing_falls x stands ] in
+      let gone : Has now x → ⊥ = λ h. elim (touched_cases now wanted x h (put_touched now wanted x due)) as (λ _. ⊥) [ inl unwanted ↦ unwanted there | inr stands ↦ no_link_is_lost x stands ] in
       put_of held wanted x there (touched_wanted held wanted x there (λ had. gone (still_held x there had)))
     where
       rest : Objects

@@ -14,12 +14,12 @@ use Rattle.kern_model.specs.declared.object.Object.{Object}
 use Rattle.kern_model.specs.declared.object.Object.TheVariants.{Link}
 use Rattle.kern_model.specs.ObjectOrder.{Objects, Has}
 use Rattle.kern_model.specs.Standing.{places_of, IsOver}
-use Rattle.kern_model.specs.Touched.{falls, is_on_taken}
+use Rattle.kern_model.specs.Touched.{loses_link, is_on_taken}
 use Rattle.kern_model.proofs.MemberLemmas.{here, map_member}
 use Rattle.kern_model.proofs.SetLemmas.{set_of_member, member_of_set}
 use Rattle.kern_model.proofs.StandingLemmas.{over_itself, over_lower}
 use Rattle.kern_model.proofs.TestLemmas.{true_or_not, from_any, in_filter_map, from_filter_map}
-use Rattle.kern_model.proofs.TouchLemmas.{falls_of, falls_with, falls_above, on_taken_at}
+use Rattle.kern_model.proofs.TouchLemmas.{loses_link_of, loses_link_with, loses_link_above, on_taken_at}
 use Rattle.kern_model.proofs.GoneLemmas.{is_over_of_test}
 use Rattle.graph_objects.specs.declared.key.ObjectKey.{ObjectKey}
 use Rattle.graph_objects.specs.declared.slot.Wish.{Wish}
@@ -115,23 +115,24 @@ module _ (es now : Entries) (stand : StandOnWanted (wishes now)) (may : (w : Wis
       let wanted = stand w.by link.0 name kind w.member w.wanted (subst (λ (o : Object). Contains (places_of o) name) (sym w.object) at) link.1 object in
       subst (Has later) object (of_wish now link.0 link.1 wanted)
 
-  wanted_before : (name : List ℕ) (kind : LinkKind) → Has held (Link name kind) → (falls held before name ≡ true → ⊥) → Has before (Link name kind)
+  wanted_before : (name : List ℕ) (kind : LinkKind) → Has held (Link name kind) → (loses_link held before name ≡ true → ⊥) → Has before (Link name kind)
   wanted_before name kind had none = elim (true_or_not (set.contains before (Link name kind))) as (λ _. Has before (Link name kind)) [
     | inl is ↦ is
-    | inr unwanted ↦ absurd (none (falls_of held before name name kind had unwanted (over_itself held name)))
+    | inr unwanted ↦ absurd (none (loses_link_of held before name name kind had unwanted (over_itself held name)))
   ]
 
-  walk : (base : List ℕ) (kind : LinkKind) → Has held (Link base kind) → (x : Object) (name : List ℕ) → Has later x → Contains (places_of x) name → (falls held before name ≡ true → ⊥) → IsOver held base name → Has later (Link base kind)
+  walk : (base : List ℕ) (kind : LinkKind) → Has held (Link base kind) → (x : Object) (name : List ℕ) → Has later x → Contains (places_of x) name → (loses_link held before name ≡ true → ⊥) → IsOver held base name
+      → Has later (Link base kind)
   walk base kind had x name is at none IsOver.itself = link_stays x base kind is at (wanted_before base kind had none)
   walk base kind had x name is at none (IsOver.above n lower id mac link over) =
       walk base kind had (Link n (Vlan lower id mac)) lower
       (link_stays x n (Vlan lower id mac) is at (wanted_before n (Vlan lower id mac) link none))
-      (here lower []) (λ fell. none (falls_above held before lower n fell (over_lower held n lower id mac link))) over
+      (here lower []) (λ fell. none (loses_link_above held before lower n fell (over_lower held n lower id mac link))) over
 
   pub never_falls : (o : Object) → Has later o → (is_on_taken held before o ≡ true → ⊥) → is_on_taken held later o ≡ true → ⊥
   never_falls o is none h =
-      let found = from_any (falls held later) (places_of o) h in
-      let f = falls_with held later found.passing found.passes in
+      let found = from_any (loses_link held later) (places_of o) h in
+      let f = loses_link_with held later found.passing found.passes in
       f.unwanted (walk f.base f.kind f.had o found.passing is found.member (λ fell. none (on_taken_at held before o found.passing found.member fell)) (is_over_of_test held f.base found.passing f.over))
 
 -- what is at an index after the slots are written
@@ -186,15 +187,15 @@ module _ (es : Entries) (lists : List (Vec ℕ Global)) (used : List Bool) (ids 
         falling : is_on_taken (set_on Held es) (set_on Wanted now) o ≡ true
         falling = ap (λ (t : Objects). is_on_taken t (set_on Wanted now) o) (sym same_held) ∙ h
 
-        by_fall : differs e.1 ≡ false → (is_on_taken (set_on Held es) (set_on Wanted es) o ≡ true) ⊎ (is_on_taken (set_on Held es) (set_on Wanted es) o ≡ true → ⊥) → bit new i ≡ 1
-        by_fall even (inl was) = stays ∙ marked.falling i from.was o from.at had was
-        by_fall even (inr none) =
+        by_lost_link : differs e.1 ≡ false → (is_on_taken (set_on Held es) (set_on Wanted es) o ≡ true) ⊎ (is_on_taken (set_on Held es) (set_on Wanted es) o ≡ true → ⊥) → bit new i ≡ 1
+        by_lost_link even (inl was) = stays ∙ marked.falling i from.was o from.at had was
+        by_lost_link even (inr none) =
             let wanted : Has (set_on Wanted now) o = of_slot Wanted now e o (at_place now i e at) (sym (not_apart e.1 even) ∙ holds) in
             absurd (never_falls es now stand_now may_now o wanted none falling)
 
         by_difference : (b : Bool) → differs e.1 ≡ b → bit new i ≡ 1
         by_difference true is = left_differing is
-        by_difference false is = by_fall is (true_or_not (is_on_taken (set_on Held es) (set_on Wanted es) o))
+        by_difference false is = by_lost_link is (true_or_not (is_on_taken (set_on Held es) (set_on Wanted es) o))
 
   pub marks_after_ids : AreMarked new now
   marks_after_ids =

@@ -1,4 +1,4 @@
--- In a set that has one object of a key and no VLAN under itself: heights, what falls, and what a name is over, by
+-- In a set that has one object of a key and no VLAN under itself: heights, what loses its link, and what a name is over, by
 -- the link of the name.
 use Rattle.std.proofs.Common.{ℕ, ◌≡◌, ◌+◌, inl, inr, List, Option, true, false, Bool, cond, refl, ap, sym, subst, ◌∙◌}
 use Rattle.std.specs.Prelude.{bytes_eq}
@@ -10,13 +10,13 @@ use Rattle.kern_model.specs.declared.object.Object.{Object}
 use Rattle.kern_model.specs.declared.object.Object.TheVariants as object
 use Rattle.kern_model.specs.ObjectOrder.{Objects, Has, object_cmp}
 use Rattle.kern_model.specs.Standing.{is_over, is_vlan_under, height}
-use Rattle.kern_model.specs.Touched.{falls}
+use Rattle.kern_model.specs.Touched.{loses_link}
 use Rattle.kern_model.proofs.OrderLemmas.{objects_total}
 use Rattle.kern_model.proofs.TestLemmas.{true_of_both_ways, false_of_not, same_bytes}
 use Rattle.kern_model.proofs.SetLemmas.{has_itself, has_before, new_or_before, has_retained, of_retained, same_members, none_in_empty}
 use Rattle.kern_model.proofs.StandingLemmas.{over_itself, over_lower, over_on, over_cases, still_under, is_under}
 use Rattle.kern_model.proofs.GoneLemmas.{over_more}
-use Rattle.kern_model.proofs.TouchLemmas.{falls_of, falls_with, falls_above}
+use Rattle.kern_model.proofs.TouchLemmas.{loses_link_of, loses_link_with, loses_link_above}
 use Rattle.graph_objects.specs.Steady.{IsGrounded, IsSteady}
 
 pub grounded_within : (s t : Objects) → ((x : Object) → Has s x → Has t x) → IsGrounded t → IsGrounded s
@@ -101,20 +101,20 @@ module _ (objects : Objects) (steady : IsSteady objects) where
   not_vlan name mac filtering h lower id m g = let one = one_link name (Bridge mac filtering) (Vlan lower id m) h g in cc one
 
 module _ (held wanted : Objects) (steady : IsSteady held) where
-  pub falls_here : (name : List ℕ) (kind : LinkKind) → Has held (object.Link name kind) → set.contains wanted (object.Link name kind) ≡ false → falls held wanted name ≡ true
-  falls_here name kind h unwanted = falls_of held wanted name name kind h (λ is. cc (is, unwanted)) (over_itself held name)
+  pub loses_link_here : (name : List ℕ) (kind : LinkKind) → Has held (object.Link name kind) → set.contains wanted (object.Link name kind) ≡ false → loses_link held wanted name ≡ true
+  loses_link_here name kind h unwanted = loses_link_of held wanted name name kind h (λ is. cc (is, unwanted)) (over_itself held name)
 
-  pub stands_without_link : (name : List ℕ) → ((kind : LinkKind) → Has held (object.Link name kind) → ⊥) → falls held wanted name ≡ false
-  stands_without_link name none = false_of_not (falls held wanted name) (λ h.
-      let f = falls_with held wanted name h in
+  pub stands_without_link : (name : List ℕ) → ((kind : LinkKind) → Has held (object.Link name kind) → ⊥) → loses_link held wanted name ≡ false
+  stands_without_link name none = false_of_not (loses_link held wanted name) (λ h.
+      let f = loses_link_with held wanted name h in
       elim (over_cases held f.base name f.over) as (λ _. ⊥) [
         | inl same ↦ none f.kind (subst (λ n. Has held (object.Link n f.kind)) same f.had)
         | inr v ↦ none (Vlan v.lower v.id v.mac) v.held
       ])
 
-  pub stands_on_bridge : (name : List ℕ) (mac : Option Mac) (filtering : Bool) → Has held (object.Link name (Bridge mac filtering)) → Has wanted (object.Link name (Bridge mac filtering)) → falls held wanted name ≡ false
-  stands_on_bridge name mac filtering h is = false_of_not (falls held wanted name) (λ down.
-      let f = falls_with held wanted name down in
+  pub stands_on_bridge : (name : List ℕ) (mac : Option Mac) (filtering : Bool) → Has held (object.Link name (Bridge mac filtering)) → Has wanted (object.Link name (Bridge mac filtering)) → loses_link held wanted name ≡ false
+  stands_on_bridge name mac filtering h is = false_of_not (loses_link held wanted name) (λ down.
+      let f = loses_link_with held wanted name down in
       elim (over_cases held f.base name f.over) as (λ _. ⊥) [
         | inl same ↦
             let one = one_link held steady name f.kind (Bridge mac filtering) (subst (λ n. Has held (object.Link n f.kind)) same f.had) h in
@@ -122,17 +122,17 @@ module _ (held wanted : Objects) (steady : IsSteady held) where
         | inr v ↦ let one = one_link held steady name (Vlan v.lower v.id v.mac) (Bridge mac filtering) v.held h in cc one
       ])
 
-  pub falls_by_lower : (name lower : List ℕ) (id : ℕ) (mac : Option Mac) → Has held (object.Link name (Vlan lower id mac)) → Has wanted (object.Link name (Vlan lower id mac)) → falls held wanted lower ≡ falls held wanted name
-  falls_by_lower name lower id mac h is = true_of_both_ways (falls held wanted lower) (falls held wanted name)
-      (λ down. falls_above held wanted lower name down (over_lower held name lower id mac h))
+  pub loses_link_by_lower : (name lower : List ℕ) (id : ℕ) (mac : Option Mac) → Has held (object.Link name (Vlan lower id mac)) → Has wanted (object.Link name (Vlan lower id mac)) → loses_link held wanted lower ≡ loses_link held wanted name
+  loses_link_by_lower name lower id mac h is = true_of_both_ways (loses_link held wanted lower) (loses_link held wanted name)
+      (λ down. loses_link_above held wanted lower name down (over_lower held name lower id mac h))
       (λ down.
-      let f = falls_with held wanted name down in
-      elim (over_cases held f.base name f.over) as (λ _. falls held wanted lower ≡ true) [
+      let f = loses_link_with held wanted name down in
+      elim (over_cases held f.base name f.over) as (λ _. loses_link held wanted lower ≡ true) [
         | inl same ↦
             let one = one_link held steady name f.kind (Vlan lower id mac) (subst (λ n. Has held (object.Link n f.kind)) same f.had) h in
             absurd (f.unwanted (subst (Has wanted) (sym (ap (λ n. object.Link n f.kind) same ∙ one)) is))
         | inr v ↦
             let one = one_link held steady name (Vlan v.lower v.id v.mac) (Vlan lower id mac) v.held h in
             let below : v.lower ≡ lower = cc one in
-            falls_of held wanted lower f.base f.kind f.had f.unwanted (subst (λ n. is_over held f.base n ≡ true) below v.over)
+            loses_link_of held wanted lower f.base f.kind f.had f.unwanted (subst (λ n. is_over held f.base n ≡ true) below v.over)
       ])

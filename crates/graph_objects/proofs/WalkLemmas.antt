@@ -7,12 +7,12 @@ use Rattle.kern_model.specs.declared.object.LinkKind.TheVariants.{Bridge, Vlan}
 use Rattle.kern_model.specs.declared.object.Object.TheVariants as object
 use Rattle.kern_model.specs.ObjectOrder.{Objects, Has}
 use Rattle.kern_model.specs.Standing.{is_over, height}
-use Rattle.kern_model.specs.Touched.{falls}
+use Rattle.kern_model.specs.Touched.{loses_link}
 use Rattle.kern_model.proofs.TestLemmas.{false_of_not, bytes_same}
 use Rattle.kern_model.proofs.StandingLemmas.{over_itself}
 use Rattle.graph_objects.specs.Steady.{IsSteady}
 use Rattle.graph_objects.specs.Links.{lower_name, IsVlanAt, HasNoVlan}
-use Rattle.graph_objects.proofs.SteadyLemmas.{one_higher, lowest, over_by_lower, over_none_but, falls_here, stands_without_link, stands_on_bridge, falls_by_lower}
+use Rattle.graph_objects.proofs.SteadyLemmas.{one_higher, lowest, over_by_lower, over_none_but, loses_link_here, stands_without_link, stands_on_bridge, loses_link_by_lower}
 
 -- a link with a lower name is a VLAN
 pub vlan_here : (objects : Objects) (name lower : List ℕ) (kind : LinkKind) → Some lower ≡ lower_name kind → Has objects (object.Link name kind) → IsVlanAt objects name lower
@@ -59,24 +59,24 @@ module _ (objects : Objects) (steady : IsSteady objects) where
   over_by_more b base name lower steps r told is v below few =
       below (lower_is_low name lower steps v few) ∙ over_by_lower objects steady name lower v.id v.mac v.held base (apart_by b base name told is)
 
--- what falls
+-- what loses its link
 module _ (held wanted : Objects) (steady : IsSteady held) where
-  pub falls_none : (name : List ℕ) → ((kind : LinkKind) → Has held (object.Link name kind) → ⊥) → false ≡ falls held wanted name
-  falls_none name none = sym (stands_without_link held wanted steady name none)
+  pub loses_link_none : (name : List ℕ) → ((kind : LinkKind) → Has held (object.Link name kind) → ⊥) → false ≡ loses_link held wanted name
+  loses_link_none name none = sym (stands_without_link held wanted steady name none)
 
-  pub falls_unwanted : (name : List ℕ) (kind : LinkKind) (b : Bool) → Has held (object.Link name kind) → b ≡ set.contains wanted (object.Link name kind) → b ≡ false → true ≡ falls held wanted name
-  falls_unwanted name kind b h told is = sym (falls_here held wanted steady name kind h (sym told ∙ is))
+  pub loses_link_unwanted : (name : List ℕ) (kind : LinkKind) (b : Bool) → Has held (object.Link name kind) → b ≡ set.contains wanted (object.Link name kind) → b ≡ false → true ≡ loses_link held wanted name
+  loses_link_unwanted name kind b h told is = sym (loses_link_here held wanted steady name kind h (sym told ∙ is))
 
-  pub falls_bridge : (name : List ℕ) (kind : LinkKind) (b : Bool) → None ≡ lower_name kind → Has held (object.Link name kind) → b ≡ set.contains wanted (object.Link name kind) → b ≡ true → false ≡ falls held wanted name
-  falls_bridge name (Bridge mac filtering) b none h told is = sym (stands_on_bridge held wanted steady name mac filtering h (sym told ∙ is))
-  falls_bridge name (Vlan lower id mac) b none h told is = cc none
+  pub loses_link_bridge : (name : List ℕ) (kind : LinkKind) (b : Bool) → None ≡ lower_name kind → Has held (object.Link name kind) → b ≡ set.contains wanted (object.Link name kind) → b ≡ true → false ≡ loses_link held wanted name
+  loses_link_bridge name (Bridge mac filtering) b none h told is = sym (stands_on_bridge held wanted steady name mac filtering h (sym told ∙ is))
+  loses_link_bridge name (Vlan lower id mac) b none h told is = cc none
 
-  pub falls_by_more : (name lower : List ℕ) (kind : LinkKind) (b : Bool) (steps : ℕ) (r : Bool) → Some lower ≡ lower_name kind → Has held (object.Link name kind) → b ≡ set.contains wanted (object.Link name kind) → b ≡ true
-      → (height held lower ≤ steps - 1 → r ≡ falls held wanted lower) → height held name ≤ steps → r ≡ falls held wanted name
-  falls_by_more name lower (Bridge mac filtering) b steps r some h told is below few = cc some
-  falls_by_more name lower (Vlan l id mac) b steps r some h told is below few =
+  pub loses_link_by_more : (name lower : List ℕ) (kind : LinkKind) (b : Bool) (steps : ℕ) (r : Bool) → Some lower ≡ lower_name kind → Has held (object.Link name kind) → b ≡ set.contains wanted (object.Link name kind) → b ≡ true
+      → (height held lower ≤ steps - 1 → r ≡ loses_link held wanted lower) → height held name ≤ steps → r ≡ loses_link held wanted name
+  loses_link_by_more name lower (Bridge mac filtering) b steps r some h told is below few = cc some
+  loses_link_by_more name lower (Vlan l id mac) b steps r some h told is below few =
       let same : l ≡ lower = cc some in
       let v : IsVlanAt held name lower = subst (IsVlanAt held name) same (record { id = id; mac = mac; held = h }) in
       let want : set.contains wanted (object.Link name (Vlan lower id mac)) ≡ true = subst (λ n. set.contains wanted (object.Link name (Vlan n id mac)) ≡ true) same (sym told ∙ is) in
       let had : Has held (object.Link name (Vlan lower id mac)) = subst (λ n. Has held (object.Link name (Vlan n id mac))) same h in
-      below (lower_is_low held steady name lower steps v few) ∙ falls_by_lower held wanted steady name lower id mac had want
+      below (lower_is_low held steady name lower steps v few) ∙ loses_link_by_lower held wanted steady name lower id mac had want

@@ -17,15 +17,15 @@ use indexmap::IndexMap;
 use kern_model::{DevName, LinkKind, Object};
 
 /// Whether a name is that of a held link that is not wanted, or over one.
-pub(crate) fn falls(slots: &IndexMap<ObjectKey, Slot>, name: &DevName) -> bool
+pub(crate) fn loses_link(slots: &IndexMap<ObjectKey, Slot>, name: &DevName) -> bool
     requires { AreSlots slots.now.entries }
-    ensures { result ≡ touched.falls (set_on Side.Held slots.now.entries)
+    ensures { result ≡ touched.loses_link (set_on Side.Held slots.now.entries)
         (set_on Side.Wanted slots.now.entries) name.now }
 {
-    walks::falls(slots, name, slots.len())
+    walks::loses_link(slots, name, slots.len())
 }
 
-/// Whether a place of the object falls.
+/// Whether a place of the object loses its link.
 pub(crate) fn is_on_taken(slots: &IndexMap<ObjectKey, Slot>, object: &Object) -> bool
     requires { AreSlots slots.now.entries }
     ensures { result ≡ touched.is_on_taken (set_on Side.Held slots.now.entries)
@@ -35,15 +35,15 @@ pub(crate) fn is_on_taken(slots: &IndexMap<ObjectKey, Slot>, object: &Object) ->
         Object::Link {
             kind: LinkKind::Vlan { lower, .. },
             ..
-        } => falls(slots, lower),
+        } => loses_link(slots, lower),
         Object::Link { .. } => false,
-        Object::Mtu { name, .. } => falls(slots, name),
-        Object::Mac { name, .. } => falls(slots, name),
-        Object::Master { port, bridge } => falls(slots, port) || falls(slots, bridge),
-        Object::Vlan { bridge, port, .. } => falls(slots, port) || falls(slots, bridge),
-        Object::Up { name } => falls(slots, name),
-        Object::Address { dev, .. } => falls(slots, dev),
-        Object::Route(route) => falls(slots, &route.dev),
+        Object::Mtu { name, .. } => loses_link(slots, name),
+        Object::Mac { name, .. } => loses_link(slots, name),
+        Object::Master { port, bridge } => loses_link(slots, port) || loses_link(slots, bridge),
+        Object::Vlan { bridge, port, .. } => loses_link(slots, port) || loses_link(slots, bridge),
+        Object::Up { name } => loses_link(slots, name),
+        Object::Address { dev, .. } => loses_link(slots, dev),
+        Object::Route(route) => loses_link(slots, &route.dev),
     }
 }
 

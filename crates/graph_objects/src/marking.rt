@@ -48,14 +48,14 @@ fn mark_differences(slots: &IndexMap<ObjectKey, Slot>, marks: &mut Bits) -> bool
     ensures links { result ≡ false → spec.AreLinksWanted slots.now.entries }
     ensures size { length marks.new ≡ length marks.old }
 {
-    let mut falls = false;
+    let mut loses_link = false;
     for index in 0..slots.len() {
         let slot = &slots[index];
         let is_apart = differs(slot);
         marks.put(index, is_apart);
-        falls = falls | (is_apart & holds_link(slot));
+        loses_link = loses_link | (is_apart & holds_link(slot));
     }
-    falls
+    loses_link
 }
 
 /// Whether a slot holds an object on a link that is taken.

@@ -125,10 +125,10 @@ impl DeviceObjects {
     }
 
     /// Whether a name is that of a link that is taken, or over one.
-    pub fn falls(&self, name: &DevName) -> bool
-        ensures { result ≡ touched.falls (held_of self.now) (wanted_of self.now) name.now }
+    pub fn loses_link(&self, name: &DevName) -> bool
+        ensures { result ≡ touched.loses_link (held_of self.now) (wanted_of self.now) name.now }
     {
-        due::falls(&self.slots, name)
+        due::loses_link(&self.slots, name)
     }
 
     /// The calls that come next are put in order, so that each is found at once. Nothing else is

@@ -1,4 +1,5 @@
-//! Walks down the links of names: how high a name is, whether it falls, and what it is over.
+//! Walks down the links of names: how high a name is, whether it loses its link, and what it is
+//! over.
 ghost use Rattle.std.specs.Prelude.{◌≡◌, ◌≤◌};
 ghost use Rattle.kern_model.specs.Standing as standing;
 ghost use Rattle.kern_model.specs.Touched as touched;
@@ -33,10 +34,10 @@ pub(crate) fn height(
 
 /// Whether a name of no more than that height is that of a held link that is not wanted, or over
 /// one.
-pub(crate) fn falls(slots: &IndexMap<ObjectKey, Slot>, name: &DevName, steps: usize) -> bool
+pub(crate) fn loses_link(slots: &IndexMap<ObjectKey, Slot>, name: &DevName, steps: usize) -> bool
     requires { AreSlots slots.now.entries }
     ensures { standing.height (set_on Side.Held slots.now.entries) name.now ≤ steps
-        → result ≡ touched.falls (set_on Side.Held slots.now.entries)
+        → result ≡ touched.loses_link (set_on Side.Held slots.now.entries)
         (set_on Side.Wanted slots.now.entries) name.now }
 {
     let Some(kind) = link_of(slots, Side::Held, name) else {
@@ -51,7 +52,7 @@ pub(crate) fn falls(slots: &IndexMap<ObjectKey, Slot>, name: &DevName, steps: us
     if steps == 0 {
         return false;
     }
-    falls(slots, &lower, steps - 1)
+    loses_link(slots, &lower, steps - 1)
 }
 
 /// Whether a name of no more than that height is the base, or that of a held VLAN over it, however

@@ -33,8 +33,8 @@ abbrev pub next_put_in : State → Option Call
 next_put_in s = find (λ call. not (is_take call)) (calls_in s)
 
 -- the link of a name is taken, or a link on which the name stands
-abbrev pub falls_in : State → List ℕ → Bool
-falls_in s name = touched.falls s.held (want_in s.known) name
+abbrev pub loses_link_in : State → List ℕ → Bool
+loses_link_in s name = touched.loses_link s.held (want_in s.known) name
 
 -- how many objects are in one of what is held and what is wanted, and not in the other
 abbrev pub due_in : State → ℕ

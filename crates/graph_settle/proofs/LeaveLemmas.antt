@@ -17,16 +17,16 @@ use Rattle.kern_calls.specs.Lower.{is_lower, lower_part}
 use Rattle.kern_calls.specs.Upper.{is_upper, upper_part}
 use Rattle.kern_calls.proofs.FollowLemmas.{parts_are_whole, lower_goes, goes_with_up}
 use Rattle.graph_rules.specs.State.{State}
-use Rattle.graph_rules.specs.Calls.{is_held, falls_in}
+use Rattle.graph_rules.specs.Calls.{is_held, loses_link_in}
 use Rattle.graph_rules.specs.After.{left_by}
 use Rattle.given_objects.specs.declared.gift.Gift.{Gift}
 use Rattle.given_objects.specs.Gifts as gift
 use Rattle.given_objects.specs.Gifts.{Gifts, is_of, AreGifts}
-use Rattle.given_objects.specs.Changes.{changed, noted, with_falls}
+use Rattle.given_objects.specs.Changes.{changed, noted, with_lost_link}
 use Rattle.given_objects.proofs.ChangeLemmas.{of_itself, of_gift, has_gift}
-use Rattle.graph_settle.specs.Course.{Course, held_of, devices_of, IsReady}
+use Rattle.graph_settle.specs.SettlingState.{SettlingState, held_of, devices_of, IsReady}
 use Rattle.graph_settle.specs.Leaving.{looked_at, is_left, left_gift, left_gifts}
-use Rattle.graph_settle.proofs.CourseLemmas.{held_parts}
+use Rattle.graph_settle.proofs.SettlingStateLemmas.{held_parts}
 
 -- gifts of which the first ones were told something
 abbrev pub told : (Gift → Gift) → ℕ → Gifts → Gifts
@@ -109,25 +109,25 @@ module _ (s : State) (gs : Gifts) (n : ℕ) (read g : Gift) (at : slice_get gs n
   one : read ≡ g
   one = let both_are : Some read ≡ Some g = sym at ∙ also in cc both_are
 
-  pub looked : (falls : Bool) → falls ≡ falls_in s (name_of read.object) → with_falls gs n falls ≡ slice_set gs n (looked_at s g)
-  looked falls is =
-      ap (λ r. option_map_or (λ (x : Gift). slice_set gs n (record x { falls = falls })) r gs) also
-      ∙ ap (λ f. slice_set gs n (record g { falls = f })) (is ∙ ap (λ (x : Gift). falls_in s (name_of x.object)) one)
+  pub looked : (loses_link : Bool) → loses_link ≡ loses_link_in s (name_of read.object) → with_lost_link gs n loses_link ≡ slice_set gs n (looked_at s g)
+  looked loses_link is =
+      ap (λ r. option_map_or (λ (x : Gift). slice_set gs n (record x { loses_link = loses_link })) r gs) also
+      ∙ ap (λ f. slice_set gs n (record g { loses_link = f })) (is ∙ ap (λ (x : Gift). loses_link_in s (name_of x.object)) one)
 
   pub left_when : AreDistinct (map (λ (x : Gift). x.object) gs) → is_left s read ≡ true → noted gs read.object false ≡ slice_set gs n (left_gift s g)
   left_when once test =
-      changed_at (λ (x : Gift). record x { held = false; falls = false }) gs n read once at
-      ∙ ap (λ x. slice_set gs n x) (sym (ap (λ b. if b then record read { held = false; falls = false } else read) test))
+      changed_at (λ (x : Gift). record x { held = false; loses_link = false }) gs n read once at
+      ∙ ap (λ x. slice_set gs n x) (sym (ap (λ b. if b then record read { held = false; loses_link = false } else read) test))
       ∙ ap (λ (x : Gift). slice_set gs n (left_gift s x)) one
 
   pub left_unless : is_left s read ≡ false → gs ≡ slice_set gs n (left_gift s g)
   left_unless test =
       sym (set_same gs n read at)
-      ∙ ap (λ x. slice_set gs n x) (sym (ap (λ b. if b then record read { held = false; falls = false } else read) test))
+      ∙ ap (λ x. slice_set gs n x) (sym (ap (λ b. if b then record read { held = false; loses_link = false } else read) test))
       ∙ ap (λ (x : Gift). slice_set gs n (left_gift s x)) one
 
 -- what goes with a device, if it was there
-module _ (c : Course) (are : AreGifts c.gifts) (ready : IsReady c) (device : Option Device) (name : List ℕ) (now : State) (is : now.held ≡ left_by device name c.graph.held) where
+module _ (c : SettlingState) (are : AreGifts c.gifts) (ready : IsReady c) (device : Option Device) (name : List ℕ) (now : State) (is : now.held ≡ left_by device name c.graph.held) where
   -- the lower part goes as the graph says
   below_by : (d : Option Device) → lower_part (left_by d name (held_of c)) ≡ left_by d name c.graph.held
   below_by None = (held_parts c are ready.lower).0
@@ -157,7 +157,8 @@ module _ (c : Course) (are : AreGifts c.gifts) (ready : IsReady c) (device : Opt
   held_gift g member h = (of_retained (held_of c) is_upper g.object (subst (λ s. Has s g.object) (sym (held_parts c are ready.lower).1) (of_gift (λ (x : Gift). x.held) c.gifts g member h))).0
 
   -- a gift after the look
-  left_held : (g : Gift) (b : Bool) → (g.held && not (is_held now (object.Up (name_of g.object)))) ≡ b → (if b then record g { held = false; falls = false } else g).held ≡ true → (g.held ≡ true) × Has now.held (object.Up (name_of g.object))
+  left_held : (g : Gift) (b : Bool) → (g.held && not (is_held now (object.Up (name_of g.object)))) ≡ b → (if b then record g { held = false; loses_link = false } else g).held ≡ true → (g.held ≡ true)
+      × Has now.held (object.Up (name_of g.object))
   left_held g true test h = cc h
   left_held g false test h = (h, up (is_held now (object.Up (name_of g.object))) refl)
     where
@@ -165,7 +166,7 @@ module _ (c : Course) (are : AreGifts c.gifts) (ready : IsReady c) (device : Opt
       up true at = refl
       up false at = let on : (g.held && not (is_held now (object.Up (name_of g.object)))) ≡ true = of_both g.held (not (is_held now (object.Up (name_of g.object)))) h (ap not at) in absurd (cc (on, test))
 
-  left_object : (g : Gift) (b : Bool) → (if b then record g { held = false; falls = false } else g).object ≡ g.object
+  left_object : (g : Gift) (b : Bool) → (if b then record g { held = false; loses_link = false } else g).object ≡ g.object
   left_object g true = refl
   left_object g false = refl
 
@@ -178,7 +179,7 @@ module _ (c : Course) (are : AreGifts c.gifts) (ready : IsReady c) (device : Opt
       let g = from.gift in
       let up : Has now.held (object.Up (name_of g.object)) = subst (λ x. Has now.held (object.Up (name_of x))) (sym from.is)
       (subst (λ s. Has s (object.Up (name_of o))) below_is (has_retained (left_by device name (held_of c)) is_lower (object.Up (name_of o)) was.1 refl)) in
-      let stays : left_gift now g ≡ g = ap (λ b. if b then record g { held = false; falls = false } else g)
+      let stays : left_gift now g ≡ g = ap (λ b. if b then record g { held = false; loses_link = false } else g)
       (false_of_not (g.held && not (is_held now (object.Up (name_of g.object)))) (λ t. not_true (is_held now (object.Up (name_of g.object))) (both g.held _ t).1 up)) in
       let member : Contains (left_gifts now c.gifts) g = subst (Contains (left_gifts now c.gifts)) stays (map_member (left_gift now) c.gifts g from.member) in
       subst (Has (gift.held_of (left_gifts now c.gifts))) from.is (of_gift (λ (x : Gift). x.held) (left_gifts now c.gifts) g member from.passes))

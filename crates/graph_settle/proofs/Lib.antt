@@ -1,4 +1,4 @@
-pub mod CourseLemmas
+pub mod SettlingStateLemmas
 pub mod NextLemmas
 pub mod MadeLemmas
 pub mod EndLemmas

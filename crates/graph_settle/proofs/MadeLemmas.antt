@@ -13,13 +13,13 @@ use Rattle.kern_model.specs.ObjectOrder.{Objects, Has, object_cmp}
 use Rattle.kern_model.specs.Kernel.{name_of, object_of, replaces, after_call}
 use Rattle.kern_model.specs.Allowed.{AreAllowed}
 use Rattle.kern_model.specs.Admission.{Admits}
-use Rattle.kern_model.specs.Touched.{falls, is_taken, is_call}
+use Rattle.kern_model.specs.Touched.{loses_link, is_taken, is_call}
 use Rattle.kern_model.specs.CallOrder.{AreCalls}
 use Rattle.kern_model.proofs.MemberLemmas.{here, first_or_later, none_in_nil}
 use Rattle.kern_model.proofs.SetLemmas.{new_or_before, of_retained, of_without, has_retained}
 use Rattle.kern_model.proofs.TestLemmas.{not_true, of_right, false_of_not}
 use Rattle.kern_model.proofs.GoneLemmas.{over_more}
-use Rattle.kern_model.proofs.TouchLemmas.{falls_with, falls_of, taken_held, taken_unwanted, put_wanted}
+use Rattle.kern_model.proofs.TouchLemmas.{loses_link_with, loses_link_of, taken_held, taken_unwanted, put_wanted}
 use Rattle.kern_model.proofs.LeadLemmas.{taken_call, call_of_taken, admitted}
 use Rattle.kern_model.proofs.KeepLemmas.{calls_keep}
 use Rattle.kern_calls.specs.Calls.{own_take, calls}
@@ -32,10 +32,10 @@ use Rattle.kern_calls.proofs.UpperLemmas.{upper_taken}
 use Rattle.kern_calls.proofs.FollowLemmas.{lower_follows, upper_follows, parts_are_whole}
 use Rattle.graph_rules.specs.State.{State, devices_in}
 use Rattle.graph_rules.specs.Wanted.{want_in}
-use Rattle.graph_rules.specs.Calls.{calls_in, falls_in, is_take, next_take_in, next_put_in}
+use Rattle.graph_rules.specs.Calls.{calls_in, loses_link_in, is_take, next_take_in, next_put_in}
 use Rattle.graph_rules.specs.After.{did_after}
 use Rattle.graph_rules.specs.Conditions.{IsNext}
-use Rattle.graph_laws.proofs.FallLemmas.{links_kept}
+use Rattle.graph_laws.proofs.LostLinkLemmas.{links_kept}
 use Rattle.dev_graph.proofs.TakeLemmas.{found_in, found_none, next_put_wanted, next_put_last}
 use Rattle.given_objects.specs.declared.gift.Gift.{Gift}
 use Rattle.given_objects.specs.Gifts as gift
@@ -44,8 +44,8 @@ use Rattle.given_objects.specs.Changes.{noted}
 use Rattle.given_objects.proofs.ChangeLemmas.{of_itself, of_gift, has_gift, was_gift}
 use Rattle.given_objects.proofs.KeepLemmas.{note_given, note_put, note_take}
 use Rattle.given_objects.proofs.PlaceLemmas.{note_places, note_givers}
-use Rattle.graph_settle.specs.Course.{Course, held_of, wanted_of, devices_of, calls_of, noted_call, IsReady, IsAlike}
-use Rattle.graph_settle.proofs.CourseLemmas.{held_parts, wanted_parts, falls_below, first_is, want_lower}
+use Rattle.graph_settle.specs.SettlingState.{SettlingState, held_of, wanted_of, devices_of, calls_of, noted_call, IsReady, IsAlike}
+use Rattle.graph_settle.proofs.SettlingStateLemmas.{held_parts, wanted_parts, loses_link_below, first_is, want_lower}
 
 -- lists by their first item
 pub first_and_rest : {X : Type 0} (xs : List X) (x : X) → slice_get xs 0 ≡ Some x → xs ≡ x ∷ drop 1 xs
@@ -135,10 +135,10 @@ is_next s call is =
     next_by s call (next_take_in s) (next_put_in s) refl refl
     (sym (first_take_or_put is_take (λ o mtu mac. refl) (λ o. refl) (devices_in s.known) s.held (want_in s.known)) ∙ is)
 
--- where no link is taken nothing falls
-pub none_falls : (held wanted : Objects) → ((x : Object) → is_taken held wanted x ≡ true → ⊥) → (name : List ℕ) → falls held wanted name ≡ false
-none_falls held wanted none name = false_of_not (falls held wanted name) (λ h.
-    let f = falls_with held wanted name h in none (object.Link f.base f.kind) (taken_unwanted held wanted (object.Link f.base f.kind) f.had f.unwanted (λ r. r)))
+-- where no link is taken nothing loses its link
+pub none_loses_link : (held wanted : Objects) → ((x : Object) → is_taken held wanted x ≡ true → ⊥) → (name : List ℕ) → loses_link held wanted name ≡ false
+none_loses_link held wanted none name = false_of_not (loses_link held wanted name) (λ h.
+    let f = loses_link_with held wanted name h in none (object.Link f.base f.kind) (taken_unwanted held wanted (object.Link f.base f.kind) f.had f.unwanted (λ r. r)))
 
 pub none_taken : (s : State) → slice_get (calls_in s) 0 ≡ None → (x : Object) → is_taken s.held (want_in s.known) x ≡ true → ⊥
 none_taken s none x taken =
@@ -148,16 +148,16 @@ none_taken s none x taken =
     none_in_nil call (subst (λ xs. Contains xs call) (no_first (calls_in s) none) member)
 
 -- a call of a graph makes no name fall
-pub falls_before : (s : State) (call : Call) → IsNext s call → (name : List ℕ) → falls_in (did_after s call) name ≡ true → falls_in s name ≡ true
-falls_before s (Take o mtu mac) next name h =
+pub loses_link_before : (s : State) (call : Call) → IsNext s call → (name : List ℕ) → loses_link_in (did_after s call) name ≡ true → loses_link_in s name ≡ true
+loses_link_before s (Take o mtu mac) next name h =
     let was : (x : Object) → Has (set.remove s.held o) x → Has s.held x = λ x g. (of_without s.held o x g).0 in
-    let f = falls_with (set.remove s.held o) (want_in s.known) name h in
-    falls_of s.held (want_in s.known) name f.base f.kind (was (object.Link f.base f.kind) f.had) f.unwanted (over_more (set.remove s.held o) s.held was f.base name f.over)
-falls_before s (Put o) next name h =
+    let f = loses_link_with (set.remove s.held o) (want_in s.known) name h in
+    loses_link_of s.held (want_in s.known) name f.base f.kind (was (object.Link f.base f.kind) f.had) f.unwanted (over_more (set.remove s.held o) s.held was f.base name f.over)
+loses_link_before s (Put o) next name h =
     let stays = λ (old : Object). not (replaces o old) in
-    let f = falls_with (after_call s.held (Put o)) (want_in s.known) name h in
+    let f = loses_link_with (after_call s.held (Put o)) (want_in s.known) name h in
     let link = object.Link f.base f.kind in
-    elim (new_or_before (set.retain s.held stays) o link f.had) as (λ _. falls_in s name ≡ true) [
+    elim (new_or_before (set.retain s.held stays) o link f.had) as (λ _. loses_link_in s name ≡ true) [
       | inl same ↦ absurd (f.unwanted (subst (Has (want_in s.known)) (sym same) (next_put_wanted s o next)))
       | inr before ↦ absurd (next_put_last s o next link (taken_unwanted s.held (want_in s.known) link (of_retained s.held stays link before).0 f.unwanted (λ r. r)))
     ]
@@ -171,13 +171,13 @@ lower_kept held (Put o) lower mine x h = elim (new_or_before (set.retain held (�
 ]
 
 -- a course after its next call
-pub record IsMade (before after : Course) (call : Call) : Type 0 where
+pub record IsMade (before after : SettlingState) (call : Call) : Type 0 where
   pub held : held_of after ≡ after_call (held_of before) call
   pub left : calls_of before ≡ call ∷ calls_of after
   pub stays : IsAlike before after
   pub ready : IsReady after
 
-module _ (c : Course) (ready : IsReady c) (call : Call) (next : slice_get (calls_of c) 0 ≡ Some call) where
+module _ (c : SettlingState) (ready : IsReady c) (call : Call) (next : slice_get (calls_of c) 0 ≡ Some call) where
   begins : calls_of c ≡ call ∷ drop 1 (calls_of c)
   begins = first_and_rest (calls_of c) call next
 
@@ -198,7 +198,7 @@ module _ (c : Course) (ready : IsReady c) (call : Call) (next : slice_get (calls
   is_due : is_call (devices_of c) (held_of c) (wanted_of c) call ≡ true
   is_due = (are_the_calls (devices_of c) (held_of c) (wanted_of c)).sound call (first_member (calls_of c) call next)
 
-module _ (c : Course) (are : AreGifts c.gifts) (ready : IsReady c) (call : Call) (next : slice_get (calls_of c) 0 ≡ Some call) where
+module _ (c : SettlingState) (are : AreGifts c.gifts) (ready : IsReady c) (call : Call) (next : slice_get (calls_of c) 0 ≡ Some call) where
   in_parts : option_or (find is_upper_take (calls_of c)) (option_or (slice_get (calls_in c.graph) 0) (find is_upper_put (calls_of c))) ≡ Some call
   in_parts = sym (first_is c are ready.lower) ∙ next
 
@@ -216,8 +216,8 @@ module _ (c : Course) (are : AreGifts c.gifts) (ready : IsReady c) (call : Call)
     pub next_below : IsNext c.graph call
     next_below = is_next c.graph call below.1
 
-    abbrev below_then : Course
-    below_then = record { graph = did_after c.graph call; gifts = c.gifts; may_fall = c.may_fall }
+    abbrev below_then : SettlingState
+    below_then = record { graph = did_after c.graph call; gifts = c.gifts; may_lose_link = c.may_lose_link }
 
     held_below : set.union (after_call c.graph.held call) (gift.held_of c.gifts) ≡ after_call (held_of c) call
     held_below =
@@ -229,13 +229,13 @@ module _ (c : Course) (are : AreGifts c.gifts) (ready : IsReady c) (call : Call)
         ∙ ap (λ s. set.union (lower_part (after_call (held_of c) call)) s) second
         ∙ parts_are_whole (after_call (held_of c) call)
 
-    -- no gift that is held and given falls, since its take would come first
-    off : (g : Gift) → Contains c.gifts g → g.held ≡ true → is_given g ≡ true → falls_in c.graph (name_of g.object) ≡ false
-    off g member held given = false_of_not (falls_in c.graph (name_of g.object)) (λ fall.
+    -- no gift that is held and given loses its link, since its take would come first
+    off : (g : Gift) → Contains c.gifts g → g.held ≡ true → is_given g ≡ true → loses_link_in c.graph (name_of g.object) ≡ false
+    off g member held given = false_of_not (loses_link_in c.graph (name_of g.object)) (λ lost_link.
         let o = g.object in
         let upper = are.upper g member in
         let had : Has (held_of c) o = (of_retained (held_of c) is_upper o (subst (λ s. Has s o) (sym (held_parts c are ready.lower).1) (of_gift (λ (x : Gift). x.held) c.gifts g member held))).0 in
-        let taken = upper_taken (held_of c) (wanted_of c) o upper had ∙ of_right (not (set.contains (wanted_of c) o)) (falls (held_of c) (wanted_of c) (name_of o)) (sym (falls_below c are ready.lower (name_of o)) ∙ fall) in
+        let taken = upper_taken (held_of c) (wanted_of c) o upper had ∙ of_right (not (set.contains (wanted_of c) o)) (loses_link (held_of c) (wanted_of c) (name_of o)) (sym (loses_link_below c are ready.lower (name_of o)) ∙ lost_link) in
         let listed = (are_the_calls (devices_of c) (held_of c) (wanted_of c)).complete (own_take (devices_of c) o) (call_of_taken (devices_of c) (held_of c) (wanted_of c) o taken) in
         found_none is_upper_take (calls_of c) below.0 (own_take (devices_of c) o) listed upper)
 
@@ -248,10 +248,10 @@ module _ (c : Course) (are : AreGifts c.gifts) (ready : IsReady c) (call : Call)
         held = subst (AreAllowed (devices_of c)) (sym held_below) (allowed_then c ready call next);
         wanted = ready.wanted;
         lower = lower_kept c.graph.held call ready.lower lower;
-        falls = λ g member held given.
+        loses_link = λ g member held given.
             let still = off g member held given in
-            ready.falls g member held given ∙ still
-            ∙ sym (false_of_not (falls_in (did_after c.graph call) (name_of g.object)) (λ h. let fall = falls_before c.graph call next_below (name_of g.object) h in cc (fall, still)));
+            ready.loses_link g member held given ∙ still
+            ∙ sym (false_of_not (loses_link_in (did_after c.graph call) (name_of g.object)) (λ h. let lost_link = loses_link_before c.graph call next_below (name_of g.object) h in cc (lost_link, still)));
         links = λ none. links_kept c.graph (ready.links none) call next_below;
         quiet = ready.quiet;
       };
@@ -259,8 +259,8 @@ module _ (c : Course) (are : AreGifts c.gifts) (ready : IsReady c) (call : Call)
 
   -- a call of an address or a route
   module _ (upper : is_upper (object_of call) ≡ true) where
-    abbrev above_then : Course
-    above_then = record { graph = c.graph; gifts = noted_call c.gifts call; may_fall = c.may_fall }
+    abbrev above_then : SettlingState
+    above_then = record { graph = c.graph; gifts = noted_call c.gifts call; may_lose_link = c.may_lose_link }
 
     off_lower : is_lower_call call ≡ false
     off_lower = false_of_not (is_lower_call call) (λ lower. not_true (is_lower (object_of call)) upper lower)
@@ -299,36 +299,37 @@ module _ (c : Course) (are : AreGifts c.gifts) (ready : IsReady c) (call : Call)
         by (Take o mtu mac) due = ready.lower o (taken_held c.graph.held (want_in c.graph.known) o (taken_call (devices_of c) c.graph.held (want_in c.graph.known) o mtu mac due))
 
     -- what is put last is on names that do not fall
-    still : (o : Object) → call ≡ Put o → (name : List ℕ) → falls_in c.graph name ≡ false
+    still : (o : Object) → call ≡ Put o → (name : List ℕ) → loses_link_in c.graph name ≡ false
     still o is name =
         let none = above_by o (find is_upper_take (calls_of c)) (slice_get (calls_in c.graph) 0) (find is_upper_put (calls_of c)) takes lower_first (ap (λ x. is_upper (object_of x)) (sym is) ∙ upper) (in_parts ∙ ap Some is) in
-        none_falls c.graph.held (want_in c.graph.known) (none_taken c.graph none) name
+        none_loses_link c.graph.held (want_in c.graph.known) (none_taken c.graph none) name
 
-    falls_noted : (x : Call) → ((o : Object) → x ≡ Put o → (name : List ℕ) → falls_in c.graph name ≡ false) → (g : Gift) → Contains (noted_call c.gifts x) g → g.held ≡ true → is_given g ≡ true → g.falls ≡ falls_in c.graph (name_of g.object)
-    falls_noted (Put o) still g member held given =
-        let past = was_gift (λ (y : Gift). record y { held = true; falls = false }) c.gifts o g member in
-        elim past.by as (λ _. g.falls ≡ falls_in c.graph (name_of g.object)) [
-          | inl made ↦ sym (ap (λ (y : Gift). y.falls) made.1) ∙ sym (still o refl (name_of g.object))
-          | inr left ↦ subst (λ (y : Gift). y.falls ≡ falls_in c.graph (name_of y.object)) left.1
-              (ready.falls past.was past.member (ap (λ (y : Gift). y.held) left.1 ∙ held) (ap is_given left.1 ∙ given))
+    loses_link_noted : (x : Call) → ((o : Object) → x ≡ Put o → (name : List ℕ) → loses_link_in c.graph name ≡ false) → (g : Gift) → Contains (noted_call c.gifts x) g → g.held ≡ true → is_given g ≡ true → g.loses_link
+        ≡ loses_link_in c.graph (name_of g.object)
+    loses_link_noted (Put o) still g member held given =
+        let past = was_gift (λ (y : Gift). record y { held = true; loses_link = false }) c.gifts o g member in
+        elim past.by as (λ _. g.loses_link ≡ loses_link_in c.graph (name_of g.object)) [
+          | inl made ↦ sym (ap (λ (y : Gift). y.loses_link) made.1) ∙ sym (still o refl (name_of g.object))
+          | inr left ↦ subst (λ (y : Gift). y.loses_link ≡ loses_link_in c.graph (name_of y.object)) left.1
+              (ready.loses_link past.was past.member (ap (λ (y : Gift). y.held) left.1 ∙ held) (ap is_given left.1 ∙ given))
         ]
-    falls_noted (Take o mtu mac) still g member held given =
-        let past = was_gift (λ (y : Gift). record y { held = false; falls = false }) c.gifts o g member in
-        elim past.by as (λ _. g.falls ≡ falls_in c.graph (name_of g.object)) [
+    loses_link_noted (Take o mtu mac) still g member held given =
+        let past = was_gift (λ (y : Gift). record y { held = false; loses_link = false }) c.gifts o g member in
+        elim past.by as (λ _. g.loses_link ≡ loses_link_in c.graph (name_of g.object)) [
           | inl made ↦ let gone : g.held ≡ false = sym (ap (λ (y : Gift). y.held) made.1) in absurd (cc (held, gone))
-          | inr left ↦ subst (λ (y : Gift). y.falls ≡ falls_in c.graph (name_of y.object)) left.1
-              (ready.falls past.was past.member (ap (λ (y : Gift). y.held) left.1 ∙ held) (ap is_given left.1 ∙ given))
+          | inr left ↦ subst (λ (y : Gift). y.loses_link ≡ loses_link_in c.graph (name_of y.object)) left.1
+              (ready.loses_link past.was past.member (ap (λ (y : Gift). y.held) left.1 ∙ held) (ap is_given left.1 ∙ given))
         ]
 
-    noted_quiet : (o : Object) (b : Bool) → c.may_fall ≡ false → (g : Gift) → Contains (noted c.gifts o b) g → g.held ≡ true → g.falls ≡ false
+    noted_quiet : (o : Object) (b : Bool) → c.may_lose_link ≡ false → (g : Gift) → Contains (noted c.gifts o b) g → g.held ≡ true → g.loses_link ≡ false
     noted_quiet o b off g member has =
-        let past = was_gift (λ (y : Gift). record y { held = b; falls = false }) c.gifts o g member in
-        elim past.by as (λ _. g.falls ≡ false) [
-          | inl made ↦ sym (ap (λ (y : Gift). y.falls) made.1)
-          | inr left ↦ subst (λ (y : Gift). y.falls ≡ false) left.1 (ready.quiet off past.was past.member (ap (λ (y : Gift). y.held) left.1 ∙ has))
+        let past = was_gift (λ (y : Gift). record y { held = b; loses_link = false }) c.gifts o g member in
+        elim past.by as (λ _. g.loses_link ≡ false) [
+          | inl made ↦ sym (ap (λ (y : Gift). y.loses_link) made.1)
+          | inr left ↦ subst (λ (y : Gift). y.loses_link ≡ false) left.1 (ready.quiet off past.was past.member (ap (λ (y : Gift). y.held) left.1 ∙ has))
         ]
 
-    quiet_noted : (x : Call) → c.may_fall ≡ false → (g : Gift) → Contains (noted_call c.gifts x) g → g.held ≡ true → g.falls ≡ false
+    quiet_noted : (x : Call) → c.may_lose_link ≡ false → (g : Gift) → Contains (noted_call c.gifts x) g → g.held ≡ true → g.loses_link ≡ false
     quiet_noted (Put o) off g member has = noted_quiet o true off g member has
     quiet_noted (Take o mtu mac) off g member has = noted_quiet o false off g member has
 
@@ -341,22 +342,22 @@ module _ (c : Course) (are : AreGifts c.gifts) (ready : IsReady c) (call : Call)
         held = subst (AreAllowed (devices_of c)) (sym held_above) (allowed_then c ready call next);
         wanted = subst (AreAllowed (devices_of c)) (sym wanted_above) ready.wanted;
         lower = ready.lower;
-        falls = falls_noted call still;
+        loses_link = loses_link_noted call still;
         links = ready.links;
         quiet = quiet_noted call;
       };
     }
 
 -- the course that is left is one of these
-module _ (c : Course) (are : AreGifts c.gifts) (ready : IsReady c) (call : Call) (next : slice_get (calls_of c) 0 ≡ Some call) where
-  pub made_did : is_lower_call call ≡ true → (s : State) → s ≡ did_after c.graph call → IsMade c (record { graph = s; gifts = c.gifts; may_fall = c.may_fall }) call
+module _ (c : SettlingState) (are : AreGifts c.gifts) (ready : IsReady c) (call : Call) (next : slice_get (calls_of c) 0 ≡ Some call) where
+  pub made_did : is_lower_call call ≡ true → (s : State) → s ≡ did_after c.graph call → IsMade c (record { graph = s; gifts = c.gifts; may_lose_link = c.may_lose_link }) call
   made_did lower s is =
-      let same : (let then : Course = record { graph = did_after c.graph call; gifts = c.gifts; may_fall = c.may_fall } in then) ≡ record { graph = s; gifts = c.gifts; may_fall = c.may_fall } =
-      λ i. record { graph = sym is i; gifts = c.gifts; may_fall = c.may_fall } in
-      subst (λ (after : Course). IsMade c after call) same (made_below c are ready call next lower)
+      let same : (let then : SettlingState = record { graph = did_after c.graph call; gifts = c.gifts; may_lose_link = c.may_lose_link } in then) ≡ record { graph = s; gifts = c.gifts; may_lose_link = c.may_lose_link } =
+      λ i. record { graph = sym is i; gifts = c.gifts; may_lose_link = c.may_lose_link } in
+      subst (λ (after : SettlingState). IsMade c after call) same (made_below c are ready call next lower)
 
-  pub made_noted : is_upper (object_of call) ≡ true → (gs : Gifts) → gs ≡ noted_call c.gifts call → IsMade c (record { graph = c.graph; gifts = gs; may_fall = c.may_fall }) call
+  pub made_noted : is_upper (object_of call) ≡ true → (gs : Gifts) → gs ≡ noted_call c.gifts call → IsMade c (record { graph = c.graph; gifts = gs; may_lose_link = c.may_lose_link }) call
   made_noted upper gs is =
-      let same : (let then : Course = record { graph = c.graph; gifts = noted_call c.gifts call; may_fall = c.may_fall } in then) ≡ record { graph = c.graph; gifts = gs; may_fall = c.may_fall } =
-      λ i. record { graph = c.graph; gifts = sym is i; may_fall = c.may_fall } in
-      subst (λ (after : Course). IsMade c after call) same (made_above c are ready call next upper)
+      let same : (let then : SettlingState = record { graph = c.graph; gifts = noted_call c.gifts call; may_lose_link = c.may_lose_link } in then) ≡ record { graph = c.graph; gifts = gs; may_lose_link = c.may_lose_link } =
+      λ i. record { graph = c.graph; gifts = sym is i; may_lose_link = c.may_lose_link } in
+      subst (λ (after : SettlingState). IsMade c after call) same (made_above c are ready call next upper)

@@ -15,8 +15,8 @@ use Rattle.graph_rules.specs.Calls.{calls_in, is_take, next_take_in, next_put_in
 use Rattle.given_objects.specs.Gifts.{AreGifts}
 use Rattle.given_objects.specs.First.{is_take_due, is_put_due, plain_take, IsFirstGift, NoneDue}
 use Rattle.given_objects.proofs.CallLemmas.{take_found, put_found}
-use Rattle.graph_settle.specs.Course.{Course, held_of, wanted_of, devices_of, calls_of, IsReady}
-use Rattle.graph_settle.proofs.CourseLemmas.{held_parts, wanted_parts, first_is, know}
+use Rattle.graph_settle.specs.SettlingState.{SettlingState, held_of, wanted_of, devices_of, calls_of, IsReady}
+use Rattle.graph_settle.proofs.SettlingStateLemmas.{held_parts, wanted_parts, first_is, know}
 
 -- the first call of a graph
 below_first : (s : State) → slice_get (calls_in s) 0 ≡ option_or (next_take_in s) (next_put_in s)
@@ -28,7 +28,7 @@ below_take s call is = sym (below_first s ∙ ap (λ t. option_or t (next_put_in
 pub below_put : (s : State) (found : Option Call) → None ≡ next_take_in s → found ≡ next_put_in s → found ≡ slice_get (calls_in s) 0
 below_put s found none is = is ∙ sym (below_first s ∙ ap (λ t. option_or t (next_put_in s)) (sym none))
 
-module _ (c : Course) (are : AreGifts c.gifts) (ready : IsReady c) where
+module _ (c : SettlingState) (are : AreGifts c.gifts) (ready : IsReady c) where
   taken : (found : Option Object) → IfSome found (IsFirstGift is_take_due plain_take c.gifts) → IfNone found (NoneDue is_take_due c.gifts) → find is_upper_take (calls_of c) ≡ option_map (own_take (devices_of c)) found
   taken found some none = take_found (devices_of c) (held_of c) (wanted_of c) c.gifts are (held_parts c are ready.lower).1 (wanted_parts c are ready.lower).1 (know c are ready) found some none
 

@@ -5,7 +5,7 @@ ghost use Rattle.given_objects.specs.declared.gift.Gift.{Gift};
 ghost use Rattle.graph_rules.specs.After.{name_at, left_by, absent_after};
 ghost use Rattle.graph_rules.specs.Conditions.{IsId};
 ghost use Rattle.graph_rules.specs.Edges.{changed_edges};
-ghost use Rattle.graph_settle.specs.Course.{held_of, IsReady};
+ghost use Rattle.graph_settle.specs.SettlingState.{held_of, IsReady};
 ghost use Rattle.graph_settle.specs.Leaving as spec;
 ghost use Rattle.graph_settle.specs.Leaving.{looked_at, all_looked_at, left_gift, left_gifts};
 
@@ -19,16 +19,16 @@ use std::sync::ledger::Ledger;
 use use_counts::Steps;
 
 impl GraphSettling {
-    /// Each gift is told whether its name falls. From now on one may fall.
-    pub fn look_at_falls(&mut self)
+    /// Each gift is told whether its name loses its link. From now on one may fall.
+    pub fn view_lost_links(&mut self)
         ensures gifts { self.new.gifts ≡ all_looked_at self.old.graph self.old.gifts }
-        ensures may_fall { self.new.may_fall ≡ true }
+        ensures may_lose_link { self.new.may_lose_link ≡ true }
         ensures graph { self.new.graph ≡ self.old.graph }
     {
         for place in 0..self.gifts.len() {
             look_at(&mut self.gifts, place, &self.graph);
         }
-        self.may_fall = true;
+        self.may_lose_link = true;
     }
 
     /// The device of an id is gone, and what is held on it with it. One that is not there stays so,
@@ -40,7 +40,7 @@ impl GraphSettling {
             held_of self.new ≡ left_by named.device named.name (held_of self.old) }
         ensures graph { self.new.graph ≡ absent_after self.old.graph id.0 }
         ensures gifts { self.new.gifts ≡ left_gifts self.new.graph self.old.gifts }
-        ensures may_fall { self.new.may_fall ≡ self.old.may_fall }
+        ensures may_lose_link { self.new.may_lose_link ≡ self.old.may_lose_link }
         ensures cost { steps.new ≤ steps.old
             + (1 + 2 * changed_edges self.old.graph.known self.new.graph.known) }
     {
@@ -52,14 +52,14 @@ impl GraphSettling {
     }
 }
 
-/// The gift at a place is told whether its name falls.
+/// The gift at a place is told whether its name loses its link.
 fn look_at(gifts: &mut GivenObjects, place: usize, graph: &Graph)
     requires { place < length gifts.old }
     ensures { (g : Gift) → slice_get gifts.old place ≡ Some g
         → gifts.new ≡ slice_set gifts.old place (looked_at graph.now g) }
 {
-    let falls = graph.falls(&gifts.gift(place).object.name());
-    gifts.note_falls(place, falls);
+    let loses_link = graph.loses_link(&gifts.gift(place).object.name());
+    gifts.note_lost_link(place, loses_link);
 }
 
 /// The gift at a place is held no longer where its name is not up.

@@ -5,8 +5,9 @@ ghost use Rattle.kern_calls.specs.Due.{due_count};
 ghost use Rattle.kern_calls.specs.Upper as upper;
 ghost use Rattle.graph_rules.specs.Calls.{calls_in};
 ghost use Rattle.given_objects.specs.Gifts.{AreGifts, has_place};
-ghost use Rattle.graph_settle.specs.Course.{held_of, wanted_of, calls_of, noted_call, IsReady};
-ghost use Rattle.graph_settle.specs.Course.{IsAlike};
+ghost use Rattle.graph_settle.specs.SettlingState.{held_of, wanted_of, calls_of, noted_call};
+ghost use Rattle.graph_settle.specs.SettlingState.{IsReady};
+ghost use Rattle.graph_settle.specs.SettlingState.{IsAlike};
 
 use crate::settling::GraphSettling;
 use dev_graph::Graph;
@@ -40,7 +41,7 @@ impl GraphSettling {
         ensures held { held_of self.new ≡ after_call (held_of self.old) call.now }
         ensures left { calls_of self.old ≡ call.now ∷ calls_of self.new }
         ensures stays { IsAlike self.old self.new }
-        ensures may_fall { self.new.may_fall ≡ self.old.may_fall }
+        ensures may_lose_link { self.new.may_lose_link ≡ self.old.may_lose_link }
         ensures ready { IsReady self.new }
     {
         are_gifts(&self.gifts);

@@ -3,8 +3,8 @@ ghost use Rattle.plane_words.specs.Causes.{HasCause};
 ghost use Rattle.plane_words.specs.Growth.{Grows, GrowsByFront};
 ghost use Rattle.net_settle.specs.Outside.{outside_of};
 ghost use Rattle.net_settle.specs.Settle.{SettleEnds, whole_line};
-ghost use Rattle.graph_settle.specs.Course.{held_of, wanted_of, calls_of, IsReady, IsAlike};
-ghost use Rattle.graph_settle.specs.Course.{HoldsAs};
+ghost use Rattle.graph_settle.specs.SettlingState.{held_of, wanted_of, calls_of, IsReady, IsAlike};
+ghost use Rattle.graph_settle.specs.SettlingState.{HoldsAs};
 
 use crate::next::are_gifts;
 use crate::settling::GraphSettling;
@@ -34,8 +34,8 @@ impl GraphSettling {
         ensures reached { OnOk result (held_of self.new ≡ wanted_of self.old) }
         ensures of { HoldsAs K.Kernel kernel.new self.new }
         ensures stays { IsAlike self.old self.new }
-        ensures done { OnOk result (self.new.may_fall ≡ false) }
-        ensures stopped { OnErr result (self.new.may_fall ≡ self.old.may_fall) }
+        ensures done { OnOk result (self.new.may_lose_link ≡ false) }
+        ensures stopped { OnErr result (self.new.may_lose_link ≡ self.old.may_lose_link) }
         ensures ready { IsReady self.new }
         ensures later { (K.faults kernel.old ≤ K.faults kernel.new)
             × (O.faults out.old ≤ O.faults out.new) }
@@ -51,7 +51,7 @@ impl GraphSettling {
             };
         }
         are_gifts(&self.gifts);
-        self.may_fall = false;
+        self.may_lose_link = false;
         Ok(())
     }
 }

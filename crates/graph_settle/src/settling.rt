@@ -1,6 +1,6 @@
 ghost use Rattle.std.specs.Prelude.{◌≡◌, [], false};
 ghost use Rattle.graph_rules.specs.State as state;
-ghost use Rattle.graph_settle.specs.Course.{IsReady};
+ghost use Rattle.graph_settle.specs.SettlingState.{IsReady};
 
 use dev_graph::Graph;
 use given_objects::GivenObjects;
@@ -13,19 +13,19 @@ pub struct GraphSettling {
     pub graph: Graph,
     pub gifts: GivenObjects,
     /// Whether a name may fall on which something is given.
-    pub may_fall: bool,
+    pub may_lose_link: bool,
 }
 
 impl GraphSettling {
     /// Nothing held and nothing wanted. It takes no memory.
     pub fn new(alloc: Global) -> GraphSettling
-        ensures bare { result ≡ record { graph = state.empty; gifts = []; may_fall = false } }
+        ensures bare { result ≡ record { graph = state.empty; gifts = []; may_lose_link = false } }
         ensures ready { IsReady result }
     {
         GraphSettling {
             graph: Graph::new(alloc),
             gifts: GivenObjects::new(alloc),
-            may_fall: false,
+            may_lose_link: false,
         }
     }
 

@@ -18,7 +18,7 @@ use Rattle.kern_model.specs.ObjectOrder.{Objects, Has}
 use Rattle.kern_model.specs.Standing.{places_of, IsOver, is_vlan_under, height}
 use Rattle.kern_model.specs.Kernel.{Devices, replaces}
 use Rattle.kern_model.specs.Allowed.{AreAllowed}
-use Rattle.kern_model.specs.Touched.{falls, is_on_taken, is_touched, is_replaced, is_taken, is_put, is_call}
+use Rattle.kern_model.specs.Touched.{loses_link, is_on_taken, is_touched, is_replaced, is_taken, is_put, is_call}
 use Rattle.kern_model.specs.CallOrder.{rank, height_of, height_place, call_cmp, AreCalls, after_calls}
 use Rattle.kern_model.proofs.OrderLemmas.{calls_total, rank_rises, place_rises}
 use Rattle.kern_model.proofs.MemberLemmas.{here, none_in_nil, member_of_all}
@@ -28,7 +28,8 @@ use Rattle.kern_model.proofs.StandingLemmas.{over_cases, higher, height_within}
 use Rattle.kern_model.proofs.GoneLemmas.{is_over_of_test, test_of_is_over, over_more}
 use Rattle.kern_model.proofs.AllowedLemmas.{one_link}
 use Rattle.kern_model.proofs.KeepLemmas.{only_one}
-use Rattle.kern_model.proofs.TouchLemmas.{replaceable, falls_with, falls_of, on_taken_at, touched_held, touched_wanted, touched_on, touched_cases, replaced_by, taken_held, taken_touched, taken_not_replaced, taken_of, taken_on, put_wanted}
+use Rattle.kern_model.proofs.TouchLemmas.{replaceable, loses_link_with, loses_link_of, on_taken_at, touched_held, touched_wanted, touched_on, touched_cases, replaced_by, taken_held, taken_touched, taken_not_replaced, taken_of, taken_on}
+use Rattle.kern_model.proofs.TouchLemmas.{put_wanted}
 use Rattle.kern_model.proofs.TouchLemmas.{put_of, put_touched}
 use Rattle.kern_model.proofs.LeadLemmas.{own_take, IsPut, PutsAreLeft, TakesAreLeft, AtTake, at_first, after_take, after_puts, puts_are_left, all_puts, first_before, taken_call, carries, is_own, call_of_taken}
 use Rattle.kern_calls.proofs.AlikeLemmas.{left_alike, less_alike, resorted, front_less}
@@ -177,21 +178,21 @@ module _ (devices : Devices) (held wanted : Objects) (from : AreAllowed devices 
     -- what waits on a link that is taken does so still
     on_taken_still : (o : Object) → Contains rest (own_take devices o) → is_on_taken held wanted o ≡ true → is_on_taken now wanted o ≡ true
     on_taken_still o waits h =
-        let found = from_any (falls held wanted) (places_of o) h in
+        let found = from_any (loses_link held wanted) (places_of o) h in
         let place = found.passing in
-        let f = falls_with held wanted place found.passes in
+        let f = loses_link_with held wanted place found.passes in
         let over = is_over_of_test held f.base place f.over in
         let had = waits_held o waits in
         let keep : (v : List ℕ) (kind : LinkKind) → Has held (object.Link v kind) → IsOver held v place → Has now (object.Link v kind) = λ v kind g q. link_left o v kind waits g (below_place o place v had found.member q) in
         on_taken_at now wanted o place found.member
-        (falls_of now wanted place f.base f.kind (keep f.base f.kind f.had over) f.unwanted (test_of_is_over now f.base place (still_over held now f.base place keep over)))
+        (loses_link_of now wanted place f.base f.kind (keep f.base f.kind f.had over) f.unwanted (test_of_is_over now f.base place (still_over held now f.base place keep over)))
 
     was_on_taken : (o : Object) → is_on_taken now wanted o ≡ true → is_on_taken held wanted o ≡ true
     was_on_taken o h =
-        let found = from_any (falls now wanted) (places_of o) h in
-        let f = falls_with now wanted found.passing found.passes in
+        let found = from_any (loses_link now wanted) (places_of o) h in
+        let f = loses_link_with now wanted found.passing found.passes in
         on_taken_at held wanted o found.passing found.member
-        (falls_of held wanted found.passing f.base f.kind (was_held (object.Link f.base f.kind) f.had) f.unwanted (over_more now held was_held f.base found.passing f.over))
+        (loses_link_of held wanted found.passing f.base f.kind (was_held (object.Link f.base f.kind) f.had) f.unwanted (over_more now held was_held f.base found.passing f.over))
 
     -- heights of what waits
     high_still : (o : Object) → Contains rest (own_take devices o) → height_of held o ≡ height_of now o
@@ -288,16 +289,16 @@ module _ (devices : Devices) (held wanted : Objects) (from : AreAllowed devices 
 
   -- where puts alone are left
   module _ (all : AllByRecursion IsPut rest) (on : PutsAreLeft devices held wanted now rest) where
-    nothing_falls : (name : List ℕ) → falls now wanted name ≡ true → ⊥
-    nothing_falls name h =
-        let f = falls_with now wanted name h in
+    no_link_is_lost : (name : List ℕ) → loses_link now wanted name ≡ true → ⊥
+    no_link_is_lost name h =
+        let f = loses_link_with now wanted name h in
         elim (on.kept (object.Link f.base f.kind) f.had) as (λ _. ⊥) [
           | inl stays ↦ f.unwanted stays.0
           | inr still ↦ replaceable still.by (object.Link f.base f.kind) still.place
         ]
 
     not_on_taken : (o : Object) → is_on_taken now wanted o ≡ true → ⊥
-    not_on_taken o h = let found = from_any (falls now wanted) (places_of o) h in nothing_falls found.passing found.passes
+    not_on_taken o h = let found = from_any (loses_link now wanted) (places_of o) h in no_link_is_lost found.passing found.passes
 
     unheld : (o : Object) → Contains rest (Put o) → Has now o → ⊥
     unheld o member h = elim (on.kept o h) as (λ _. ⊥) [

@@ -1,4 +1,4 @@
--- What the calls leave alone, what falls, and what grounds VLANs.
+-- What the calls leave alone, what loses its link, and what grounds VLANs.
 use Rattle.std.proofs.Common.{arith, ℕ, ◌≡◌, ◌≤◌, ◌<◌, ◌++◌, inl, inr, List, [], ◌∷◌, Option, true, false, Bool, cond, Contains, length, filter, refl, ap, sym, subst, ◌∙◌}
 use Rattle.std.specs.declared.cmp.Ordering.TheVariants.{Less}
 use Rattle.std.specs.List.Sorted.{IsStrictlySortedBy}
@@ -13,23 +13,23 @@ use Rattle.kern_model.specs.declared.object.Call.TheVariants.{Put, Take}
 use Rattle.kern_model.specs.ObjectOrder.{Objects, Has, object_cmp}
 use Rattle.kern_model.specs.Standing.{places_of, is_over, IsOver}
 use Rattle.kern_model.specs.Kernel.{Devices, object_of, after_call}
-use Rattle.kern_model.specs.Touched.{falls, is_touched, is_call}
+use Rattle.kern_model.specs.Touched.{loses_link, is_touched, is_call}
 use Rattle.kern_model.specs.CallOrder.{call_cmp, AreAdmitted, after_calls}
 use Rattle.kern_model.proofs.OrderLemmas.{objects_total, calls_total}
 use Rattle.kern_model.proofs.MemberLemmas.{here, there, member_of_all}
 use Rattle.kern_model.proofs.SetLemmas.{same_object, same_members, none_in_empty}
 use Rattle.kern_model.proofs.TestLemmas.{both, of_both, not_true, of_not, from_any}
 use Rattle.kern_model.proofs.GoneLemmas.{is_over_of_test, test_of_is_over}
-use Rattle.kern_model.proofs.TouchLemmas.{falls_with, falls_above, link_falls, taken_unwanted, touched_cases, taken_touched, put_touched}
+use Rattle.kern_model.proofs.TouchLemmas.{loses_link_with, loses_link_above, link_loses_link, taken_unwanted, touched_cases, taken_touched, put_touched}
 use Rattle.kern_model.proofs.LeadLemmas.{own_take, taken_call, carries, is_own}
 use Rattle.kern_calls.specs.Kept.{IsOverTaken, IsOffTaken, IsWholePart}
 use Rattle.kern_calls.specs.Counted.{takes, puts}
 use Rattle.kern_calls.specs.Due.{due_count}
 
--- what falls
-pub over_taken : (held wanted : Objects) (name : List ℕ) → falls held wanted name ≡ true → IsOverTaken held wanted name
+-- what loses its link
+pub over_taken : (held wanted : Objects) (name : List ℕ) → loses_link held wanted name ≡ true → IsOverTaken held wanted name
 over_taken held wanted name h =
-    let f = falls_with held wanted name h in
+    let f = loses_link_with held wanted name h in
     record {
       base = f.base;
       kind = f.kind;
@@ -37,8 +37,8 @@ over_taken held wanted name h =
       over = is_over_of_test held f.base name f.over;
     }
 
-pub falls_over : (held wanted : Objects) (name : List ℕ) → IsOverTaken held wanted name → falls held wanted name ≡ true
-falls_over held wanted name t = falls_above held wanted t.base name (link_falls held wanted t.base t.kind t.taken) (test_of_is_over held t.base name t.over)
+pub loses_link_over : (held wanted : Objects) (name : List ℕ) → IsOverTaken held wanted name → loses_link held wanted name ≡ true
+loses_link_over held wanted name t = loses_link_above held wanted t.base name (link_loses_link held wanted t.base t.kind t.taken) (test_of_is_over held t.base name t.over)
 
 -- the object of a call is touched
 pub touched_call : (devices : Devices) (held wanted : Objects) (call : Call) → is_call devices held wanted call ≡ true → is_touched held wanted (object_of call) ≡ true
@@ -49,12 +49,12 @@ pub no_call : (devices : Devices) (held wanted : Objects) (call : Call) → Has 
 no_call devices held wanted call had is off due =
     elim (touched_cases held wanted (object_of call) had (touched_call devices held wanted call due)) as (λ _. ⊥) [
       | inl unwanted ↦ unwanted is
-      | inr on ↦ let found = from_any (falls held wanted) (places_of (object_of call)) on in off found.passing found.member (over_taken held wanted found.passing found.passes)
+      | inr on ↦ let found = from_any (loses_link held wanted) (places_of (object_of call)) on in off found.passing found.member (over_taken held wanted found.passing found.passes)
     ]
 
 pub part_is_off : (held wanted part : Objects) → IsWholePart held wanted part → (o : Object) → Has part o → IsOffTaken held wanted o
 part_is_off held wanted part kept o h place at over =
-    let f = falls_with held wanted place (falls_over held wanted place over) in
+    let f = loses_link_with held wanted place (loses_link_over held wanted place over) in
     f.unwanted (kept.stays (object.Link f.base f.kind) (kept.whole o place f.base f.kind h at f.had (is_over_of_test held f.base place f.over)))
 
 -- no two members that pass: one passes at most

@@ -12,13 +12,14 @@ use Rattle.kern_model.specs.declared.object.Call.TheVariants.{Put, Take}
 use Rattle.kern_model.specs.ObjectOrder.{Objects, Has}
 use Rattle.kern_model.specs.Standing.{places_of, is_over}
 use Rattle.kern_model.specs.Kernel.{Devices, replaces}
-use Rattle.kern_model.specs.Touched.{falls, is_on_taken, is_touched, is_taken, is_put, is_call}
+use Rattle.kern_model.specs.Touched.{loses_link, is_on_taken, is_touched, is_taken, is_put, is_call}
 use Rattle.kern_model.specs.CallOrder.{rank, height_of, height_place, call_cmp, AreCalls}
 use Rattle.kern_model.proofs.MemberLemmas.{here, there, first_or_later, all_members, member_of_all}
 use Rattle.kern_model.proofs.SetLemmas.{has_retained, of_retained}
 use Rattle.kern_model.proofs.TestLemmas.{true_or_not, from_any}
 use Rattle.kern_model.proofs.GoneLemmas.{is_over_of_test, test_of_is_over, over_more}
-use Rattle.kern_model.proofs.TouchLemmas.{falls_with, falls_of, on_taken_at, touched_held, touched_wanted, touched_on, touched_cases, replaced_by, taken_held, taken_touched, taken_not_replaced, taken_of, put_wanted, put_of, put_touched}
+use Rattle.kern_model.proofs.TouchLemmas.{loses_link_with, loses_link_of, on_taken_at, touched_held, touched_wanted, touched_on, touched_cases, replaced_by, taken_held, taken_touched, taken_not_replaced, taken_of, put_wanted, put_of}
+use Rattle.kern_model.proofs.TouchLemmas.{put_touched}
 use Rattle.kern_model.proofs.LeadLemmas.{taken_call, carries, is_own, call_of_taken}
 use Rattle.kern_calls.specs.Lower.{is_lower, lower_part, is_lower_call}
 use Rattle.kern_calls.proofs.FilterLemmas.{from_filter, in_filter}
@@ -72,18 +73,18 @@ high_in_part s o = refl
 module _ (held wanted : Objects) where
   on_in_part : (o : Object) → is_on_taken held wanted o ≡ true → is_on_taken (lower_part held) (lower_part wanted) o ≡ true
   on_in_part o h =
-      let found = from_any (falls held wanted) (places_of o) h in
-      let f = falls_with held wanted found.passing found.passes in
+      let found = from_any (loses_link held wanted) (places_of o) h in
+      let f = loses_link_with held wanted found.passing found.passes in
       on_taken_at (lower_part held) (lower_part wanted) o found.passing found.member
-      (falls_of (lower_part held) (lower_part wanted) found.passing f.base f.kind (in_part held (object.Link f.base f.kind) f.had refl) (λ is. f.unwanted (of_part wanted (object.Link f.base f.kind) is))
+      (loses_link_of (lower_part held) (lower_part wanted) found.passing f.base f.kind (in_part held (object.Link f.base f.kind) f.had refl) (λ is. f.unwanted (of_part wanted (object.Link f.base f.kind) is))
       (over_in_part held f.base found.passing f.over))
 
   on_of_part : (o : Object) → is_on_taken (lower_part held) (lower_part wanted) o ≡ true → is_on_taken held wanted o ≡ true
   on_of_part o h =
-      let found = from_any (falls (lower_part held) (lower_part wanted)) (places_of o) h in
-      let f = falls_with (lower_part held) (lower_part wanted) found.passing found.passes in
+      let found = from_any (loses_link (lower_part held) (lower_part wanted)) (places_of o) h in
+      let f = loses_link_with (lower_part held) (lower_part wanted) found.passing found.passes in
       on_taken_at held wanted o found.passing found.member
-      (falls_of held wanted found.passing f.base f.kind (of_part held (object.Link f.base f.kind) f.had) (λ is. f.unwanted (in_part wanted (object.Link f.base f.kind) is refl)) (over_of_part held f.base found.passing f.over))
+      (loses_link_of held wanted found.passing f.base f.kind (of_part held (object.Link f.base f.kind) f.had) (λ is. f.unwanted (in_part wanted (object.Link f.base f.kind) is refl)) (over_of_part held f.base found.passing f.over))
 
   taken_in_part : (o : Object) → is_lower o ≡ true → is_taken held wanted o ≡ true → is_taken (lower_part held) (lower_part wanted) o ≡ true
   taken_in_part o lower taken =

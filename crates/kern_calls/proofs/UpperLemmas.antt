@@ -13,20 +13,20 @@ use Rattle.kern_model.specs.declared.object.Call.{Call}
 use Rattle.kern_model.specs.declared.object.Call.TheVariants.{Put, Take}
 use Rattle.kern_model.specs.ObjectOrder.{Objects, Has, call_key}
 use Rattle.kern_model.specs.Kernel.{name_of, object_of}
-use Rattle.kern_model.specs.Touched.{falls, is_on_taken, is_touched, is_taken, is_put}
+use Rattle.kern_model.specs.Touched.{loses_link, is_on_taken, is_touched, is_taken, is_put}
 use Rattle.kern_model.specs.Line.{line_of}
 use Rattle.kern_model.specs.CallOrder.{rank, height_of, height_place, call_cmp}
 use Rattle.kern_model.proofs.OrderLemmas.{tied_of_equal}
 use Rattle.kern_model.proofs.SetLemmas.{has_retained, of_retained}
 use Rattle.kern_model.proofs.TestLemmas.{either, of_left, of_right, not_true, of_not, true_or_not, true_of_both_ways}
 use Rattle.kern_model.proofs.GoneLemmas.{is_over_of_test, test_of_is_over, over_more}
-use Rattle.kern_model.proofs.TouchLemmas.{IsReplaceable, replaceable, falls_with, falls_of, touched_held, touched_wanted, touched_on, touched_cases, replaced_by, taken_touched, taken_of, put_of, put_touched}
+use Rattle.kern_model.proofs.TouchLemmas.{IsReplaceable, replaceable, loses_link_with, loses_link_of, touched_held, touched_wanted, touched_on, touched_cases, replaced_by, taken_touched, taken_of, put_of, put_touched}
 use Rattle.kern_calls.specs.Lower.{is_lower, lower_part}
 use Rattle.kern_calls.proofs.GoOnLemmas.{still_over}
 use Rattle.kern_calls.specs.Upper.{is_upper}
 
 -- an address or a route is at its device alone
-on_device : (held wanted : Objects) (o : Object) → is_upper o ≡ true → is_on_taken held wanted o ≡ (falls held wanted (name_of o) || false)
+on_device : (held wanted : Objects) (o : Object) → is_upper o ≡ true → is_on_taken held wanted o ≡ (loses_link held wanted (name_of o) || false)
 on_device held wanted (object.Address dev cidr) h = refl
 on_device held wanted (object.Route r) h = refl
 on_device held wanted o h = absurd (cc h)
@@ -42,52 +42,53 @@ lasting (object.Mac name mac) h r = cc h
 lasting o h r = r
 
 module _ (held wanted : Objects) (o : Object) (upper : is_upper o ≡ true) where
-  on_is : is_on_taken held wanted o ≡ falls held wanted (name_of o)
-  on_is = on_device held wanted o upper ∙ or_none (falls held wanted (name_of o))
+  on_is : is_on_taken held wanted o ≡ loses_link held wanted (name_of o)
+  on_is = on_device held wanted o upper ∙ or_none (loses_link held wanted (name_of o))
 
-  pub upper_taken : Has held o → is_taken held wanted o ≡ (not (set.contains wanted o) || falls held wanted (name_of o))
-  upper_taken had = true_of_both_ways (is_taken held wanted o) (not (set.contains wanted o) || falls held wanted (name_of o))
-      (λ taken. elim (touched_cases held wanted o had (taken_touched held wanted o taken)) as (λ _. (not (set.contains wanted o) || falls held wanted (name_of o)) ≡ true) [
-        | inl unwanted ↦ of_left (not (set.contains wanted o)) (falls held wanted (name_of o)) (of_not (set.contains wanted o) unwanted)
-        | inr on ↦ of_right (not (set.contains wanted o)) (falls held wanted (name_of o)) (sym on_is ∙ on)
+  pub upper_taken : Has held o → is_taken held wanted o ≡ (not (set.contains wanted o) || loses_link held wanted (name_of o))
+  upper_taken had = true_of_both_ways (is_taken held wanted o) (not (set.contains wanted o) || loses_link held wanted (name_of o))
+      (λ taken. elim (touched_cases held wanted o had (taken_touched held wanted o taken)) as (λ _. (not (set.contains wanted o) || loses_link held wanted (name_of o)) ≡ true) [
+        | inl unwanted ↦ of_left (not (set.contains wanted o)) (loses_link held wanted (name_of o)) (of_not (set.contains wanted o) unwanted)
+        | inr on ↦ of_right (not (set.contains wanted o)) (loses_link held wanted (name_of o)) (sym on_is ∙ on)
       ])
       (λ h.
-      let touched : is_touched held wanted o ≡ true = elim (either (not (set.contains wanted o)) (falls held wanted (name_of o)) h) as (λ _. is_touched held wanted o ≡ true) [
+      let touched : is_touched held wanted o ≡ true = elim (either (not (set.contains wanted o)) (loses_link held wanted (name_of o)) h) as (λ _. is_touched held wanted o ≡ true) [
         | inl unwanted ↦ touched_held held wanted o had (not_true (set.contains wanted o) unwanted)
-        | inr fall ↦ touched_on held wanted o (on_is ∙ fall)
+        | inr lost_link ↦ touched_on held wanted o (on_is ∙ lost_link)
       ] in
       taken_of held wanted o had touched (λ r. let by = replaced_by held wanted o r in lasting o upper (replaceable by.by o by.place)))
 
-  pub upper_put : Has wanted o → is_put held wanted o ≡ (not (set.contains held o) || falls held wanted (name_of o))
-  upper_put is = true_of_both_ways (is_put held wanted o) (not (set.contains held o) || falls held wanted (name_of o))
-      (λ due. elim (true_or_not (set.contains held o)) as (λ _. (not (set.contains held o) || falls held wanted (name_of o)) ≡ true) [
-        | inr unheld ↦ of_left (not (set.contains held o)) (falls held wanted (name_of o)) (of_not (set.contains held o) unheld)
-        | inl had ↦ elim (touched_cases held wanted o had (put_touched held wanted o due)) as (λ _. (not (set.contains held o) || falls held wanted (name_of o)) ≡ true) [
+  pub upper_put : Has wanted o → is_put held wanted o ≡ (not (set.contains held o) || loses_link held wanted (name_of o))
+  upper_put is = true_of_both_ways (is_put held wanted o) (not (set.contains held o) || loses_link held wanted (name_of o))
+      (λ due. elim (true_or_not (set.contains held o)) as (λ _. (not (set.contains held o) || loses_link held wanted (name_of o)) ≡ true) [
+        | inr unheld ↦ of_left (not (set.contains held o)) (loses_link held wanted (name_of o)) (of_not (set.contains held o) unheld)
+        | inl had ↦ elim (touched_cases held wanted o had (put_touched held wanted o due)) as (λ _. (not (set.contains held o) || loses_link held wanted (name_of o)) ≡ true) [
           | inl unwanted ↦ absurd (unwanted is)
-          | inr on ↦ of_right (not (set.contains held o)) (falls held wanted (name_of o)) (sym on_is ∙ on)
+          | inr on ↦ of_right (not (set.contains held o)) (loses_link held wanted (name_of o)) (sym on_is ∙ on)
         ]
       ])
-      (λ h. put_of held wanted o is (elim (either (not (set.contains held o)) (falls held wanted (name_of o)) h) as (λ _. is_touched held wanted o ≡ true) [
+      (λ h. put_of held wanted o is (elim (either (not (set.contains held o)) (loses_link held wanted (name_of o)) h) as (λ _. is_touched held wanted o ≡ true) [
         | inl unheld ↦ touched_wanted held wanted o is (not_true (set.contains held o) unheld)
-        | inr fall ↦ touched_on held wanted o (on_is ∙ fall)
+        | inr lost_link ↦ touched_on held wanted o (on_is ∙ lost_link)
       ]))
 
--- the lower parts tell what falls
+-- the lower parts tell what loses its link
 in_lower : (s : Objects) (o : Object) → Has s o → is_lower o ≡ true → Has (lower_part s) o
 in_lower s o h lower = has_retained s is_lower o h lower
 
 of_lower : (s : Objects) (o : Object) → Has (lower_part s) o → Has s o
 of_lower s o h = (of_retained s is_lower o h).0
 
-pub falls_in_parts : (held wanted : Objects) (name : List ℕ) → falls (lower_part held) (lower_part wanted) name ≡ falls held wanted name
-falls_in_parts held wanted name = true_of_both_ways (falls (lower_part held) (lower_part wanted) name) (falls held wanted name)
+pub loses_link_in_parts : (held wanted : Objects) (name : List ℕ) → loses_link (lower_part held) (lower_part wanted) name ≡ loses_link held wanted name
+loses_link_in_parts held wanted name = true_of_both_ways (loses_link (lower_part held) (lower_part wanted) name) (loses_link held wanted name)
     (λ h.
-    let f = falls_with (lower_part held) (lower_part wanted) name h in
-    falls_of held wanted name f.base f.kind (of_lower held (object.Link f.base f.kind) f.had) (λ is. f.unwanted (in_lower wanted (object.Link f.base f.kind) is refl)) (over_more (lower_part held) held (of_lower held) f.base name f.over))
+    let f = loses_link_with (lower_part held) (lower_part wanted) name h in
+    loses_link_of held wanted name f.base f.kind (of_lower held (object.Link f.base f.kind) f.had) (λ is. f.unwanted (in_lower wanted (object.Link f.base f.kind) is refl))
+    (over_more (lower_part held) held (of_lower held) f.base name f.over))
     (λ h.
-    let f = falls_with held wanted name h in
+    let f = loses_link_with held wanted name h in
     let over = test_of_is_over (lower_part held) f.base name (still_over held (lower_part held) f.base name (λ v kind g q. in_lower held (object.Link v kind) g refl) (is_over_of_test held f.base name f.over)) in
-    falls_of (lower_part held) (lower_part wanted) name f.base f.kind (in_lower held (object.Link f.base f.kind) f.had refl) (λ is. f.unwanted (of_lower wanted (object.Link f.base f.kind) is)) over)
+    loses_link_of (lower_part held) (lower_part wanted) name f.base f.kind (in_lower held (object.Link f.base f.kind) f.had refl) (λ is. f.unwanted (of_lower wanted (object.Link f.base f.kind) is)) over)
 
 -- heights of addresses and routes are none
 no_height : (s : Objects) (o : Object) → is_upper o ≡ true → height_of s o ≡ 0

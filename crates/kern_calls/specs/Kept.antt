@@ -1,4 +1,4 @@
--- What the calls leave alone, and what falls with a link that is taken.
+-- What the calls leave alone, and what loses its link with a link that is taken.
 use Rattle.std.specs.Prelude.{ℕ, ◌≡◌, List, Contains, true}
 use Rattle.kern_model.specs.declared.object.LinkKind.{LinkKind}
 use Rattle.kern_model.specs.declared.object.Object.{Object}

@@ -2,7 +2,7 @@
 
 -- the calls as a list that computes
 pub mod Calls
--- what the calls leave alone, and what falls with a link that is taken
+-- what the calls leave alone, and what loses its link with a link that is taken
 pub mod Kept
 -- the calls of one object
 pub mod Counted

@@ -11,7 +11,7 @@ ghost use Rattle.kern_model.specs.ObjectOrder.{Objects, Has};
 ghost use Rattle.kern_model.specs.Standing.{is_over};
 ghost use Rattle.kern_model.specs.Kernel.{Devices, object_of};
 ghost use Rattle.kern_model.specs.Allowed.{AreAllowed};
-ghost use Rattle.kern_model.specs.Touched.{falls, is_touched};
+ghost use Rattle.kern_model.specs.Touched.{loses_link, is_touched};
 ghost use Rattle.kern_model.specs.CallOrder.{AreCalls, AreAdmitted, after_calls};
 ghost use Rattle.kern_calls.specs.Calls.{calls};
 ghost use Rattle.kern_calls.specs.Kept.{IsOverTaken, IsOffTaken, IsWholePart};
@@ -44,13 +44,13 @@ pub fn fronts_are_admitted()
 {}
 
 /// The names that fall are those of the links that are taken, and the names over these.
-pub fn falls_with_taken_links()
+pub fn loses_link_with_taken_links()
     ensures { (held wanted : Objects) (name : List ℕ)
-        → (falls held wanted name ≡ true) ↔ IsOverTaken held wanted name }
+        → (loses_link held wanted name ≡ true) ↔ IsOverTaken held wanted name }
 {}
 
-/// An object of both sets at no name that falls is in no call. So is each object of a set that both
-/// contain, and that has with each object the held links that it stands on.
+/// An object of both sets at no name that loses its link is in no call. So is each object of a set
+/// that both contain, and that has with each object the held links that it stands on.
 pub fn what_stays_is_untouched()
     ensures one { (devices : Devices) (held wanted : Objects) (calls : List Call) (call : Call)
         → Has held (object_of call) → Has wanted (object_of call)

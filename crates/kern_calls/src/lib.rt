@@ -5,8 +5,8 @@ mod laws;
 mod part_laws;
 
 pub use laws::{
-    calls_are_the_calls, calls_from_nothing_are_alike, calls_go_on, falls_with_taken_links,
-    fronts_are_admitted, levels_ground_vlans, lower_calls_are_calls, nothing_is_due,
+    calls_are_the_calls, calls_from_nothing_are_alike, calls_go_on, fronts_are_admitted,
+    levels_ground_vlans, loses_link_with_taken_links, lower_calls_are_calls, nothing_is_due,
     two_calls_at_most, what_stays_is_untouched,
 };
 pub use part_laws::{

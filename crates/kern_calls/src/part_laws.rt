@@ -13,7 +13,7 @@ ghost use Rattle.kern_model.specs.ObjectOrder.{Objects, Has, set_of};
 ghost use Rattle.kern_model.specs.Standing.{gone};
 ghost use Rattle.kern_model.specs.Kernel.{Devices, name_of, object_of, after_call};
 ghost use Rattle.kern_model.specs.Allowed.{AreAllowed};
-ghost use Rattle.kern_model.specs.Touched.{falls, is_taken, is_put};
+ghost use Rattle.kern_model.specs.Touched.{loses_link, is_taken, is_put};
 ghost use Rattle.kern_model.specs.CallOrder.{call_cmp};
 ghost use Rattle.kern_calls.specs.Calls.{calls};
 ghost use Rattle.kern_calls.specs.Lower.{is_lower, lower_part, is_lower_call};
@@ -22,8 +22,8 @@ ghost use Rattle.kern_calls.specs.Upper.{is_upper, upper_part, is_upper_take, is
 
 /// Calls come in three parts: takes of addresses and routes, the calls of all other objects, puts
 /// of addresses and routes. An address or a route is in a call where only one side has it, or where
-/// its device falls, as the sides without addresses and routes tell. Among themselves their calls
-/// stand in one order, whatever the sides.
+/// its device loses its link, as the sides without addresses and routes tell. Among themselves
+/// their calls stand in one order, whatever the sides.
 pub fn calls_come_in_parts()
     ensures parts { (devices : Devices) (held wanted : Objects) → calls devices held wanted
         ≡ filter is_upper_take (calls devices held wanted)
@@ -35,11 +35,12 @@ pub fn calls_come_in_parts()
         (option_or (slice_get (calls devices (lower_part held) (lower_part wanted)) 0)
         (find is_upper_put (calls devices held wanted))) }
     ensures take { (held wanted : Objects) (o : Object) → is_upper o ≡ true → Has held o
-        → is_taken held wanted o ≡ (not (set.contains wanted o) || falls held wanted (name_of o)) }
+        → is_taken held wanted o
+        ≡ (not (set.contains wanted o) || loses_link held wanted (name_of o)) }
     ensures put { (held wanted : Objects) (o : Object) → is_upper o ≡ true → Has wanted o
-        → is_put held wanted o ≡ (not (set.contains held o) || falls held wanted (name_of o)) }
-    ensures falls { (held wanted : Objects) (name : List ℕ)
-        → falls (lower_part held) (lower_part wanted) name ≡ falls held wanted name }
+        → is_put held wanted o ≡ (not (set.contains held o) || loses_link held wanted (name_of o)) }
+    ensures loses_link { (held wanted : Objects) (name : List ℕ)
+        → loses_link (lower_part held) (lower_part wanted) name ≡ loses_link held wanted name }
     ensures order { (held wanted others more : Objects) (a b : Call)
         → is_upper (object_of a) ≡ true → is_upper (object_of b) ≡ true
         → call_cmp held wanted a b ≡ call_cmp others more a b }

@@ -12,7 +12,7 @@ use Rattle.kern_model.specs.declared.object.Call.TheVariants.{Put, Take}
 use Rattle.kern_model.specs.ObjectOrder.{Objects, Has}
 use Rattle.kern_model.specs.Kernel.{Devices}
 use Rattle.kern_model.specs.Allowed.{AreAllowed}
-use Rattle.kern_model.specs.Touched.{falls, is_on_taken, is_taken, is_put, is_call}
+use Rattle.kern_model.specs.Touched.{loses_link, is_on_taken, is_taken, is_put, is_call}
 use Rattle.kern_model.specs.Standing.{places_of}
 use Rattle.kern_model.specs.CallOrder.{call_cmp, AreCalls, after_calls}
 use Rattle.kern_model.proofs.OrderLemmas.{calls_total}
@@ -20,7 +20,7 @@ use Rattle.kern_model.proofs.MemberLemmas.{all_members, member_of_all, first_or_
 use Rattle.kern_model.proofs.SetLemmas.{none_in_empty}
 use Rattle.kern_model.proofs.TestLemmas.{from_any}
 use Rattle.kern_model.proofs.AllowedLemmas.{nothing_allowed}
-use Rattle.kern_model.proofs.TouchLemmas.{falls_with, touched_wanted, put_wanted, put_of, put_touched, taken_held, taken_touched, touched_cases}
+use Rattle.kern_model.proofs.TouchLemmas.{loses_link_with, touched_wanted, put_wanted, put_of, put_touched, taken_held, taken_touched, touched_cases}
 use Rattle.kern_model.proofs.LeadLemmas.{IsPut, PutsAreLeft, at_first, puts_are_left, after_puts, taken_call}
 
 sorted_behind : (wanted : Objects) (front rest : List Call) → IsStrictlySortedBy (call_cmp set.empty wanted) (front ++ rest) → IsStrictlySortedBy (call_cmp set.empty wanted) rest
@@ -53,8 +53,8 @@ sorted_puts held wanted (Take o mtu mac ∷ calls) all sorted = absurd all.0
 module _ (held wanted : Objects) (within : (o : Object) → Has held o → Has wanted o) where
   none_on_taken : (o : Object) → is_on_taken held wanted o ≡ true → ⊥
   none_on_taken o h =
-      let found = from_any (falls held wanted) (places_of o) h in
-      let f = falls_with held wanted found.passing found.passes in
+      let found = from_any (loses_link held wanted) (places_of o) h in
+      let f = loses_link_with held wanted found.passing found.passes in
       f.unwanted (within _ f.had)
 
   pub none_taken : (o : Object) → is_taken held wanted o ≡ true → ⊥

@@ -14,7 +14,7 @@ use Rattle.kern_model.specs.Standing.{places_of, is_over}
 use Rattle.kern_model.specs.Kernel.{Devices, replaces}
 use Rattle.kern_model.specs.Admission.{IsBridge}
 use Rattle.kern_model.specs.Allowed.{AreAllowed, exclude}
-use Rattle.kern_model.specs.Touched.{is_unwanted_under, falls, is_on_taken, is_in_one, is_touched, is_replaced, is_taken, is_put}
+use Rattle.kern_model.specs.Touched.{is_unwanted_under, loses_link, is_on_taken, is_in_one, is_touched, is_replaced, is_taken, is_put}
 use Rattle.kern_model.proofs.SetLemmas.{set_of_item, item_of_set}
 use Rattle.kern_model.proofs.TestLemmas.{both, of_both, either, of_left, of_right, not_true, of_not, true_or_not, bytes_same, same_bytes, from_any, of_any}
 use Rattle.kern_model.proofs.StandingLemmas.{over_itself, over_on, over_lower}
@@ -55,32 +55,32 @@ both_replace a b c g h = absurd (no_place a c (λ r. r) g)
 
 module _ (held wanted : Objects) where
   -- a held link that is not wanted is under the name
-  pub record FallsWith (name : List ℕ) : Type 0 where
+  pub record LosesLinkWith (name : List ℕ) : Type 0 where
     pub base : List ℕ
     pub kind : LinkKind
     pub had : Has held (object.Link base kind)
     pub unwanted : Has wanted (object.Link base kind) → ⊥
     pub over : is_over held base name ≡ true
 
-  pub falls_of : (name base : List ℕ) (kind : LinkKind) → Has held (object.Link base kind) → (Has wanted (object.Link base kind) → ⊥) → is_over held base name ≡ true → falls held wanted name ≡ true
-  falls_of name base kind had unwanted over =
+  pub loses_link_of : (name base : List ℕ) (kind : LinkKind) → Has held (object.Link base kind) → (Has wanted (object.Link base kind) → ⊥) → is_over held base name ≡ true → loses_link held wanted name ≡ true
+  loses_link_of name base kind had unwanted over =
       of_any (is_unwanted_under held wanted name) (set.items held) (object.Link base kind) (item_of_set held (object.Link base kind) had)
       (of_both (not (set.contains wanted (object.Link base kind))) (is_over held base name) (of_not (set.contains wanted (object.Link base kind)) unwanted) over)
 
-  falls_with_one : (name : List ℕ) (o : Object) → Has held o → is_unwanted_under held wanted name o ≡ true → FallsWith name
-  falls_with_one name (object.Link base kind) had h =
+  loses_link_with_one : (name : List ℕ) (o : Object) → Has held o → is_unwanted_under held wanted name o ≡ true → LosesLinkWith name
+  loses_link_with_one name (object.Link base kind) had h =
       let parts = both (not (set.contains wanted (object.Link base kind))) (is_over held base name) h in
       record { base = base; kind = kind; had = had; unwanted = not_true (set.contains wanted (object.Link base kind)) parts.0; over = parts.1 }
-  falls_with_one name o had h = cc h
+  loses_link_with_one name o had h = cc h
 
-  pub falls_with : (name : List ℕ) → falls held wanted name ≡ true → FallsWith name
-  falls_with name h = let found = from_any (is_unwanted_under held wanted name) (set.items held) h in falls_with_one name found.passing (set_of_item held found.passing found.member) found.passes
+  pub loses_link_with : (name : List ℕ) → loses_link held wanted name ≡ true → LosesLinkWith name
+  loses_link_with name h = let found = from_any (is_unwanted_under held wanted name) (set.items held) h in loses_link_with_one name found.passing (set_of_item held found.passing found.member) found.passes
 
-  pub falls_above : (name above : List ℕ) → falls held wanted name ≡ true → is_over held name above ≡ true → falls held wanted above ≡ true
-  falls_above name above h over = let f = falls_with name h in falls_of above f.base f.kind f.had f.unwanted (over_on held f.base name above f.over over)
+  pub loses_link_above : (name above : List ℕ) → loses_link held wanted name ≡ true → is_over held name above ≡ true → loses_link held wanted above ≡ true
+  loses_link_above name above h over = let f = loses_link_with name h in loses_link_of above f.base f.kind f.had f.unwanted (over_on held f.base name above f.over over)
 
-  pub on_taken_at : (o : Object) (place : List ℕ) → Contains (places_of o) place → falls held wanted place ≡ true → is_on_taken held wanted o ≡ true
-  on_taken_at o place at h = of_any (falls held wanted) (places_of o) place at h
+  pub on_taken_at : (o : Object) (place : List ℕ) → Contains (places_of o) place → loses_link held wanted place ≡ true → is_on_taken held wanted o ≡ true
+  on_taken_at o place at h = of_any (loses_link held wanted) (places_of o) place at h
 
   -- why an object is touched
   pub touched_held : (o : Object) → Has held o → (Has wanted o → ⊥) → is_touched held wanted o ≡ true
@@ -146,28 +146,28 @@ module _ (held wanted : Objects) where
   pub put_touched : (o : Object) → is_put held wanted o ≡ true → is_touched held wanted o ≡ true
   put_touched o h = (both (set.contains wanted o) _ h).1
 
-  -- the name of a link that is taken falls, and with it all at that name
-  link_falls_at : (name : List ℕ) (kind : LinkKind) → Has held (object.Link name kind) → is_on_taken held wanted (object.Link name kind) ≡ true → falls held wanted name ≡ true
-  link_falls_at name (Bridge mac filtering) had on = cc on
-  link_falls_at name (Vlan lower id mac) had on =
-      elim (either (falls held wanted lower) false on) as (λ _. falls held wanted name ≡ true) [
-        | inl f ↦ falls_above lower name f (over_lower held name lower id mac had)
+  -- the name of a link that is taken loses its link, and with it all at that name
+  link_loses_link_at : (name : List ℕ) (kind : LinkKind) → Has held (object.Link name kind) → is_on_taken held wanted (object.Link name kind) ≡ true → loses_link held wanted name ≡ true
+  link_loses_link_at name (Bridge mac filtering) had on = cc on
+  link_loses_link_at name (Vlan lower id mac) had on =
+      elim (either (loses_link held wanted lower) false on) as (λ _. loses_link held wanted name ≡ true) [
+        | inl f ↦ loses_link_above lower name f (over_lower held name lower id mac had)
         | inr none ↦ cc none
       ]
 
-  pub link_falls : (name : List ℕ) (kind : LinkKind) → is_taken held wanted (object.Link name kind) ≡ true → falls held wanted name ≡ true
-  link_falls name kind h =
+  pub link_loses_link : (name : List ℕ) (kind : LinkKind) → is_taken held wanted (object.Link name kind) ≡ true → loses_link held wanted name ≡ true
+  link_loses_link name kind h =
       let had = taken_held (object.Link name kind) h in
-      elim (touched_cases (object.Link name kind) had (taken_touched (object.Link name kind) h)) as (λ _. falls held wanted name ≡ true) [
-        | inl unwanted ↦ falls_of name name kind had unwanted (over_itself held name)
-        | inr on ↦ link_falls_at name kind had on
+      elim (touched_cases (object.Link name kind) had (taken_touched (object.Link name kind) h)) as (λ _. loses_link held wanted name ≡ true) [
+        | inl unwanted ↦ loses_link_of name name kind had unwanted (over_itself held name)
+        | inr on ↦ link_loses_link_at name kind had on
       ]
 
   pub taken_at_link : (name : List ℕ) (kind : LinkKind) (o : Object) → is_taken held wanted (object.Link name kind) ≡ true → Has held o → Contains (places_of o) name → is_taken held wanted o ≡ true
-  taken_at_link name kind o h had at = taken_on o had (on_taken_at o name at (link_falls name kind h))
+  taken_at_link name kind o h had at = taken_on o had (on_taken_at o name at (link_loses_link name kind h))
 
-  only_place : (name : List ℕ) → (falls held wanted name || false) ≡ true → falls held wanted name ≡ true
-  only_place name h = elim (either (falls held wanted name) false h) as (λ _. falls held wanted name ≡ true) [ inl f ↦ f | inr none ↦ cc none ]
+  only_place : (name : List ℕ) → (loses_link held wanted name || false) ≡ true → loses_link held wanted name ≡ true
+  only_place name h = elim (either (loses_link held wanted name) false h) as (λ _. loses_link held wanted name ≡ true) [ inl f ↦ f | inr none ↦ cc none ]
 
   -- where a name goes down, what needs it to be up is taken
   module _ (devices : Devices) (allowed : AreAllowed devices wanted) where
@@ -182,7 +182,7 @@ module _ (held wanted : Objects) where
     taken_route name r h had at =
         elim (touched_cases (object.Up name) (taken_held (object.Up name) h) (taken_touched (object.Up name) h)) as (λ _. is_taken held wanted (object.Route r) ≡ true) [
           | inl unwanted ↦ taken_unwanted (object.Route r) had (λ is. unwanted (subst (λ n. Has wanted (object.Up n)) at (allowed.supported (object.Route r) is))) (λ x. x)
-          | inr on ↦ taken_on (object.Route r) had (subst (λ n. (falls held wanted n || false) ≡ true) (sym at) on)
+          | inr on ↦ taken_on (object.Route r) had (subst (λ n. (loses_link held wanted n || false) ≡ true) (sym at) on)
         ]
 
     pub taken_upper : (name vlan : List ℕ) (id : ℕ) (mac : Option Mac) → is_taken held wanted (object.Up name) ≡ true → Has held (object.Link vlan (Vlan name id mac)) → Has held (object.Up vlan) → is_taken held wanted (object.Up vlan)
@@ -191,9 +191,9 @@ module _ (held wanted : Objects) where
         elim (touched_cases (object.Up name) (taken_held (object.Up name) h) (taken_touched (object.Up name) h)) as (λ _. is_taken held wanted (object.Up vlan) ≡ true) [
           | inl unwanted ↦ elim (true_or_not (set.contains wanted (object.Link vlan (Vlan name id mac)))) as (λ _. is_taken held wanted (object.Up vlan) ≡ true) [
             | inl stays ↦ taken_unwanted (object.Up vlan) up (λ is. unwanted ((allowed.supported (object.Up vlan) is).1 name id mac stays)) (λ r. r)
-            | inr goes ↦ taken_on (object.Up vlan) up (of_left (falls held wanted vlan) false (falls_of vlan vlan (Vlan name id mac) link goes (over_itself held vlan)))
+            | inr goes ↦ taken_on (object.Up vlan) up (of_left (loses_link held wanted vlan) false (loses_link_of vlan vlan (Vlan name id mac) link goes (over_itself held vlan)))
           ]
-          | inr on ↦ taken_on (object.Up vlan) up (of_left (falls held wanted vlan) false (falls_above name vlan (only_place name on) (over_lower held vlan name id mac link)))
+          | inr on ↦ taken_on (object.Up vlan) up (of_left (loses_link held wanted vlan) false (loses_link_above name vlan (only_place name on) (over_lower held vlan name id mac link)))
         ]
 
 -- where a port leaves its bridge, its VLANs of that bridge are taken

@@ -16,15 +16,15 @@ is_unwanted_under held wanted name (object.Link base kind) =
     not (set.contains wanted (object.Link base kind)) && is_over held base name
 is_unwanted_under held wanted name _ = false
 
--- A name falls where it is that of a held link that is not wanted, or over one. A wanted link over
+-- A name loses its link where it is that of a held link that is not wanted, or over one. A wanted link over
 -- such a one is taken too; what stands on it stands on the other as well, so it needs no case of
 -- its own.
-abbrev pub falls : Objects → Objects → List ℕ → Bool
-falls held wanted name = list_any (is_unwanted_under held wanted name) (set.items held)
+abbrev pub loses_link : Objects → Objects → List ℕ → Bool
+loses_link held wanted name = list_any (is_unwanted_under held wanted name) (set.items held)
 
 -- an object stands on a link that is taken
 abbrev pub is_on_taken : Objects → Objects → Object → Bool
-is_on_taken held wanted o = list_any (falls held wanted) (places_of o)
+is_on_taken held wanted o = list_any (loses_link held wanted) (places_of o)
 
 -- an object is in one of the sets and not in the other
 abbrev pub is_in_one : Objects → Objects → Object → Bool

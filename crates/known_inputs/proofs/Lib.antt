@@ -4,6 +4,6 @@ pub mod DeviceLemmas
 pub mod NameLemmas
 pub mod StandLemmas
 pub mod RoomLemmas
-pub mod AskLemmas
+pub mod RequestLemmas
 pub mod EventLemmas
 pub mod FoundLemmas

@@ -44,8 +44,8 @@ rising_pushed least next [] from h = (from, omega arith, tt)
 rising_pushed least next (n ∷ ns) from h = let to = h.1 in (h.0, omega arith, rising_pushed (n + 1) next ns (omega arith) h.2)
 
 -- how they are found
-abbrev no_ask : OpenInterface
-no_ask = record { number = 0; ask = record { name = []; proto = []; options = []; device = None }; answer = None }
+abbrev no_request : OpenInterface
+no_request = record { number = 0; request = record { name = []; proto = []; options = []; device = None }; answer = None }
 
 module _ (number : ℕ) where
   later_above : (os : List OpenInterface) (least bound k : ℕ) (d : OpenInterface) → AreRising least bound (map (λ o. o.number) os) → k < length os → least ≤ (get_or os k d).number
@@ -79,10 +79,10 @@ module _ (number : ℕ) where
     here : (k : ℕ) (d : OpenInterface) → k < length os → (get_or os k d).number ≡ number → OnlyAt (has_number number) os k
     here k d within is = only_at (λ (o : OpenInterface). o.number) (λ n. n == number) same_number os k d (rising_distinct least bound (map (λ o. o.number) os) rising) within (grind (arith, nat_tests, is))
 
-    -- a binary search ends at the ask of the number, or there is none
+    -- a binary search ends at the request of the number, or there is none
     pub searched : (r : Result ℕ ℕ) → IsSearchInRange r (length os) → IsBinarySearchResult (λ o. nat_cmp o.number number) os r
         → record { found : IfOk r (OnlyAt (has_number number) os); absent : IfErr r (λ gap. NonePass (has_number number) os) }
-    searched (Ok k) within equal = record { found = here k no_ask within (ranked _ number _ (sym (equal no_ask))); absent = tt }
+    searched (Ok k) within equal = record { found = here k no_request within (ranked _ number _ (sym (equal no_request))); absent = tt }
     searched (Err k) within parted = record { found = tt; absent = none_pass os (λ j d inside same. either_side j d inside same (ltb j k) refl) }
       where
         either_side : (j : ℕ) (d : OpenInterface) → j < length os → (get_or os j d).number ≡ number → (b : Bool) → ltb j k ≡ b → ⊥

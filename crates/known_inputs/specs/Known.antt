@@ -15,13 +15,13 @@ pub record Known : Type 0 where
 abbrev pub device_names : Inputs → List (List ℕ)
 device_names inputs = map (λ e. e.0) inputs.devices
 
--- the interfaces that have a command
+-- the interfaces that have an operator state
 abbrev pub commanded_names : Inputs → List (List ℕ)
-commanded_names inputs = map (λ c. c.interface) inputs.commands
+commanded_names inputs = map (λ c. c.interface) inputs.operator_states
 
--- the interfaces that have an open ask
+-- the interfaces that have an open request
 abbrev pub asked_names : Inputs → List (List ℕ)
-asked_names inputs = map (λ o. o.ask.name) inputs.interfaces
+asked_names inputs = map (λ o. o.request.name) inputs.interfaces
 
 -- the rows have an interface of that name
 abbrev pub IsNamed : Conf → List ℕ → Type 0
@@ -32,11 +32,11 @@ pub record AreOfRows (conf : Conf) (names : List (List ℕ)) : Type 0 where
   pub once : AreDistinct names
   pub named : (name : List ℕ) → Contains names name → IsNamed conf name
 
--- One device has a name. There is one command and one open ask for an interface at most, and none but for interfaces of
--- the rows. The asks stand by rising number, from 1 and below the next one, which is not 0.
+-- One device has a name. There is one operator state and one open request for an interface at most, and none but for
+-- interfaces of the rows. The asks stand by rising number, from 1 and below the next one, which is not 0.
 pub record StandOnce (inputs : Inputs) : Type 0 where
   pub devices : AreDistinct (device_names inputs)
-  pub commands : AreOfRows inputs.conf (commanded_names inputs)
-  pub asks : AreOfRows inputs.conf (asked_names inputs)
+  pub operator_states : AreOfRows inputs.conf (commanded_names inputs)
+  pub requests : AreOfRows inputs.conf (asked_names inputs)
   pub numbers : AreRising 1 inputs.next (interface_numbers inputs)
   pub next : 1 ≤ inputs.next

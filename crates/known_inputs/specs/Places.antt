@@ -33,10 +33,10 @@ carrier_at on es None = es
 carrier_at on es (Some place) =
     option_map_or (λ e. slice_set es place (e.0, with_carrier on e.1)) (slice_get es place) es
 
--- an ask, where there is one, is that of an interface
-abbrev pub is_ask_of : List ℕ → Option OpenInterface → Bool
-is_ask_of name None = false
-is_ask_of name (Some o) = bytes_eq o.ask.name name
+-- a request, where there is one, is that of an interface
+abbrev pub is_request_of : List ℕ → Option OpenInterface → Bool
+is_request_of name None = false
+is_request_of name (Some o) = bytes_eq o.request.name name
 
 -- asks with an answer to the one at a place
 abbrev pub answered_at : List OpenInterface → ℕ → Answer → List OpenInterface

@@ -3,7 +3,7 @@ use Rattle.std.specs.Prelude.{ℕ, ◌<◌, ◌+◌, ◌==◌, List, [], ◌∷�
 use Rattle.std.specs.List.{find, position}
 use Rattle.kern_model.specs.declared.object.DevEvent.{DevEvent}
 use Rattle.kern_model.specs.declared.object.DevEvent.TheVariants as device
-use Rattle.net_rules.specs.declared.ask.InterfaceAsk.{InterfaceAsk}
+use Rattle.net_rules.specs.declared.request.InterfaceRequest.{InterfaceRequest}
 use Rattle.net_rules.specs.declared.inputs.Inputs.{Inputs}
 use Rattle.net_rules.specs.declared.inputs.OpenInterface.{OpenInterface}
 use Rattle.net_rules.specs.After.{opened_interfaces}
@@ -29,22 +29,22 @@ HasRoomBeside count most (device.Carrier name on) = ⊤
 abbrev pub HasDeviceRoom : Known → DevEvent → Type 0
 HasDeviceRoom known what = HasRoomBeside (length known.inputs.devices) known.most_devices what
 
--- an ask has that number
+-- a request has that number
 abbrev pub has_number : ℕ → OpenInterface → Bool
 has_number number o = o.number == number
 
--- the open ask of a number
-abbrev pub ask_of : Inputs → ℕ → Option OpenInterface
-ask_of inputs number = find (has_number number) inputs.interfaces
+-- the open request of a number
+abbrev pub request_of : Inputs → ℕ → Option OpenInterface
+request_of inputs number = find (has_number number) inputs.interfaces
 
--- the ask of a number is no longer open
-abbrev pub without_ask : Inputs → ℕ → Inputs
-without_ask inputs number =
+-- the request of a number is no longer open
+abbrev pub without_request : Inputs → ℕ → Inputs
+without_request inputs number =
     record inputs { interfaces = filter (λ o. not (has_number number o)) inputs.interfaces }
 
--- an ask is opened with the next number
-abbrev pub with_ask : Inputs → InterfaceAsk → Inputs
-with_ask inputs ask = record inputs {
-  interfaces = inputs.interfaces ++ opened_interfaces inputs.next (ask ∷ []);
+-- a request is opened with the next number
+abbrev pub with_request : Inputs → InterfaceRequest → Inputs
+with_request inputs request = record inputs {
+  interfaces = inputs.interfaces ++ opened_interfaces inputs.next (request ∷ []);
   next = inputs.next + 1;
 }

@@ -1,58 +1,66 @@
-//! Copies of commands and of open asks, in memory of their own.
+//! Copies of operator states and of open requests, in memory of their own.
 ghost use Rattle.std.specs.Prelude.{◌≡◌, IfOk};
 
 use kern_model::DevName;
 use net_copies::{copy_answer, copy_items, copy_options};
-use net_rules::{Answer, Command, InterfaceAsk, OpenInterface, OpenRadio, RadioAsk, WifiAsk};
+use net_rules::{
+    Answer, InterfaceRequest, OpenInterface, OpenRadio, OperatorState, RadioRequest, WifiRequest,
+};
 use plane_io::{Items, Memory};
 use std::alloc::Global;
 
-/// The same commands.
-pub(crate) fn copy_commands(alloc: Global, commands: &[Command]) -> Result<Items<Command>, Memory>
-    ensures { IfOk result (λ copies. copies ≡ commands.now) }
+/// The same operator states.
+pub(crate) fn copy_operator_states(
+    alloc: Global,
+    operator_states: &[OperatorState],
+) -> Result<Items<OperatorState>, Memory>
+    ensures { IfOk result (λ copies. copies ≡ operator_states.now) }
 {
     let mut copies = Items::new(alloc);
-    for command in commands {
-        copies.push(Command {
-            interface: command.interface.copy()?,
-            up: command.up,
+    for operator_state in operator_states {
+        copies.push(OperatorState {
+            interface: operator_state.interface.copy()?,
+            up: operator_state.up,
         })?;
     }
     Ok(copies)
 }
 
-/// The same open asks of interfaces.
+/// The same open requests of interfaces.
 pub(crate) fn copy_open_interfaces(
     alloc: Global,
-    asks: &[OpenInterface],
+    requests: &[OpenInterface],
 ) -> Result<Items<OpenInterface>, Memory>
-    ensures { IfOk result (λ copies. copies ≡ asks.now) }
+    ensures { IfOk result (λ copies. copies ≡ requests.now) }
 {
     let mut copies = Items::new(alloc);
-    for ask in asks {
-        copies.push(copy_open_interface(alloc, ask)?)?;
+    for request in requests {
+        copies.push(copy_open_interface(alloc, request)?)?;
     }
     Ok(copies)
 }
 
-fn copy_open_interface(alloc: Global, ask: &OpenInterface) -> Result<OpenInterface, Memory>
-    ensures { IfOk result (λ copy. copy ≡ ask.now) }
+fn copy_open_interface(alloc: Global, request: &OpenInterface) -> Result<OpenInterface, Memory>
+    ensures { IfOk result (λ copy. copy ≡ request.now) }
 {
     Ok(OpenInterface {
-        number: ask.number,
-        ask: copy_interface_ask(alloc, &ask.ask)?,
-        answer: copy_answer_in(alloc, &ask.answer)?,
+        number: request.number,
+        request: copy_interface_request(alloc, &request.request)?,
+        answer: copy_answer_in(alloc, &request.answer)?,
     })
 }
 
-fn copy_interface_ask(alloc: Global, ask: &InterfaceAsk) -> Result<InterfaceAsk, Memory>
-    ensures { IfOk result (λ copy. copy ≡ ask.now) }
+fn copy_interface_request(
+    alloc: Global,
+    request: &InterfaceRequest,
+) -> Result<InterfaceRequest, Memory>
+    ensures { IfOk result (λ copy. copy ≡ request.now) }
 {
-    Ok(InterfaceAsk {
-        name: ask.name.copy()?,
-        proto: ask.proto.copy()?,
-        options: copy_options(alloc, ask.options.as_slice())?,
-        device: ask.device,
+    Ok(InterfaceRequest {
+        name: request.name.copy()?,
+        proto: request.proto.copy()?,
+        options: copy_options(alloc, request.options.as_slice())?,
+        device: request.device,
     })
 }
 
@@ -65,27 +73,27 @@ fn copy_answer_in(alloc: Global, answer: &Option<Answer>) -> Result<Option<Answe
     }
 }
 
-/// The same open asks of radios.
+/// The same open requests of radios.
 pub(crate) fn copy_open_radios(
     alloc: Global,
-    asks: &[OpenRadio],
+    requests: &[OpenRadio],
 ) -> Result<Items<OpenRadio>, Memory>
-    ensures { IfOk result (λ copies. copies ≡ asks.now) }
+    ensures { IfOk result (λ copies. copies ≡ requests.now) }
 {
     let mut copies = Items::new(alloc);
-    for ask in asks {
-        copies.push(copy_open_radio(alloc, ask)?)?;
+    for request in requests {
+        copies.push(copy_open_radio(alloc, request)?)?;
     }
     Ok(copies)
 }
 
-fn copy_open_radio(alloc: Global, ask: &OpenRadio) -> Result<OpenRadio, Memory>
-    ensures { IfOk result (λ copy. copy ≡ ask.now) }
+fn copy_open_radio(alloc: Global, request: &OpenRadio) -> Result<OpenRadio, Memory>
+    ensures { IfOk result (λ copy. copy ≡ request.now) }
 {
     Ok(OpenRadio {
-        number: ask.number,
-        ask: copy_radio_ask(alloc, &ask.ask)?,
-        ports: copy_ports_in(alloc, &ask.ports)?,
+        number: request.number,
+        request: copy_radio_request(alloc, &request.request)?,
+        ports: copy_ports_in(alloc, &request.ports)?,
     })
 }
 
@@ -101,23 +109,23 @@ fn copy_ports_in(
     }
 }
 
-fn copy_radio_ask(alloc: Global, ask: &RadioAsk) -> Result<RadioAsk, Memory>
-    ensures { IfOk result (λ copy. copy ≡ ask.now) }
+fn copy_radio_request(alloc: Global, request: &RadioRequest) -> Result<RadioRequest, Memory>
+    ensures { IfOk result (λ copy. copy ≡ request.now) }
 {
-    Ok(RadioAsk {
-        name: ask.name.copy()?,
-        options: copy_options(alloc, ask.options.as_slice())?,
-        rows: copy_wifi_asks(alloc, ask.rows.as_slice())?,
+    Ok(RadioRequest {
+        name: request.name.copy()?,
+        options: copy_options(alloc, request.options.as_slice())?,
+        rows: copy_wifi_requests(alloc, request.rows.as_slice())?,
     })
 }
 
-fn copy_wifi_asks(alloc: Global, asks: &[WifiAsk]) -> Result<Items<WifiAsk>, Memory>
-    ensures { IfOk result (λ copies. copies ≡ asks.now) }
+fn copy_wifi_requests(alloc: Global, requests: &[WifiRequest]) -> Result<Items<WifiRequest>, Memory>
+    ensures { IfOk result (λ copies. copies ≡ requests.now) }
 {
     let mut copies = Items::new(alloc);
-    for ask in asks {
-        let options = copy_options(alloc, ask.options.as_slice())?;
-        copies.push(WifiAsk { options })?;
+    for request in requests {
+        let options = copy_options(alloc, request.options.as_slice())?;
+        copies.push(WifiRequest { options })?;
     }
     Ok(copies)
 }

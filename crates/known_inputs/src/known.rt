@@ -5,27 +5,28 @@ ghost use Rattle.net_rules.specs.declared.event.Event.TheVariants as events;
 ghost use Rattle.net_rules.specs.Inputs.{no_inputs, open_interface};
 ghost use Rattle.net_rules.specs.After.{changed};
 ghost use Rattle.known_inputs.specs.Known.{StandOnce, IsNamed, device_names};
-ghost use Rattle.known_inputs.specs.Steps.{name_of, place_of, HasDeviceRoom, has_number, ask_of};
-ghost use Rattle.known_inputs.specs.Steps.{with_ask, without_ask};
-ghost use Rattle.known_inputs.specs.Places.{NonePass, OnlyAt, is_ask_of, answered_at};
+ghost use Rattle.known_inputs.specs.Steps.{name_of, place_of, HasDeviceRoom, has_number};
+ghost use Rattle.known_inputs.specs.Steps.{request_of};
+ghost use Rattle.known_inputs.specs.Steps.{with_request, without_request};
+ghost use Rattle.known_inputs.specs.Places.{NonePass, OnlyAt, is_request_of, answered_at};
 
-use crate::copies::{copy_commands, copy_open_interfaces, copy_open_radios};
+use crate::copies::{copy_open_interfaces, copy_open_radios, copy_operator_states};
 use crate::devices::change;
 use kern_model::{DevEvent, DevName, Device};
 use net_copies::{copy_conf, copy_items};
 use net_rows::Conf;
-use net_rules::{Answer, Command, Inputs, InterfaceAsk, OpenInterface, OpenRadio};
+use net_rules::{Answer, Inputs, InterfaceRequest, OpenInterface, OpenRadio, OperatorState};
 use plane_io::{Items, Memory, Text};
 use std::alloc::{AllocError, Global};
 use std::marker::Model;
 
-/// The inputs of a network, with room for a command and an open ask of each interface of the rows,
-/// and for as many devices as was asked for. What stands once in them always does.
+/// The inputs of a network, with room for an operator state and an open request of each interface
+/// of the rows, and for as many devices as was asked for. What stands once in them always does.
 #[derive(Drop)]
 pub struct KnownInputs {
     conf: Conf,
     devices: Vec<(DevName, Device)>,
-    commands: Vec<Command>,
+    operator_states: Vec<OperatorState>,
     interfaces: Vec<OpenInterface>,
     radios: Items<OpenRadio>,
     next: u64,
@@ -51,7 +52,7 @@ impl KnownInputs {
         KnownInputs {
             conf: no_conf(alloc),
             devices: Vec::new(alloc),
-            commands: Vec::new(alloc),
+            operator_states: Vec::new(alloc),
             interfaces: Vec::new(alloc),
             radios: Items::new(alloc),
             next: 1,
@@ -62,8 +63,8 @@ impl KnownInputs {
     ///
     /// # Errors
     ///
-    /// `Memory` where there is not enough of it for a command and an ask of each interface of the
-    /// rows.
+    /// `Memory` where there is not enough of it for an operator state and a request of each
+    /// interface of the rows.
     pub fn from(inputs: Inputs) -> Result<KnownInputs, Memory>
         requires { StandOnce inputs }
         ensures { IfOk result (λ known. known.inputs ≡ inputs) }
@@ -71,20 +72,20 @@ impl KnownInputs {
         let Inputs {
             conf,
             devices,
-            commands,
+            operator_states,
             interfaces,
             radios,
             next,
         } = inputs;
         let rows = conf.interfaces.as_slice().len();
-        let mut commands = commands.into_vec();
-        make_room(&mut commands, rows)?;
+        let mut operator_states = operator_states.into_vec();
+        make_room(&mut operator_states, rows)?;
         let mut interfaces = interfaces.into_vec();
         make_room(&mut interfaces, rows)?;
         Ok(KnownInputs {
             conf,
             devices: devices.into_vec(),
-            commands,
+            operator_states,
             interfaces,
             radios,
             next,
@@ -102,7 +103,7 @@ impl KnownInputs {
         Ok(Inputs {
             conf: copy_conf(alloc, &self.conf)?,
             devices: copy_items(alloc, &self.devices)?,
-            commands: copy_commands(alloc, &self.commands)?,
+            operator_states: copy_operator_states(alloc, &self.operator_states)?,
             interfaces: copy_open_interfaces(alloc, &self.interfaces)?,
             radios: copy_open_radios(alloc, self.radios.as_slice())?,
             next: self.next,
@@ -125,53 +126,53 @@ impl KnownInputs {
         self.devices.as_slice()
     }
 
-    /// The last commands.
-    pub fn commands(&self) -> &[Command]
-        ensures { result.now ≡ self.now.inputs.commands }
+    /// The last operator states.
+    pub fn operator_states(&self) -> &[OperatorState]
+        ensures { result.now ≡ self.now.inputs.operator_states }
     {
-        self.commands.as_slice()
+        self.operator_states.as_slice()
     }
 
-    /// The open asks of interfaces, by rising number.
+    /// The open requests of interfaces, by rising number.
     pub fn interfaces(&self) -> &[OpenInterface]
         ensures { result.now ≡ self.now.inputs.interfaces }
     {
         self.interfaces.as_slice()
     }
 
-    /// The open asks of radios, by rising number.
+    /// The open requests of radios, by rising number.
     pub fn radios(&self) -> &[OpenRadio]
         ensures { result.now ≡ self.now.inputs.radios }
     {
         self.radios.as_slice()
     }
 
-    /// The number of the next ask.
+    /// The number of the next request.
     pub fn next(&self) -> u64
         ensures { result ≡ self.now.inputs.next }
     {
         self.next
     }
 
-    /// The open ask of an interface that has this number.
-    pub fn ask(&self, number: u64) -> Option<&OpenInterface>
-        ensures { option_copied result ≡ ask_of self.now.inputs number }
+    /// The open request of an interface that has this number.
+    pub fn request(&self, number: u64) -> Option<&OpenInterface>
+        ensures { option_copied result ≡ request_of self.now.inputs number }
     {
-        match self.ask_place(number) {
-            Some(place) => ask_at(&self.interfaces, place),
+        match self.request_place(number) {
+            Some(place) => request_at(&self.interfaces, place),
             None => None,
         }
     }
 
-    /// Where the ask of an interface stands that has this number.
-    fn ask_place(&self, number: u64) -> Option<usize>
+    /// Where the request of an interface stands that has this number.
+    fn request_place(&self, number: u64) -> Option<usize>
         ensures found { IfSome result (OnlyAt (has_number number) self.now.inputs.interfaces) }
         ensures none { IfNone result (NonePass (has_number number) self.now.inputs.interfaces) }
         ensures within { IfSome result (λ place. place < length self.now.inputs.interfaces) }
     {
         match self
             .interfaces
-            .binary_search_by_key(&number, |ask| ask.number)
+            .binary_search_by_key(&number, |request| request.number)
         {
             Ok(place) => Some(place),
             Err(_) => None,
@@ -207,39 +208,41 @@ impl KnownInputs {
     }
 
     /// An interface of the rows is brought up or down by hand. It takes no memory.
-    pub fn command(&mut self, interface: Text, up: bool)
+    pub fn operator_state(&mut self, interface: Text, up: bool)
         requires { IsNamed self.old.inputs.conf interface }
         ensures { self.new ≡ record self.old {
           inputs = changed self.old.inputs (events.Operator interface up);
         } }
     {
-        self.commands.retain(|command| command.interface.as_bytes() != interface.as_bytes());
-        self.commands.push_reserved(Command { interface, up });
+        self.operator_states.retain(|operator_state| operator_state.interface.as_bytes()
+            != interface.as_bytes());
+        self.operator_states
+            .push_reserved(OperatorState { interface, up });
     }
 
-    /// An answer takes the place of an earlier one to the ask of an interface that has this number.
-    /// Where there is no such ask, all stays. It takes no memory.
+    /// An answer takes the place of an earlier one to the request of an interface that has this
+    /// number. Where there is no such ask, all stays. It takes no memory.
     pub fn answer(&mut self, interface: &Text, number: u64, answer: Answer)
         ensures { self.new ≡ record self.old {
           inputs = changed self.old.inputs (events.Answer interface.now number answer);
         } }
     {
-        let Some(place) = self.ask_place(number) else {
+        let Some(place) = self.request_place(number) else {
             return;
         };
-        if is_ask_of(&self.interfaces, place, interface) {
+        if is_request_of(&self.interfaces, place, interface) {
             tell(&mut self.interfaces, place, answer);
         }
     }
 
     /// The ask of an interface that has this number is no longer open. It takes no memory.
     pub fn close(&mut self, number: u64) -> Option<OpenInterface>
-        ensures found { result ≡ ask_of self.old.inputs number }
+        ensures found { result ≡ request_of self.old.inputs number }
         ensures left { self.new ≡ record self.old {
-          inputs = without_ask self.old.inputs number;
+          inputs = without_request self.old.inputs number;
         } }
     {
-        match self.ask_place(number) {
+        match self.request_place(number) {
             Some(place) => Some(self.interfaces.remove(place)),
             None => None,
         }
@@ -247,17 +250,18 @@ impl KnownInputs {
 
     /// An ask is opened for an interface of the rows that has none, and gets the next number. It
     /// takes no memory.
-    pub fn open(&mut self, ask: InterfaceAsk) -> u64
-        requires new { open_interface self.old.inputs.interfaces ask.name ≡ None }
-        requires named { IsNamed self.old.inputs.conf ask.name }
+    pub fn open(&mut self, request: InterfaceRequest) -> u64
+        requires new { open_interface self.old.inputs.interfaces request.name ≡ None }
+        requires named { IsNamed self.old.inputs.conf request.name }
         requires next { self.old.inputs.next < 2 ^ 63 }
         ensures number { result ≡ self.old.inputs.next }
-        ensures opened { self.new ≡ record self.old { inputs = with_ask self.old.inputs ask } }
+        ensures opened { self.new
+            ≡ record self.old { inputs = with_request self.old.inputs request } }
     {
         let number = self.next;
         self.interfaces.push_reserved(OpenInterface {
             number,
-            ask,
+            request,
             answer: None,
         });
         self.next = number + 1;
@@ -278,27 +282,27 @@ fn no_conf(alloc: Global) -> Conf
     }
 }
 
-fn ask_at(asks: &[OpenInterface], place: usize) -> Option<&OpenInterface>
-    ensures { option_copied result ≡ slice_get asks.now place }
+fn request_at(requests: &[OpenInterface], place: usize) -> Option<&OpenInterface>
+    ensures { option_copied result ≡ slice_get requests.now place }
 {
-    asks.get(place)
+    requests.get(place)
 }
 
-fn is_ask_of(asks: &[OpenInterface], place: usize, interface: &Text) -> bool
-    ensures { result ≡ is_ask_of interface.now (slice_get asks.now place) }
+fn is_request_of(requests: &[OpenInterface], place: usize, interface: &Text) -> bool
+    ensures { result ≡ is_request_of interface.now (slice_get requests.now place) }
 {
-    match ask_at(asks, place) {
-        Some(open) => open.ask.name.as_bytes() == interface.as_bytes(),
+    match request_at(requests, place) {
+        Some(open) => open.request.name.as_bytes() == interface.as_bytes(),
         None => false,
     }
 }
 
-fn tell(asks: &mut Vec<OpenInterface>, place: usize, answer: Answer)
-    requires { place < vec_len asks.old }
-    ensures items { asks.new.items ≡ answered_at asks.old.items place answer }
-    ensures room { vec_capacity asks.new ≡ vec_capacity asks.old }
+fn tell(requests: &mut Vec<OpenInterface>, place: usize, answer: Answer)
+    requires { place < vec_len requests.old }
+    ensures items { requests.new.items ≡ answered_at requests.old.items place answer }
+    ensures room { vec_capacity requests.new ≡ vec_capacity requests.old }
 {
-    asks[place].answer = Some(answer);
+    requests[place].answer = Some(answer);
 }
 
 /// Makes room for so many items in all.

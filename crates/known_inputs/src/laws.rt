@@ -10,10 +10,10 @@ ghost use Rattle.net_rules.specs.Fresh.{IsReached};
 ghost use Rattle.net_rules.specs.Moment.{Moment};
 ghost use Rattle.net_rules.specs.Refusal.{refusal};
 ghost use Rattle.known_inputs.specs.Known.{AreOfRows, IsNamed, StandOnce, commanded_names};
-ghost use Rattle.known_inputs.specs.Steps.{ask_of};
+ghost use Rattle.known_inputs.specs.Steps.{request_of};
 
-/// What stands once in inputs that events lead to: all does, where commands are for interfaces of
-/// the rows. An event that is not refused keeps that.
+/// What stands once in inputs that events lead to: all does, where operator states are for
+/// interfaces of the rows. An event that is not refused keeps that.
 pub fn events_stand_once()
     ensures nothing { StandOnce no_inputs }
     ensures reached { (inputs : Inputs) → IsReached inputs
@@ -24,12 +24,12 @@ pub fn events_stand_once()
         → StandOnce (after moment.inputs event) }
 {}
 
-/// An open ask is that of its number, and that of its interface.
-pub fn asks_are_found()
+/// An open request is that of its number, and that of its interface.
+pub fn requests_are_found()
     ensures number { (inputs : Inputs) (o : OpenInterface) → StandOnce inputs
-        → Contains inputs.interfaces o → ask_of inputs o.number ≡ Some o }
+        → Contains inputs.interfaces o → request_of inputs o.number ≡ Some o }
     ensures name { (inputs : Inputs) (o : OpenInterface) → StandOnce inputs
-        → Contains inputs.interfaces o → open_interface inputs.interfaces o.ask.name ≡ Some o }
+        → Contains inputs.interfaces o → open_interface inputs.interfaces o.request.name ≡ Some o }
 {}
 
 /// Distinct names of interfaces of the rows are no more than the rows, and fewer where there is

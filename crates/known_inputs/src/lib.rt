@@ -1,5 +1,5 @@
-//! The inputs of a network with room, changed in their place: devices, commands, answers and open
-//! asks move one by one and take no memory.
+//! The inputs of a network with room, changed in their place: devices, operator states, answers and
+//! open asks move one by one and take no memory.
 #![tactic(auto)]
 
 mod copies;
@@ -8,4 +8,4 @@ mod known;
 mod laws;
 
 pub use known::KnownInputs;
-pub use laws::{asks_are_found, events_stand_once, names_of_rows_are_few};
+pub use laws::{events_stand_once, names_of_rows_are_few, requests_are_found};

@@ -6,7 +6,7 @@ ghost use Rattle.net_view.specs.Places.{HasPlaces};
 use kern_model::{DevEvent, DevName, Device};
 use net_copies::{copy_answer, copy_items};
 use net_rows::Conf;
-use net_rules::{Answer, Command, Event, Inputs, OpenInterface, OpenRadio};
+use net_rules::{Answer, Event, Inputs, OpenInterface, OpenRadio, OperatorState};
 use net_view::interface_places;
 use plane_io::{Items, Memory, Text};
 use std::alloc::Global;
@@ -35,42 +35,46 @@ pub fn changed(alloc: Global, inputs: Inputs, event: Event) -> Result<Inputs, Me
 
 fn loaded(alloc: Global, inputs: Inputs, conf: Conf) -> Result<Inputs, Memory>
     ensures { IfOk result (λ now. now
-        ≡ record inputs { conf = conf; commands = spec.kept_commands conf inputs.commands }) }
+        ≡ record inputs {
+          conf = conf;
+          operator_states =
+              spec.kept_operator_states conf inputs.operator_states;
+        }) }
 {
     let places = interface_places(alloc, conf.interfaces.as_slice())?;
     let Inputs {
         devices,
-        commands,
+        operator_states,
         interfaces,
         radios,
         next,
         ..
     } = inputs;
-    let commands = kept_commands(alloc, &conf, &places, commands)?;
+    let operator_states = kept_operator_states(alloc, &conf, &places, operator_states)?;
     Ok(Inputs {
         conf,
         devices,
-        commands,
+        operator_states,
         interfaces,
         radios,
         next,
     })
 }
 
-// The commands for interfaces that there are.
-fn kept_commands(
+// The operator states for interfaces that there are.
+fn kept_operator_states(
     alloc: Global,
     conf: &Conf,
     places: &BTreeMap<Text, usize>,
-    commands: Items<Command>,
-) -> Result<Items<Command>, Memory>
+    operator_states: Items<OperatorState>,
+) -> Result<Items<OperatorState>, Memory>
     requires { HasPlaces places.now (map (λ row. row.name) conf.now.interfaces) }
-    ensures { IfOk result (λ kept. kept ≡ spec.kept_commands conf.now commands) }
+    ensures { IfOk result (λ kept. kept ≡ spec.kept_operator_states conf.now operator_states) }
 {
     let mut kept = Items::new(alloc);
-    for command in commands.into_vec() {
-        if has_interface(conf, places, &command.interface) {
-            kept.push(command)?;
+    for operator_state in operator_states.into_vec() {
+        if has_interface(conf, places, &operator_state.interface) {
+            kept.push(operator_state)?;
         }
     }
     Ok(kept)
@@ -90,7 +94,7 @@ fn with_devices(alloc: Global, inputs: Inputs, what: DevEvent) -> Result<Inputs,
     let Inputs {
         conf,
         devices,
-        commands,
+        operator_states,
         interfaces,
         radios,
         next,
@@ -99,7 +103,7 @@ fn with_devices(alloc: Global, inputs: Inputs, what: DevEvent) -> Result<Inputs,
     Ok(Inputs {
         conf,
         devices,
-        commands,
+        operator_states,
         interfaces,
         radios,
         next,
@@ -176,42 +180,45 @@ fn with_carrier(name: &DevName, on: bool, entry: &(DevName, Device)) -> (DevName
 
 fn commanded(alloc: Global, inputs: Inputs, interface: Text, up: bool) -> Result<Inputs, Memory>
     ensures { IfOk result (λ now. now
-        ≡ record inputs { commands = spec.commands_after inputs.commands interface up }) }
+        ≡ record inputs {
+          operator_states =
+              spec.operator_states_after inputs.operator_states interface up;
+        }) }
 {
     let Inputs {
         conf,
         devices,
-        commands,
+        operator_states,
         interfaces,
         radios,
         next,
     } = inputs;
-    let commands = commands_after(alloc, commands, interface, up)?;
+    let operator_states = operator_states_after(alloc, operator_states, interface, up)?;
     Ok(Inputs {
         conf,
         devices,
-        commands,
+        operator_states,
         interfaces,
         radios,
         next,
     })
 }
 
-fn commands_after(
+fn operator_states_after(
     alloc: Global,
-    commands: Items<Command>,
+    operator_states: Items<OperatorState>,
     interface: Text,
     up: bool,
-) -> Result<Items<Command>, Memory>
-    ensures { IfOk result (λ now. now ≡ spec.commands_after commands interface up) }
+) -> Result<Items<OperatorState>, Memory>
+    ensures { IfOk result (λ now. now ≡ spec.operator_states_after operator_states interface up) }
 {
     let mut now = Items::new(alloc);
-    for command in commands.into_vec() {
-        if command.interface.as_bytes() != interface.as_bytes() {
-            now.push(command)?;
+    for operator_state in operator_states.into_vec() {
+        if operator_state.interface.as_bytes() != interface.as_bytes() {
+            now.push(operator_state)?;
         }
     }
-    now.push(Command { interface, up })?;
+    now.push(OperatorState { interface, up })?;
     Ok(now)
 }
 
@@ -230,7 +237,7 @@ fn answered(
     let Inputs {
         conf,
         devices,
-        commands,
+        operator_states,
         interfaces,
         radios,
         next,
@@ -239,7 +246,7 @@ fn answered(
     Ok(Inputs {
         conf,
         devices,
-        commands,
+        operator_states,
         interfaces,
         radios,
         next,
@@ -273,10 +280,10 @@ fn with_answer(
     ensures { IfOk result (λ now. now
         ≡ spec.answered_interface interface.now number answer.now asked) }
 {
-    if (asked.ask.name.as_bytes() == interface.as_bytes()) & (asked.number == number) {
+    if (asked.request.name.as_bytes() == interface.as_bytes()) & (asked.number == number) {
         return Ok(OpenInterface {
             number: asked.number,
-            ask: asked.ask,
+            request: asked.request,
             answer: Some(copy_answer(alloc, answer)?),
         });
     }
@@ -298,7 +305,7 @@ fn radio_answered(
     let Inputs {
         conf,
         devices,
-        commands,
+        operator_states,
         interfaces,
         radios,
         next,
@@ -307,7 +314,7 @@ fn radio_answered(
     Ok(Inputs {
         conf,
         devices,
-        commands,
+        operator_states,
         interfaces,
         radios,
         next,
@@ -340,10 +347,10 @@ fn with_ports(
 ) -> Result<OpenRadio, Memory>
     ensures { IfOk result (λ now. now ≡ spec.answered_radio radio.now number ports.now asked) }
 {
-    if (asked.ask.name.as_bytes() == radio.as_bytes()) & (asked.number == number) {
+    if (asked.request.name.as_bytes() == radio.as_bytes()) & (asked.number == number) {
         return Ok(OpenRadio {
             number: asked.number,
-            ask: asked.ask,
+            request: asked.request,
             ports: Some(copy_items(alloc, ports)?),
         });
     }

@@ -8,21 +8,25 @@ ghost use Rattle.net_rules.specs.Inputs.{facts_of};
 ghost use Rattle.net_view.specs.Places.{HasPlaces, named};
 
 use crate::places::{interface_need_places, radio_need_places};
-use crate::same::{same_interface_ask, same_radio_ask};
-use net_rules::{Inputs, InterfaceAsk, OpenInterface, OpenRadio, RadioAsk};
+use crate::same::{same_interface_request, same_radio_request};
+use net_rules::{Inputs, InterfaceRequest, OpenInterface, OpenRadio, RadioRequest};
 use plane_io::{Items, Memory, Text};
 use std::alloc::Global;
 use std::collections::BTreeMap;
 
-/// The inputs without the asks of radios that are not these needs.
-pub fn radios_dropped(alloc: Global, inputs: Inputs, needs: &[RadioAsk]) -> Result<Inputs, Memory>
+/// The inputs without the requests of radios that are not these needs.
+pub fn radios_dropped(
+    alloc: Global,
+    inputs: Inputs,
+    needs: &[RadioRequest],
+) -> Result<Inputs, Memory>
     requires { needs.now ≡ filter_map need.radio_need (radios_of inputs.conf) }
     ensures { IfOk result (λ now. now ≡ spec.radios_dropped inputs) }
 {
     let Inputs {
         conf,
         devices,
-        commands,
+        operator_states,
         interfaces,
         radios,
         next,
@@ -31,7 +35,7 @@ pub fn radios_dropped(alloc: Global, inputs: Inputs, needs: &[RadioAsk]) -> Resu
     Ok(Inputs {
         conf,
         devices,
-        commands,
+        operator_states,
         interfaces,
         radios: kept,
         next,
@@ -40,40 +44,44 @@ pub fn radios_dropped(alloc: Global, inputs: Inputs, needs: &[RadioAsk]) -> Resu
 
 fn kept_radios(
     alloc: Global,
-    needs: &[RadioAsk],
+    needs: &[RadioRequest],
     current: Items<OpenRadio>,
 ) -> Result<Items<OpenRadio>, Memory>
-    ensures { IfOk result (λ kept. kept ≡ filter (λ o. spec.is_same_need need.same_radio_ask
-        (named (λ ask. ask.name) needs.now o.ask.name) o.ask) current) }
+    ensures { IfOk result (λ kept. kept ≡ filter (λ o. spec.is_same_need need.same_radio_request
+        (named (λ request. request.name) needs.now o.request.name) o.request) current) }
 {
     let places = radio_need_places(alloc, needs)?;
     let mut kept = Items::new(alloc);
     for asked in current.into_vec() {
-        if is_need_of_radio(needs, &places, &asked.ask) {
+        if is_need_of_radio(needs, &places, &asked.request) {
             kept.push(asked)?;
         }
     }
     Ok(kept)
 }
 
-fn is_need_of_radio(needs: &[RadioAsk], places: &BTreeMap<Text, usize>, ask: &RadioAsk) -> bool
-    requires { HasPlaces places.now (map (λ ask. ask.name) needs.now) }
-    ensures { result ≡ spec.is_same_need need.same_radio_ask
-        (named (λ ask. ask.name) needs.now ask.now.name) ask.now }
+fn is_need_of_radio(
+    needs: &[RadioRequest],
+    places: &BTreeMap<Text, usize>,
+    request: &RadioRequest,
+) -> bool
+    requires { HasPlaces places.now (map (λ request. request.name) needs.now) }
+    ensures { result ≡ spec.is_same_need need.same_radio_request
+        (named (λ request. request.name) needs.now request.now.name) request.now }
 {
-    match radio_need_named(needs, places, &ask.name) {
-        Some(need) => same_radio_ask(need, ask),
+    match radio_need_named(needs, places, &request.name) {
+        Some(need) => same_radio_request(need, request),
         None => false,
     }
 }
 
 fn radio_need_named<'a>(
-    needs: &'a [RadioAsk],
+    needs: &'a [RadioRequest],
     places: &BTreeMap<Text, usize>,
     name: &Text,
-) -> Option<&'a RadioAsk>
-    requires { HasPlaces places.now (map (λ ask. ask.name) needs.now) }
-    ensures { option_copied result ≡ named (λ ask. ask.name) needs.now name.now }
+) -> Option<&'a RadioRequest>
+    requires { HasPlaces places.now (map (λ request. request.name) needs.now) }
+    ensures { option_copied result ≡ named (λ request. request.name) needs.now name.now }
 {
     match places.get(name) {
         Some(place) => needs.get(*place),
@@ -81,11 +89,11 @@ fn radio_need_named<'a>(
     }
 }
 
-/// The inputs without the asks of interfaces that are not these needs.
+/// The inputs without the requests of interfaces that are not these needs.
 pub fn interfaces_dropped(
     alloc: Global,
     inputs: Inputs,
-    needs: &[InterfaceAsk],
+    needs: &[InterfaceRequest],
 ) -> Result<Inputs, Memory>
     requires { needs.now
         ≡ filter_map (need.interface_need (facts_of inputs)) (interfaces_of inputs.conf) }
@@ -94,7 +102,7 @@ pub fn interfaces_dropped(
     let Inputs {
         conf,
         devices,
-        commands,
+        operator_states,
         interfaces,
         radios,
         next,
@@ -103,7 +111,7 @@ pub fn interfaces_dropped(
     Ok(Inputs {
         conf,
         devices,
-        commands,
+        operator_states,
         interfaces: kept,
         radios,
         next,
@@ -112,16 +120,16 @@ pub fn interfaces_dropped(
 
 fn kept_interfaces(
     alloc: Global,
-    needs: &[InterfaceAsk],
+    needs: &[InterfaceRequest],
     current: Items<OpenInterface>,
 ) -> Result<Items<OpenInterface>, Memory>
-    ensures { IfOk result (λ kept. kept ≡ filter (λ o. spec.is_same_need need.same_interface_ask
-        (named (λ ask. ask.name) needs.now o.ask.name) o.ask) current) }
+    ensures { IfOk result (λ kept. kept ≡ filter (λ o. spec.is_same_need need.same_interface_request
+        (named (λ request. request.name) needs.now o.request.name) o.request) current) }
 {
     let places = interface_need_places(alloc, needs)?;
     let mut kept = Items::new(alloc);
     for asked in current.into_vec() {
-        if is_need_of_interface(needs, &places, &asked.ask) {
+        if is_need_of_interface(needs, &places, &asked.request) {
             kept.push(asked)?;
         }
     }
@@ -129,27 +137,27 @@ fn kept_interfaces(
 }
 
 fn is_need_of_interface(
-    needs: &[InterfaceAsk],
+    needs: &[InterfaceRequest],
     places: &BTreeMap<Text, usize>,
-    ask: &InterfaceAsk,
+    request: &InterfaceRequest,
 ) -> bool
-    requires { HasPlaces places.now (map (λ ask. ask.name) needs.now) }
-    ensures { result ≡ spec.is_same_need need.same_interface_ask
-        (named (λ ask. ask.name) needs.now ask.now.name) ask.now }
+    requires { HasPlaces places.now (map (λ request. request.name) needs.now) }
+    ensures { result ≡ spec.is_same_need need.same_interface_request
+        (named (λ request. request.name) needs.now request.now.name) request.now }
 {
-    match interface_need_named(needs, places, &ask.name) {
-        Some(need) => same_interface_ask(need, ask),
+    match interface_need_named(needs, places, &request.name) {
+        Some(need) => same_interface_request(need, request),
         None => false,
     }
 }
 
 fn interface_need_named<'a>(
-    needs: &'a [InterfaceAsk],
+    needs: &'a [InterfaceRequest],
     places: &BTreeMap<Text, usize>,
     name: &Text,
-) -> Option<&'a InterfaceAsk>
-    requires { HasPlaces places.now (map (λ ask. ask.name) needs.now) }
-    ensures { option_copied result ≡ named (λ ask. ask.name) needs.now name.now }
+) -> Option<&'a InterfaceRequest>
+    requires { HasPlaces places.now (map (λ request. request.name) needs.now) }
+    ensures { option_copied result ≡ named (λ request. request.name) needs.now name.now }
 {
     match places.get(name) {
         Some(place) => needs.get(*place),

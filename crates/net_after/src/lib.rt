@@ -17,5 +17,5 @@ pub use needed::{interface_needs, radio_needs};
 pub use needs::{interface_need, radio_need};
 pub use notices::{notices_between, numbers_of};
 pub use order::in_order;
-pub use same::{same_interface_ask, same_radio_ask};
+pub use same::{same_interface_request, same_radio_request};
 pub use steps::{after, asked};

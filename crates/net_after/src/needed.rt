@@ -12,14 +12,14 @@ ghost use Rattle.net_view.specs.Levels.{AreLevelsOf};
 use crate::needs::{interface_need, radio_need};
 use crate::places::radio_places;
 use net_rows::{InterfaceRow, RadioRow};
-use net_rules::{Inputs, InterfaceAsk, RadioAsk};
+use net_rules::{Inputs, InterfaceRequest, RadioRequest};
 use net_view::{Levels, is_first};
 use plane_io::{Items, Memory, Text};
 use std::alloc::Global;
 use std::collections::BTreeMap;
 
 /// The needs of the radios in file order, of one name that of the first.
-pub fn radio_needs(alloc: Global, radios: &[RadioRow]) -> Result<Items<RadioAsk>, Memory>
+pub fn radio_needs(alloc: Global, radios: &[RadioRow]) -> Result<Items<RadioRequest>, Memory>
     ensures { IfOk result (λ needs. needs
         ≡ filter_map spec.radio_need (firsts (λ row. row.name) radios.now)) }
 {
@@ -33,7 +33,7 @@ pub fn radio_needs(alloc: Global, radios: &[RadioRow]) -> Result<Items<RadioAsk>
 
 fn add_radio_need(
     alloc: Global,
-    needs: &mut Items<RadioAsk>,
+    needs: &mut Items<RadioRequest>,
     places: &BTreeMap<Text, usize>,
     radio: &RadioRow,
     place: usize,
@@ -57,7 +57,7 @@ pub fn interface_needs(
     levels: &Levels,
     inputs: &Inputs,
     interfaces: &[InterfaceRow],
-) -> Result<Items<InterfaceAsk>, Memory>
+) -> Result<Items<InterfaceRequest>, Memory>
     requires levels { AreLevelsOf inputs.now levels.now }
     requires interfaces { interfaces.now ≡ inputs.now.conf.interfaces }
     ensures { IfOk result (λ needs. needs ≡ filter_map (spec.interface_need (facts_of inputs.now))
@@ -72,7 +72,7 @@ pub fn interface_needs(
 
 fn add_interface_need(
     alloc: Global,
-    needs: &mut Items<InterfaceAsk>,
+    needs: &mut Items<InterfaceRequest>,
     levels: &Levels,
     inputs: &Inputs,
     row: &InterfaceRow,

@@ -6,7 +6,7 @@ ghost use Rattle.net_view.specs.Levels.{AreLevelsOf};
 
 use crate::order::in_order;
 use net_rows::{InterfaceRow, RadioRow, WifiRow};
-use net_rules::{Inputs, InterfaceAsk, RadioAsk, WifiAsk};
+use net_rules::{Inputs, InterfaceRequest, RadioRequest, WifiRequest};
 use net_view::{Levels, asks_nothing};
 use plane_io::{Items, Memory};
 use std::alloc::Global;
@@ -17,7 +17,7 @@ pub fn interface_need(
     levels: &Levels,
     inputs: &Inputs,
     row: &InterfaceRow,
-) -> Result<Option<InterfaceAsk>, Memory>
+) -> Result<Option<InterfaceRequest>, Memory>
     requires { AreLevelsOf inputs.now levels.now }
     ensures { IfOk result (λ need. need ≡ spec.interface_need (facts_of inputs.now) row.now) }
 {
@@ -25,7 +25,7 @@ pub fn interface_need(
     if !(levels.is_ready(inputs, row) & !is_silent) {
         return Ok(None);
     }
-    Ok(Some(InterfaceAsk {
+    Ok(Some(InterfaceRequest {
         name: row.name.copy()?,
         proto: row.proto.copy()?,
         options: in_order(alloc, row.options.as_slice())?,
@@ -34,17 +34,17 @@ pub fn interface_need(
 }
 
 /// What the handler of a radio is to be asked, where a row of it is enabled.
-pub fn radio_need(alloc: Global, radio: &RadioRow) -> Result<Option<RadioAsk>, Memory>
+pub fn radio_need(alloc: Global, radio: &RadioRow) -> Result<Option<RadioRequest>, Memory>
     ensures { IfOk result (λ need. need ≡ spec.radio_need radio.now) }
 {
     let has_row = has_enabled_row(radio.rows.as_slice());
     if !(!radio.disabled & has_row) {
         return Ok(None);
     }
-    Ok(Some(RadioAsk {
+    Ok(Some(RadioRequest {
         name: radio.name.copy()?,
         options: in_order(alloc, radio.options.as_slice())?,
-        rows: wifi_asks(alloc, radio.rows.as_slice())?,
+        rows: wifi_requests(alloc, radio.rows.as_slice())?,
     }))
 }
 
@@ -54,16 +54,16 @@ fn has_enabled_row(rows: &[WifiRow]) -> bool
     rows.iter().any(|row| !row.disabled)
 }
 
-fn wifi_asks(alloc: Global, rows: &[WifiRow]) -> Result<Items<WifiAsk>, Memory>
-    ensures { IfOk result (λ asks. asks
-        ≡ map spec.wifi_ask (filter (λ row. not row.disabled) rows.now)) }
+fn wifi_requests(alloc: Global, rows: &[WifiRow]) -> Result<Items<WifiRequest>, Memory>
+    ensures { IfOk result (λ requests. requests
+        ≡ map spec.wifi_request (filter (λ row. not row.disabled) rows.now)) }
 {
-    let mut asks = Items::new(alloc);
+    let mut requests = Items::new(alloc);
     for row in rows {
         if !row.disabled {
             let options = in_order(alloc, row.options.as_slice())?;
-            asks.push(WifiAsk { options })?;
+            requests.push(WifiRequest { options })?;
         }
     }
-    Ok(asks)
+    Ok(requests)
 }

@@ -17,7 +17,7 @@ use plane_io::{Items, Memory, Text};
 use std::alloc::Global;
 use std::collections::{BTreeMap, BTreeSet};
 
-/// The numbers of the open asks, those of interfaces first.
+/// The numbers of the open requests, those of interfaces first.
 pub fn numbers_of(alloc: Global, inputs: &Inputs) -> Result<Items<u64>, Memory>
     ensures { IfOk result (λ numbers. numbers ≡ spec.numbers_of inputs.now) }
 {
@@ -45,8 +45,8 @@ fn add_radio_numbers(numbers: &mut Items<u64>, current: &[OpenRadio]) -> Result<
     Ok(())
 }
 
-/// What is told of asks between two moments. Of the first one the numbers of its open asks are
-/// given, and its next number.
+/// What is told of requests between two moments. Of the first one the numbers of its open requests
+/// are given, and its next number.
 pub fn notices_between(
     alloc: Global,
     numbers: &[u64],
@@ -119,7 +119,7 @@ fn note_lost(lost: &mut BTreeSet<u64>, current: &BTreeSet<u64>, number: u64) -> 
     Ok(())
 }
 
-// Tells of the asks from a number on.
+// Tells of the requests from a number on.
 fn add_interfaces(
     alloc: Global,
     notices: &mut Items<Notice>,
@@ -143,15 +143,15 @@ fn interface_notice(conf: &Conf, places: &BTreeMap<Text, usize>, asked: &OpenInt
     requires { HasPlaces places.now (map (λ row. row.name) conf.now.interfaces) }
     ensures { result ≡ spec.interface_notice conf.now asked.now }
 {
-    let row = place_or_first(places, &asked.ask.name);
+    let row = place_or_first(places, &asked.request.name);
     Notice::Interface {
         number: asked.number,
         row,
-        device: asked.ask.device,
+        device: asked.request.device,
     }
 }
 
-// Tells of the asks from a number on.
+// Tells of the requests from a number on.
 fn add_radios(
     alloc: Global,
     notices: &mut Items<Notice>,
@@ -175,7 +175,7 @@ fn radio_notice(conf: &Conf, places: &BTreeMap<Text, usize>, asked: &OpenRadio) 
     requires { HasPlaces places.now (map (λ row. row.name) conf.now.radios) }
     ensures { result ≡ spec.radio_notice conf.now asked.now }
 {
-    let row = place_or_first(places, &asked.ask.name);
+    let row = place_or_first(places, &asked.request.name);
     Notice::Radio {
         number: asked.number,
         row,

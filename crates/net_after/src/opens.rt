@@ -9,116 +9,116 @@ ghost use Rattle.net_rules.specs.Numbers.{AreCountable};
 ghost use Rattle.net_view.specs.Places.{HasPlaces};
 
 use crate::places::{open_interface_places, open_radio_places};
-use net_rules::{Inputs, InterfaceAsk, OpenInterface, OpenRadio, RadioAsk};
+use net_rules::{Inputs, InterfaceRequest, OpenInterface, OpenRadio, RadioRequest};
 use plane_io::{Items, Memory, Text};
 use std::alloc::Global;
 use std::collections::BTreeMap;
 
-/// The inputs where each of these needs has an ask: one that had none gets the next number,
+/// The inputs where each of these needs has a request: one that had none gets the next number,
 /// interfaces first.
-pub fn asks_opened(
+pub fn requests_opened(
     alloc: Global,
     inputs: Inputs,
-    interface_needs: Items<InterfaceAsk>,
-    radio_needs: Items<RadioAsk>,
+    interface_needs: Items<InterfaceRequest>,
+    radio_needs: Items<RadioRequest>,
 ) -> Result<Inputs, Memory>
     requires countable { AreCountable inputs }
     requires interfaces { interface_needs
         ≡ filter_map (need.interface_need (facts_of inputs)) (interfaces_of inputs.conf) }
     requires radios { radio_needs ≡ filter_map need.radio_need (radios_of inputs.conf) }
-    ensures { IfOk result (λ now. now ≡ spec.asks_opened inputs) }
+    ensures { IfOk result (λ now. now ≡ spec.requests_opened inputs) }
 {
     let Inputs {
         conf,
         devices,
-        commands,
+        operator_states,
         interfaces,
         radios,
         next,
     } = inputs;
-    let new_interfaces = interfaces_without_ask(alloc, interface_needs, interfaces.as_slice())?;
-    let new_radios = radios_without_ask(alloc, radio_needs, radios.as_slice())?;
+    let new_interfaces = interfaces_without_request(alloc, interface_needs, interfaces.as_slice())?;
+    let new_radios = radios_without_request(alloc, radio_needs, radios.as_slice())?;
     let middle = next + new_interfaces.as_slice().len() as u64;
     let end = middle + new_radios.as_slice().len() as u64;
     Ok(Inputs {
         conf,
         devices,
-        commands,
+        operator_states,
         interfaces: with_interfaces(interfaces, next, new_interfaces)?,
         radios: with_radios(radios, middle, new_radios)?,
         next: end,
     })
 }
 
-fn interfaces_without_ask(
+fn interfaces_without_request(
     alloc: Global,
-    needs: Items<InterfaceAsk>,
+    needs: Items<InterfaceRequest>,
     current: &[OpenInterface],
-) -> Result<Items<InterfaceAsk>, Memory>
-    ensures { IfOk result (λ asks. asks
-        ≡ filter (λ ask. is_none (open_interface current.now ask.name)) needs) }
+) -> Result<Items<InterfaceRequest>, Memory>
+    ensures { IfOk result (λ requests. requests
+        ≡ filter (λ request. is_none (open_interface current.now request.name)) needs) }
 {
     let places = open_interface_places(alloc, current)?;
-    let mut asks = Items::new(alloc);
-    for ask in needs.into_vec() {
-        if lacks_interface_ask(current, &places, &ask.name) {
-            asks.push(ask)?;
+    let mut requests = Items::new(alloc);
+    for request in needs.into_vec() {
+        if lacks_interface_request(current, &places, &request.name) {
+            requests.push(request)?;
         }
     }
-    Ok(asks)
+    Ok(requests)
 }
 
-fn lacks_interface_ask(
+fn lacks_interface_request(
     current: &[OpenInterface],
     places: &BTreeMap<Text, usize>,
     name: &Text,
 ) -> bool
-    requires { HasPlaces places.now (map (λ o. o.ask.name) current.now) }
+    requires { HasPlaces places.now (map (λ o. o.request.name) current.now) }
     ensures { result ≡ is_none (open_interface current.now name.now) }
 {
     !places.contains_key(name)
 }
 
-fn radios_without_ask(
+fn radios_without_request(
     alloc: Global,
-    needs: Items<RadioAsk>,
+    needs: Items<RadioRequest>,
     current: &[OpenRadio],
-) -> Result<Items<RadioAsk>, Memory>
-    ensures { IfOk result (λ asks. asks
-        ≡ filter (λ ask. is_none (open_radio current.now ask.name)) needs) }
+) -> Result<Items<RadioRequest>, Memory>
+    ensures { IfOk result (λ requests. requests
+        ≡ filter (λ request. is_none (open_radio current.now request.name)) needs) }
 {
     let places = open_radio_places(alloc, current)?;
-    let mut asks = Items::new(alloc);
-    for ask in needs.into_vec() {
-        if lacks_radio_ask(current, &places, &ask.name) {
-            asks.push(ask)?;
+    let mut requests = Items::new(alloc);
+    for request in needs.into_vec() {
+        if lacks_radio_request(current, &places, &request.name) {
+            requests.push(request)?;
         }
     }
-    Ok(asks)
+    Ok(requests)
 }
 
-fn lacks_radio_ask(current: &[OpenRadio], places: &BTreeMap<Text, usize>, name: &Text) -> bool
-    requires { HasPlaces places.now (map (λ o. o.ask.name) current.now) }
+fn lacks_radio_request(current: &[OpenRadio], places: &BTreeMap<Text, usize>, name: &Text) -> bool
+    requires { HasPlaces places.now (map (λ o. o.request.name) current.now) }
     ensures { result ≡ is_none (open_radio current.now name.now) }
 {
     !places.contains_key(name)
 }
 
-// The open asks and these with rising numbers.
+// The open requests and these with rising numbers.
 fn with_interfaces(
     current: Items<OpenInterface>,
     next: u64,
-    asks: Items<InterfaceAsk>,
+    requests: Items<InterfaceRequest>,
 ) -> Result<Items<OpenInterface>, Memory>
-    requires { next + length asks < 2 ^ 64 }
-    ensures { IfOk result (λ now. now ≡ current ++ spec.opened_interfaces next asks) }
+    requires { next + length requests < 2 ^ 64 }
+    ensures { IfOk result (λ now. now ≡ current ++ spec.opened_interfaces next requests) }
 {
     let mut now = current;
     let mut number = next;
-    for ask in asks.into_vec() {
+    for request in requests.into_vec() {
         now.push(OpenInterface {
             number,
-            ask,
+            request,
             answer: None,
         })?;
         number += 1;
@@ -126,21 +126,21 @@ fn with_interfaces(
     Ok(now)
 }
 
-// The open asks and these with rising numbers.
+// The open requests and these with rising numbers.
 fn with_radios(
     current: Items<OpenRadio>,
     next: u64,
-    asks: Items<RadioAsk>,
+    requests: Items<RadioRequest>,
 ) -> Result<Items<OpenRadio>, Memory>
-    requires { next + length asks < 2 ^ 64 }
-    ensures { IfOk result (λ now. now ≡ current ++ spec.opened_radios next asks) }
+    requires { next + length requests < 2 ^ 64 }
+    ensures { IfOk result (λ now. now ≡ current ++ spec.opened_radios next requests) }
 {
     let mut now = current;
     let mut number = next;
-    for ask in asks.into_vec() {
+    for request in requests.into_vec() {
         now.push(OpenRadio {
             number,
-            ask,
+            request,
             ports: None,
         })?;
         number += 1;

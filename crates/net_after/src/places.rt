@@ -3,7 +3,7 @@ ghost use Rattle.uci_tree.specs.Index.{HasNoted};
 ghost use Rattle.net_view.specs.Places.{HasPlaces};
 
 use net_rows::RadioRow;
-use net_rules::{InterfaceAsk, OpenInterface, OpenRadio, RadioAsk};
+use net_rules::{InterfaceRequest, OpenInterface, OpenRadio, RadioRequest};
 use plane_io::{Memory, Text};
 use std::alloc::Global;
 use std::collections::BTreeMap;
@@ -22,52 +22,55 @@ pub fn radio_places(alloc: Global, radios: &[RadioRow]) -> Result<BTreeMap<Text,
 /// The places of needs by name; of one name the first.
 pub fn interface_need_places(
     alloc: Global,
-    needs: &[InterfaceAsk],
+    needs: &[InterfaceRequest],
 ) -> Result<BTreeMap<Text, usize>, Memory>
-    ensures { IfOk result (λ places. HasPlaces places (map (λ ask. ask.name) needs.now)) }
+    ensures { IfOk result (λ places. HasPlaces places (map (λ request. request.name) needs.now)) }
 {
     let mut places = BTreeMap::new(alloc);
-    for (place, ask) in needs.iter().enumerate() {
-        note_text(&mut places, &ask.name, place)?;
+    for (place, request) in needs.iter().enumerate() {
+        note_text(&mut places, &request.name, place)?;
     }
     Ok(places)
 }
 
 /// The places of needs by name; of one name the first.
-pub fn radio_need_places(alloc: Global, needs: &[RadioAsk]) -> Result<BTreeMap<Text, usize>, Memory>
-    ensures { IfOk result (λ places. HasPlaces places (map (λ ask. ask.name) needs.now)) }
+pub fn radio_need_places(
+    alloc: Global,
+    needs: &[RadioRequest],
+) -> Result<BTreeMap<Text, usize>, Memory>
+    ensures { IfOk result (λ places. HasPlaces places (map (λ request. request.name) needs.now)) }
 {
     let mut places = BTreeMap::new(alloc);
-    for (place, ask) in needs.iter().enumerate() {
-        note_text(&mut places, &ask.name, place)?;
+    for (place, request) in needs.iter().enumerate() {
+        note_text(&mut places, &request.name, place)?;
     }
     Ok(places)
 }
 
-/// The places of open asks by name; of one name the first.
+/// The places of open requests by name; of one name the first.
 pub fn open_interface_places(
     alloc: Global,
     current: &[OpenInterface],
 ) -> Result<BTreeMap<Text, usize>, Memory>
-    ensures { IfOk result (λ places. HasPlaces places (map (λ o. o.ask.name) current.now)) }
+    ensures { IfOk result (λ places. HasPlaces places (map (λ o. o.request.name) current.now)) }
 {
     let mut places = BTreeMap::new(alloc);
     for (place, asked) in current.iter().enumerate() {
-        note_text(&mut places, &asked.ask.name, place)?;
+        note_text(&mut places, &asked.request.name, place)?;
     }
     Ok(places)
 }
 
-/// The places of open asks by name; of one name the first.
+/// The places of open requests by name; of one name the first.
 pub fn open_radio_places(
     alloc: Global,
     current: &[OpenRadio],
 ) -> Result<BTreeMap<Text, usize>, Memory>
-    ensures { IfOk result (λ places. HasPlaces places (map (λ o. o.ask.name) current.now)) }
+    ensures { IfOk result (λ places. HasPlaces places (map (λ o. o.request.name) current.now)) }
 {
     let mut places = BTreeMap::new(alloc);
     for (place, asked) in current.iter().enumerate() {
-        note_text(&mut places, &asked.ask.name, place)?;
+        note_text(&mut places, &asked.request.name, place)?;
     }
     Ok(places)
 }

@@ -3,12 +3,12 @@ ghost use Rattle.std.specs.Cmp.Lexicographic.{pointwise};
 ghost use Rattle.net_rules.specs.Need as spec;
 
 use kern_model::DevName;
-use net_rules::{InterfaceAsk, RadioAsk, WifiAsk};
+use net_rules::{InterfaceRequest, RadioRequest, WifiRequest};
 use uci_tree::{Opt, Value};
 
-/// Whether both are one ask.
-pub fn same_interface_ask(a: &InterfaceAsk, b: &InterfaceAsk) -> bool
-    ensures { result ≡ spec.same_interface_ask a.now b.now }
+/// Whether both are one request.
+pub fn same_interface_request(a: &InterfaceRequest, b: &InterfaceRequest) -> bool
+    ensures { result ≡ spec.same_interface_request a.now b.now }
 {
     let options = same_options(a.options.as_slice(), b.options.as_slice());
     let device = same_device(&a.device, &b.device);
@@ -16,16 +16,16 @@ pub fn same_interface_ask(a: &InterfaceAsk, b: &InterfaceAsk) -> bool
         & ((a.proto.as_bytes() == b.proto.as_bytes()) & (options & device))
 }
 
-/// Whether both are one ask.
-pub fn same_radio_ask(a: &RadioAsk, b: &RadioAsk) -> bool
-    ensures { result ≡ spec.same_radio_ask a.now b.now }
+/// Whether both are one request.
+pub fn same_radio_request(a: &RadioRequest, b: &RadioRequest) -> bool
+    ensures { result ≡ spec.same_radio_request a.now b.now }
 {
     let options = same_options(a.options.as_slice(), b.options.as_slice());
     let rows = same_rows(a.rows.as_slice(), b.rows.as_slice());
     (a.name.as_bytes() == b.name.as_bytes()) & (options & rows)
 }
 
-fn same_rows(rows: &[WifiAsk], others: &[WifiAsk]) -> bool
+fn same_rows(rows: &[WifiRequest], others: &[WifiRequest]) -> bool
     ensures { result ≡ pointwise (λ x y. spec.same_options x.options y.options) rows.now
         others.now }
 {

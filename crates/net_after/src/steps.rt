@@ -5,7 +5,7 @@ ghost use Rattle.net_rules.specs.Numbers.{AreCountable};
 use crate::changes::changed;
 use crate::drops::{interfaces_dropped, radios_dropped};
 use crate::needed::{interface_needs, radio_needs};
-use crate::opens::asks_opened;
+use crate::opens::requests_opened;
 use net_rules::{Event, Inputs};
 use net_view::Levels;
 use plane_io::Memory;
@@ -31,5 +31,5 @@ pub fn asked(alloc: Global, inputs: Inputs) -> Result<Inputs, Memory>
     let rows = dropped.conf.interfaces.as_slice();
     let for_interfaces = interface_needs(alloc, &levels, &dropped, rows)?;
     let left = interfaces_dropped(alloc, dropped, for_interfaces.as_slice())?;
-    asks_opened(alloc, left, for_interfaces, for_radios)
+    requests_opened(alloc, left, for_interfaces, for_radios)
 }

@@ -70,7 +70,7 @@ fn go_on<K: Kernel>(
 }
 
 /// The kernel behind the events, where its calls and events of these numbers failed.
-fn kernel_behind(
+fn kernel_after(
     alloc: Global,
     bench: &Bench,
     calls: Vec<u64>,
@@ -99,14 +99,14 @@ pub(crate) fn sweep(
     most: u64,
     events: &str,
 ) -> anyhow::Result<u64> {
-    let whole = kernel_behind(alloc, bench, Vec::new(alloc), Vec::new(alloc), events)?;
+    let whole = kernel_after(alloc, bench, Vec::new(alloc), Vec::new(alloc), events)?;
     let mut same: u64 = 0;
     for number in 1..=most {
         let failing = Vec::from_slice(alloc, &[number])?;
         let kernel = if is_call {
-            kernel_behind(alloc, bench, failing, Vec::new(alloc), events)?
+            kernel_after(alloc, bench, failing, Vec::new(alloc), events)?
         } else {
-            kernel_behind(alloc, bench, Vec::new(alloc), failing, events)?
+            kernel_after(alloc, bench, Vec::new(alloc), failing, events)?
         };
         if has_same_objects(kernel.objects(), whole.objects()) {
             same = same.saturating_add(1);

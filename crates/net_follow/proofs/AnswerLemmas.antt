@@ -12,7 +12,7 @@ use Rattle.kern_model.proofs.TestLemmas.{bytes_same, false_of_not}
 use Rattle.net_rows.specs.declared.rows.InterfaceRow.{InterfaceRow}
 use Rattle.net_rows.specs.declared.rows.RouteRow.{RouteRow}
 use Rattle.net_rules.specs.declared.answer.Answer.{Answer}
-use Rattle.net_rules.specs.declared.ask.InterfaceAsk.{InterfaceAsk}
+use Rattle.net_rules.specs.declared.request.InterfaceRequest.{InterfaceRequest}
 use Rattle.net_rules.specs.declared.inputs.Inputs.{Inputs}
 use Rattle.net_rules.specs.declared.inputs.OpenInterface.{OpenInterface}
 use Rattle.net_rules.specs.declared.event.Event.TheVariants as event
@@ -21,7 +21,7 @@ use Rattle.net_rules.specs.declared.refusal.Refusal.TheVariants as refused
 use Rattle.net_rules.specs.declared.refusal.TheConstants.{MOST_IN_ANSWER}
 use Rattle.net_rules.specs.Rows.{interface_named, asks_nothing, is_static}
 use Rattle.net_rules.specs.RadioPorts.{device_of}
-use Rattle.net_rules.specs.Interfaces.{answer_of, device_or_own, layer_of}
+use Rattle.net_rules.specs.Interfaces.{answer_of, device_or_own, l3_device_of}
 use Rattle.net_rules.specs.Want.{of_options, of_answer, is_route_of, of_sections, given_by}
 use Rattle.net_rules.specs.Inputs.{facts_of, open_interface}
 use Rattle.net_rules.specs.After.{answered_interface, changed}
@@ -29,10 +29,10 @@ use Rattle.net_rules.specs.Refusal.{or_else, refused_if, is_too_long, number_of_
 use Rattle.net_rules.proofs.ReachedLemmas.{interface_found}
 use Rattle.net_wants.specs.Given.{answer_route, route_on}
 use Rattle.known_inputs.specs.Known.{StandOnce}
-use Rattle.known_inputs.specs.Steps.{place_of, ask_of}
+use Rattle.known_inputs.specs.Steps.{place_of, request_of}
 use Rattle.known_inputs.proofs.FoundLemmas.{found_numbered}
 use Rattle.given_objects.specs.Gifts.{Gifts}
-use Rattle.state_asks.specs.Course.{Course}
+use Rattle.state_requests.specs.SettlingState.{SettlingState}
 use Rattle.net_rules.specs.declared.state.InterfaceState.{InterfaceState}
 use Rattle.net_rules.specs.States.{is_first, IsStateAs}
 use Rattle.net_rules.proofs.AnswerLemmas.{state_same}
@@ -40,15 +40,15 @@ use Rattle.net_rules.proofs.MoveLemmas.{some_is, count_few}
 use Rattle.net_gifts.specs.Giving.{times_in, gives, HasGivers, HavePlaces}
 use Rattle.net_gifts.proofs.TimesLemmas.{gives_agree}
 use Rattle.net_reach.specs.declared.reach.Reach.{Reach}
-use Rattle.net_reach.specs.Reach.{IsReachOf, told_layer, interface_place}
-use Rattle.net_reach.specs.Layers.{TellsLayer}
+use Rattle.net_reach.specs.Reach.{IsReachOf, told_l3_device, interface_place}
+use Rattle.net_reach.specs.L3Devices.{TellsL3Device}
 use Rattle.net_reach.proofs.AlikeLemmas.{answer_tells}
 use Rattle.asked_places.specs.Touched.{has, names_of_rows}
 use Rattle.asked_places.proofs.PlaceLemmas.{place_of_first}
-use Rattle.state_asks.specs.States.{States}
-use Rattle.state_asks.specs.Kept.{number_of, IsNotedAs, AreOwnAsks, IsTied, FollowBut}
-use Rattle.state_asks.specs.Counted.{needs_no_answer, HasGiftRoom, IsCountedBy}
-use Rattle.net_follow.specs.Answering.{heard, layer_by, given_hearing}
+use Rattle.state_requests.specs.States.{States}
+use Rattle.state_requests.specs.Kept.{number_of, IsNotedAs, AreOwnRequests, IsTied, FollowBut}
+use Rattle.state_requests.specs.Counted.{needs_no_answer, HasGiftRoom, IsCountedBy}
+use Rattle.net_follow.specs.Answering.{heard, l3_device_by, given_hearing}
 use Rattle.net_follow.proofs.KeptLemmas.{has_member}
 use Rattle.net_follow.proofs.StepLemmas.{moment_of}
 
@@ -106,7 +106,7 @@ module _ (inputs : Inputs) (interface : List ℕ) (number : ℕ) (answer : Answe
   abbrev pub now : Inputs
   now = changed inputs (event.Answer interface number answer)
 
-  -- the ask is open
+  -- the request is open
   pub record IsOpen (o : OpenInterface) : Type 0 where
     pub found : open_interface inputs.interfaces interface ≡ Some o
     pub number_is : o.number ≡ number
@@ -130,15 +130,15 @@ module _ (inputs : Inputs) (interface : List ℕ) (number : ℕ) (answer : Answe
 
   -- ---- asks with an answer
 
-  ask_told : (o : OpenInterface) → (told o).ask ≡ o.ask
-  ask_told o = by (bytes_eq o.ask.name interface && (o.number == number))
+  request_told : (o : OpenInterface) → (told o).request ≡ o.request
+  request_told o = by (bytes_eq o.request.name interface && (o.number == number))
     where
-      by : (b : Bool) → (cond b (record o { answer = Some answer }) o).ask ≡ o.ask
+      by : (b : Bool) → (cond b (record o { answer = Some answer }) o).request ≡ o.request
       by true = refl
       by false = refl
 
   number_told : (o : OpenInterface) → (told o).number ≡ o.number
-  number_told o = by (bytes_eq o.ask.name interface && (o.number == number))
+  number_told o = by (bytes_eq o.request.name interface && (o.number == number))
     where
       by : (b : Bool) → (cond b (record o { answer = Some answer }) o).number ≡ o.number
       by true = refl
@@ -147,7 +147,7 @@ module _ (inputs : Inputs) (interface : List ℕ) (number : ℕ) (answer : Answe
   other_found : (q : List ℕ) → bytes_eq q interface ≡ false → (o : Option OpenInterface) → open_interface inputs.interfaces q ≡ o → option_map told o ≡ o
   other_found q other None is = refl
   other_found q other (Some o) is =
-      let same : o.ask.name ≡ q = bytes_same o.ask.name q (found_passes (λ (x : OpenInterface). bytes_eq x.ask.name q) inputs.interfaces o is) in
+      let same : o.request.name ≡ q = bytes_same o.request.name q (found_passes (λ (x : OpenInterface). bytes_eq x.request.name q) inputs.interfaces o is) in
       ap (λ b. Some (cond (b && (o.number == number)) (record o { answer = Some answer }) o)) (ap (λ n. bytes_eq n interface) same ∙ other)
 
   answer_other : (q : List ℕ) → bytes_eq q interface ≡ false → (facts_of now).answer q ≡ (facts_of inputs).answer q
@@ -157,7 +157,7 @@ module _ (inputs : Inputs) (interface : List ℕ) (number : ℕ) (answer : Answe
 
   answer_here : (o : OpenInterface) → IsOpen o → (facts_of now).answer interface ≡ Some answer
   answer_here o open_is =
-      let same : bytes_eq o.ask.name interface ≡ true = found_passes (λ (x : OpenInterface). bytes_eq x.ask.name interface) inputs.interfaces o open_is.found in
+      let same : bytes_eq o.request.name interface ≡ true = found_passes (λ (x : OpenInterface). bytes_eq x.request.name interface) inputs.interfaces o open_is.found in
       ap (λ (x : Option OpenInterface). option_and_then (λ (y : OpenInterface). y.answer) x) (interface_found interface number answer inputs.interfaces interface ∙ ap (option_map told) open_is.found)
       ∙ ap (λ b. (cond (b && (o.number == number)) (record o { answer = Some answer }) o).answer) same
       ∙ ap (λ b. (cond b (record o { answer = Some answer }) o).answer) ((Decides-eqb o.number number).1 open_is.number_is)
@@ -171,11 +171,11 @@ module _ (inputs : Inputs) (interface : List ℕ) (number : ℕ) (answer : Answe
       ap (option_map (λ (x : OpenInterface). x.number)) (interface_found interface number answer inputs.interfaces q)
       ∙ number_by (open_interface inputs.interfaces q)
 
-  own_told : AreOwnAsks inputs → AreOwnAsks now
+  own_told : AreOwnRequests inputs → AreOwnRequests now
   own_told own = λ o row member named.
       let from = member_of_map told inputs.interfaces o member in
-      let same : from.source.ask ≡ o.ask = sym (ask_told from.source) ∙ ap (λ (x : OpenInterface). x.ask) from.same in
-      sym same ∙ own from.source row from.member (ap (λ (a : InterfaceAsk). interface_named inputs.conf a.name) same ∙ named)
+      let same : from.source.request ≡ o.request = sym (request_told from.source) ∙ ap (λ (x : OpenInterface). x.request) from.same in
+      sym same ∙ own from.source row from.member (ap (λ (a : InterfaceRequest). interface_named inputs.conf a.name) same ∙ named)
 
   noted_as : (first : Bool) (row : InterfaceRow) (st : InterfaceState) → IsNotedAs first inputs row st → IsNotedAs first now row st
   noted_as true row st noted = record { device = noted.device; number = noted.number ∙ sym (number_same row.name) }
@@ -196,13 +196,14 @@ module _ (inputs : Inputs) (interface : List ℕ) (number : ℕ) (answer : Answe
   }
 
   -- the layer-3 device that it tells
-  pub layer_tells : StandOnce inputs → (o : OpenInterface) → IsOpen o → (was : Option (List ℕ)) → was ≡ option_and_then (λ (x : OpenInterface). option_and_then (λ (a : Answer). a.device) x.answer) (ask_of inputs number)
-      → TellsLayer inputs now interface was answer.device
-  layer_tells once o open_is was is =
-      let by_number : ask_of inputs number ≡ Some o = ap (ask_of inputs) (sym open_is.number_is) ∙ found_numbered inputs o once (found_inside (λ (x : OpenInterface). bytes_eq x.ask.name interface) inputs.interfaces o open_is.found) in
-      let same : was ≡ told_layer inputs interface = is ∙ ap (λ (x : Option OpenInterface). option_and_then (λ (y : OpenInterface). option_and_then (λ (a : Answer). a.device) y.answer) x) (by_number ∙ sym open_is.found) in
-      subst (λ (w : Option (List ℕ)). TellsLayer inputs now interface w answer.device) (sym same)
-      (subst (λ n. TellsLayer inputs (changed inputs (event.Answer interface n answer)) interface (told_layer inputs interface) answer.device) open_is.number_is
+  pub l3_device_tells : StandOnce inputs → (o : OpenInterface) → IsOpen o → (was : Option (List ℕ)) → was ≡ option_and_then (λ (x : OpenInterface). option_and_then (λ (a : Answer). a.device) x.answer) (request_of inputs number)
+      → TellsL3Device inputs now interface was answer.device
+  l3_device_tells once o open_is was is =
+      let by_number : request_of inputs number ≡ Some o = ap (request_of inputs) (sym open_is.number_is)
+      ∙ found_numbered inputs o once (found_inside (λ (x : OpenInterface). bytes_eq x.request.name interface) inputs.interfaces o open_is.found) in
+      let same : was ≡ told_l3_device inputs interface = is ∙ ap (λ (x : Option OpenInterface). option_and_then (λ (y : OpenInterface). option_and_then (λ (a : Answer). a.device) y.answer) x) (by_number ∙ sym open_is.found) in
+      subst (λ (w : Option (List ℕ)). TellsL3Device inputs now interface w answer.device) (sym same)
+      (subst (λ n. TellsL3Device inputs (changed inputs (event.Answer interface n answer)) interface (told_l3_device inputs interface) answer.device) open_is.number_is
       (answer_tells inputs interface o answer open_is.found))
 
   -- ---- an interface with the same answer gives the same
@@ -211,10 +212,10 @@ module _ (inputs : Inputs) (interface : List ℕ) (number : ℕ) (answer : Answe
     needs_same : needs_no_answer (facts_of now) r ≡ needs_no_answer (facts_of inputs) r
     needs_same = ap (λ (a : Option Answer). asks_nothing r.proto || is_some a) same
 
-    layer_same : layer_of (facts_of now) r ≡ layer_of (facts_of inputs) r
-    layer_same = ap (λ (a : Option Answer). device_or_own (option_and_then (λ (x : Answer). x.device) a) (device_of (facts_of inputs) r)) same
+    l3_device_same : l3_device_of (facts_of now) r ≡ l3_device_of (facts_of inputs) r
+    l3_device_same = ap (λ (a : Option Answer). device_or_own (option_and_then (λ (x : Answer). x.device) a) (device_of (facts_of inputs) r)) same
 
-    given_same : (layer : Option (List ℕ)) → given_by (facts_of now) r layer ≡ given_by (facts_of inputs) r layer
+    given_same : (l3_device : Option (List ℕ)) → given_by (facts_of now) r l3_device ≡ given_by (facts_of inputs) r l3_device
     given_same None = refl
     given_same (Some dev) = ap (λ (a : Option Answer). cond {A = List Object} (is_static r.proto) (of_options r dev) (of_answer dev a) ++ of_sections (facts_of inputs) r dev) same
 
@@ -226,15 +227,15 @@ module _ (inputs : Inputs) (interface : List ℕ) (number : ℕ) (answer : Answe
     hears : answer_of (facts_of now) r ≡ heard r answer
     hears = ap (λ (a : Option Answer). cond {A = Option Answer} (asks_nothing r.proto) None a) (ap (facts_of now).answer named ∙ answer_here o open_is)
 
-    layer_hearing : layer_of (facts_of now) r ≡ layer_by (facts_of inputs) r answer
-    layer_hearing = ap (λ (a : Option Answer). device_or_own (option_and_then (λ (x : Answer). x.device) a) (device_of (facts_of inputs) r)) hears
+    l3_device_hearing : l3_device_of (facts_of now) r ≡ l3_device_by (facts_of inputs) r answer
+    l3_device_hearing = ap (λ (a : Option Answer). device_or_own (option_and_then (λ (x : Answer). x.device) a) (device_of (facts_of inputs) r)) hears
 
-    gives_hearing : (layer : Option (List ℕ)) → given_by (facts_of now) r layer ≡ given_hearing (facts_of inputs) r answer layer
+    gives_hearing : (l3_device : Option (List ℕ)) → given_by (facts_of now) r l3_device ≡ given_hearing (facts_of inputs) r answer l3_device
     gives_hearing None = refl
     gives_hearing (Some dev) = ap (λ (a : Option Answer). cond {A = List Object} (is_static r.proto) (of_options r dev) (of_answer dev a) ++ of_sections (facts_of inputs) r dev) hears
 
-    pub places_hearing : (gs : Gifts) → HavePlaces gs (given_hearing (facts_of inputs) r answer (layer_by (facts_of inputs) r answer)) → HavePlaces gs (given_by (facts_of now) r (layer_of (facts_of now) r))
-    places_hearing gs has = subst (HavePlaces gs) (sym (ap (given_by (facts_of now) r) layer_hearing ∙ gives_hearing (layer_by (facts_of inputs) r answer))) has
+    pub places_hearing : (gs : Gifts) → HavePlaces gs (given_hearing (facts_of inputs) r answer (l3_device_by (facts_of inputs) r answer)) → HavePlaces gs (given_by (facts_of now) r (l3_device_of (facts_of now) r))
+    places_hearing gs has = subst (HavePlaces gs) (sym (ap (given_by (facts_of now) r) l3_device_hearing ∙ gives_hearing (l3_device_by (facts_of inputs) r answer))) has
 
   -- ---- what one interface gives with the answer is little
 
@@ -272,8 +273,8 @@ module _ (inputs : Inputs) (interface : List ℕ) (number : ℕ) (answer : Answe
         let sum : length (zs ++ ws) ≡ length zs + length ws = length-append zs ws in
         omega (arith, sum, few, rest)
 
-    few_told : (r : InterfaceRow) (layer : Option (List ℕ)) (b : Bool) → bytes_eq r.name interface ≡ b → length (given_by (facts_of inputs) r layer) ≤ 2 ^ 50 → length (given_by (facts_of now) r layer) ≤ 2 ^ 50
-    few_told r layer false is h = subst (λ (os : List Object). length os ≤ 2 ^ 50) (sym (given_same r (other_answer r is) layer)) h
+    few_told : (r : InterfaceRow) (l3_device : Option (List ℕ)) (b : Bool) → bytes_eq r.name interface ≡ b → length (given_by (facts_of inputs) r l3_device) ≤ 2 ^ 50 → length (given_by (facts_of now) r l3_device) ≤ 2 ^ 50
+    few_told r l3_device false is h = subst (λ (os : List Object). length os ≤ 2 ^ 50) (sym (given_same r (other_answer r is) l3_device)) h
     few_told r None true is h = h
     few_told r (Some dev) true is h =
         fewer (is_static r.proto) (of_options r dev) (of_answer dev (answer_of (facts_of inputs) r)) (of_answer dev (answer_of (facts_of now) r)) (of_sections (facts_of inputs) r dev) h
@@ -315,8 +316,8 @@ module _ (inputs : Inputs) (interface : List ℕ) (number : ℕ) (answer : Answe
 
         gives_same : (r : InterfaceRow) (s : InterfaceState) → IsQuiet r s → gives (facts_of now) r s ≡ gives (facts_of inputs) r s
         gives_same r s is_quiet = elim is_quiet as (λ _. gives (facts_of now) r s ≡ gives (facts_of inputs) r s) [
-          | inl down ↦ ap (λ b. cond {A = List Object} b (given_by (facts_of now) r s.layer) []) down ∙ sym (ap (λ b. cond {A = List Object} b (given_by (facts_of inputs) r s.layer) []) down)
-          | inr other ↦ ap (λ os. cond {A = List Object} s.is_up os []) (given_same r (other_answer r other) s.layer)
+          | inl down ↦ ap (λ b. cond {A = List Object} b (given_by (facts_of now) r s.l3_device) []) down ∙ sym (ap (λ b. cond {A = List Object} b (given_by (facts_of inputs) r s.l3_device) []) down)
+          | inr other ↦ ap (λ os. cond {A = List Object} s.is_up os []) (given_same r (other_answer r other) s.l3_device)
         ]
 
         givers_told : (gs : Gifts) → HasGivers (facts_of inputs) inputs.conf.interfaces states.list.items gs → HasGivers (facts_of now) inputs.conf.interfaces states.list.items gs
@@ -325,23 +326,24 @@ module _ (inputs : Inputs) (interface : List ℕ) (number : ℕ) (answer : Answe
             ∙ sym (ap (times_in ob) (gives_agree (λ (e : InterfaceRow × InterfaceState). gives (facts_of now) e.0 e.1) (λ (e : InterfaceRow × InterfaceState). gives (facts_of inputs) e.0 e.1) inputs.conf.interfaces states.list.items
             (λ q r s r_at s_at. gives_same r s (quiet q r s r_at s_at))))
 
-        module _ (gs : Gifts) (answered : (r : InterfaceRow) → slice_get inputs.conf.interfaces place ≡ Some r → HavePlaces gs (given_by (facts_of now) r (layer_of (facts_of now) r))) (room : HasGiftRoom inputs gs) where
+        module _ (gs : Gifts) (answered : (r : InterfaceRow) → slice_get inputs.conf.interfaces place ≡ Some r → HavePlaces gs (given_by (facts_of now) r (l3_device_of (facts_of now) r))) (room : HasGiftRoom inputs gs) where
           places_told : (q : ℕ) (r : InterfaceRow) → slice_get inputs.conf.interfaces q ≡ Some r → is_first inputs.conf.interfaces q r.name ≡ true → needs_no_answer (facts_of now) r ≡ true → (b : Bool) → (q == place) ≡ b
-              → HavePlaces gs (given_by (facts_of now) r (layer_of (facts_of now) r))
+              → HavePlaces gs (given_by (facts_of now) r (l3_device_of (facts_of now) r))
           places_told q r at first needs true is = answered r (ap (slice_get inputs.conf.interfaces) (sym ((Decides-eqb q place).0 is)) ∙ at)
           places_told q r at first needs false is =
               let other : bytes_eq r.name interface ≡ false = other_name q r at first (λ e. let yes = (Decides-eqb q place).1 e in cc (is, yes)) in
               let same : answer_of (facts_of now) r ≡ answer_of (facts_of inputs) r = other_answer r other in
-              subst (HavePlaces gs) (sym (ap (given_by (facts_of now) r) (layer_same r same) ∙ given_same r same (layer_of (facts_of inputs) r))) (room.places q r at first (sym (needs_same r same) ∙ needs))
+              subst (HavePlaces gs) (sym (ap (given_by (facts_of now) r) (l3_device_same r same) ∙ given_same r same (l3_device_of (facts_of inputs) r))) (room.places q r at first (sym (needs_same r same) ∙ needs))
 
           room_told : HasGiftRoom now gs
           room_told = record {
             places = λ q r at first needs. places_told q r at first needs (q == place) refl;
-            few = λ r layer member. few_told r layer (bytes_eq r.name interface) refl (room.few r layer member);
+            few = λ r l3_device member. few_told r l3_device (bytes_eq r.name interface) refl (room.few r l3_device member);
             rows = room.rows;
           }
 
-        pub counted_told : (c : Course) → ((r : InterfaceRow) → slice_get inputs.conf.interfaces place ≡ Some r → HavePlaces c.gifts (given_by (facts_of now) r (layer_of (facts_of now) r))) → IsCountedBy inputs states.list.items c
+        pub counted_told : (c : SettlingState) → ((r : InterfaceRow) → slice_get inputs.conf.interfaces place ≡ Some r → HavePlaces c.gifts (given_by (facts_of now) r (l3_device_of (facts_of now) r)))
+            → IsCountedBy inputs states.list.items c
             → IsCountedBy now states.list.items c
         counted_told c answered counted = record {
           agrees = record {

@@ -15,24 +15,24 @@ use Rattle.graph_rules.specs.After.{with_names}
 use Rattle.graph_wishes.specs.Wishes.{May, mays}
 use Rattle.graph_tables.specs.Whole.{IsWhole}
 use Rattle.graph_laws.specs.Links.{HoldsLinksOfRows}
-use Rattle.graph_laws.proofs.FallLemmas.{links_stay}
+use Rattle.graph_laws.proofs.LostLinkLemmas.{links_stay}
 use Rattle.given_objects.specs.Gifts as gift
 use Rattle.given_objects.specs.Gifts.{Gifts, AreGifts, has_place, givers_of}
-use Rattle.state_asks.specs.Course.{Course, held_of, IsReady}
-use Rattle.state_asks.specs.Leaving.{all_looked_at}
-use Rattle.course_laws.specs.Beside.{IsCourseOf, HoldsLower, AreQuiet}
-use Rattle.course_laws.proofs.CountedLemmas.{counted_beside}
-use Rattle.course_laws.proofs.CourseLemmas.{looked_ready, quiet_ready}
-use Rattle.state_asks.specs.Claiming.{HasClaims, DiffersInClaims}
+use Rattle.state_requests.specs.SettlingState.{SettlingState, held_of, IsReady}
+use Rattle.state_requests.specs.Leaving.{all_looked_at}
+use Rattle.settling_laws.specs.Beside.{IsSettlingStateOf, HoldsLower, AreQuiet}
+use Rattle.settling_laws.proofs.CountedLemmas.{counted_beside}
+use Rattle.settling_laws.proofs.SettlingStateLemmas.{looked_ready, quiet_ready}
+use Rattle.state_requests.specs.Claiming.{HasClaims, DiffersInClaims}
 use Rattle.net_rules.specs.declared.state.InterfaceState.{InterfaceState}
 use Rattle.net_gifts.proofs.BareLemmas.{held_stays}
-use Rattle.state_asks.specs.States.{States}
-use Rattle.state_asks.specs.Kept.{AreStatesOf}
-use Rattle.state_asks.specs.Counted.{AgreesWith, IsCountedBy, DiffersInCounts}
+use Rattle.state_requests.specs.States.{States}
+use Rattle.state_requests.specs.Kept.{AreStatesOf}
+use Rattle.state_requests.specs.Counted.{AgreesWith, IsCountedBy, DiffersInCounts}
 use Rattle.net_follow.specs.InStep.{IsCalm}
 use Rattle.net_follow.proofs.GiftLemmas.{looked_places, looked_givers, looked_held, quiet_counts}
 
-pub calm_of_ready : (c : Course) → IsReady c → IsCalm c
+pub calm_of_ready : (c : SettlingState) → IsReady c → IsCalm c
 calm_of_ready c ready = record { lower = ready.lower; links = ready.links; quiet = ready.quiet }
 
 -- ---- where counts alone differ
@@ -51,55 +51,55 @@ links_counts s t stays holds =
     subst (λ (k : Known). (name : List ℕ) (kind : LinkKind) → Has t.held (object.Link name kind) → Contains (map (λ (m : May). m.object) (mays k)) (object.Link name kind))
     (known_with s.known t.known stays.rows stays.vlans stays.radio) there
 
-pub calm_counts : (before now : Course) → DiffersInCounts before now → IsCalm before → IsCalm now
+pub calm_counts : (before now : SettlingState) → DiffersInCounts before now → IsCalm before → IsCalm now
 calm_counts before now stays calm = record {
   lower = λ o has. calm.lower o (subst (λ (held : Objects). Has held o) stays.graph.held has);
-  links = λ off. links_counts before.graph now.graph stays.graph (calm.links (sym stays.may_fall ∙ off));
-  quiet = λ off. quiet_counts before.gifts now.gifts stays.gifts (calm.quiet (sym stays.may_fall ∙ off));
+  links = λ off. links_counts before.graph now.graph stays.graph (calm.links (sym stays.may_lose_link ∙ off));
+  quiet = λ off. quiet_counts before.gifts now.gifts stays.gifts (calm.quiet (sym stays.may_lose_link ∙ off));
 }
 
-pub held_counts : (before now : Course) → DiffersInCounts before now → held_of now ≡ held_of before
+pub held_counts : (before now : SettlingState) → DiffersInCounts before now → held_of now ≡ held_of before
 held_counts before now stays =
     ap (λ (held : Objects). set.union held (gift.held_of now.gifts)) stays.graph.held
     ∙ ap (λ (held : Objects). set.union before.graph.held held) (held_stays before.gifts now.gifts stays.gifts)
 
 -- ---- once it is looked at
 
-module _ (middle now : Course) (graph : now.graph ≡ middle.graph) (may : now.may_fall ≡ middle.may_fall)
-    (looked : middle.may_fall ≡ true → now.gifts ≡ all_looked_at middle.graph middle.gifts) (quiet : middle.may_fall ≡ false → now.gifts ≡ middle.gifts) where
-  gifts_held : (b : Bool) → middle.may_fall ≡ b → gift.held_of now.gifts ≡ gift.held_of middle.gifts
+module _ (middle now : SettlingState) (graph : now.graph ≡ middle.graph) (may : now.may_lose_link ≡ middle.may_lose_link)
+    (looked : middle.may_lose_link ≡ true → now.gifts ≡ all_looked_at middle.graph middle.gifts) (quiet : middle.may_lose_link ≡ false → now.gifts ≡ middle.gifts) where
+  gifts_held : (b : Bool) → middle.may_lose_link ≡ b → gift.held_of now.gifts ≡ gift.held_of middle.gifts
   gifts_held true is = ap gift.held_of (looked is) ∙ looked_held middle.graph middle.gifts
   gifts_held false is = ap gift.held_of (quiet is)
 
-  givers_looked : (b : Bool) → middle.may_fall ≡ b → (o : Object) → givers_of now.gifts o ≡ givers_of middle.gifts o
+  givers_looked : (b : Bool) → middle.may_lose_link ≡ b → (o : Object) → givers_of now.gifts o ≡ givers_of middle.gifts o
   givers_looked true is o = ap (λ (gs : Gifts). givers_of gs o) (looked is) ∙ looked_givers middle.graph middle.gifts o
   givers_looked false is o = ap (λ (gs : Gifts). givers_of gs o) (quiet is)
 
-  places_looked : (b : Bool) → middle.may_fall ≡ b → (o : Object) → has_place now.gifts o ≡ has_place middle.gifts o
+  places_looked : (b : Bool) → middle.may_lose_link ≡ b → (o : Object) → has_place now.gifts o ≡ has_place middle.gifts o
   places_looked true is o = ap (λ (gs : Gifts). has_place gs o) (looked is) ∙ looked_places middle.graph middle.gifts o
   places_looked false is o = ap (λ (gs : Gifts). has_place gs o) (quiet is)
 
   pub held_looked : held_of now ≡ held_of middle
   held_looked =
       ap (λ (s : State). set.union s.held (gift.held_of now.gifts)) graph
-      ∙ ap (λ (held : Objects). set.union middle.graph.held held) (gifts_held middle.may_fall refl)
+      ∙ ap (λ (held : Objects). set.union middle.graph.held held) (gifts_held middle.may_lose_link refl)
 
   pub counted_looked : (inputs : Inputs) (list : List InterfaceState) → IsCountedBy inputs list middle → IsCountedBy inputs list now
   counted_looked inputs list counted = record {
     agrees = subst (λ (s : State). AgreesWith inputs s.known) (sym graph) counted.agrees;
     counted = record {
       claims = subst (λ (s : State). HasClaims list s.known) (sym graph) counted.counted.claims;
-      givers = λ o. givers_looked middle.may_fall refl o ∙ counted.counted.givers o;
+      givers = λ o. givers_looked middle.may_lose_link refl o ∙ counted.counted.givers o;
     };
     room = record {
-      places = λ place row at first needs o given. places_looked middle.may_fall refl o ∙ counted.room.places place row at first needs o given;
+      places = λ place row at first needs o given. places_looked middle.may_lose_link refl o ∙ counted.room.places place row at first needs o given;
       few = counted.room.few;
       rows = counted.room.rows;
     };
   }
 
   module _ (inputs : Inputs) (calm : IsCalm middle) (whole : IsWhole now.graph.known) (are : AreGifts now.gifts) (history : IsHistory (record { inputs = inputs; held = held_of now })) where
-    ready_by : IsCourseOf inputs now → (b : Bool) → middle.may_fall ≡ b → IsReady now
+    ready_by : IsSettlingStateOf inputs now → (b : Bool) → middle.may_lose_link ≡ b → IsReady now
     ready_by beside true is =
         looked_ready inputs now history beside are (subst HoldsLower (sym graph) calm.lower) (may ∙ is) middle.gifts
         (looked is ∙ ap (λ (s : State). all_looked_at s middle.gifts) (sym graph))
@@ -108,4 +108,4 @@ module _ (middle now : Course) (graph : now.graph ≡ middle.graph) (may : now.m
 
     pub ready_looked : (states : States) → AreStatesOf inputs states → IsCountedBy inputs states.list.items now → IsReady now
     ready_looked states are_of counted =
-        ready_by (counted_beside inputs states.list.items now whole.names counted.agrees.below are_of.are counted.counted.claims counted.counted.givers) middle.may_fall refl
+        ready_by (counted_beside inputs states.list.items now whole.names counted.agrees.below are_of.are counted.counted.claims counted.counted.givers) middle.may_lose_link refl

@@ -10,7 +10,7 @@ use Rattle.net_rules.specs.Inputs.{facts_of}
 use Rattle.net_rules.specs.Numbers.{AreRising}
 use Rattle.net_rules.specs.After.{devices_after, changed}
 use Rattle.net_rules.specs.Reach as apart
-use Rattle.state_asks.specs.Course.{Course}
+use Rattle.state_requests.specs.SettlingState.{SettlingState}
 use Rattle.known_inputs.specs.Steps as steps
 use Rattle.net_rules.specs.declared.state.InterfaceState.{InterfaceState}
 use Rattle.net_rules.specs.States.{is_first, IsStateAs}
@@ -19,9 +19,9 @@ use Rattle.net_reach.specs.Reach.{IsReachOf, AreTouched}
 use Rattle.asked_places.proofs.OrderLemmas.{rising_below}
 use Rattle.touch_laws.proofs.DeviceLemmas.{same_walk}
 use Rattle.touch_laws.proofs.StateLemmas.{behind_device}
-use Rattle.state_asks.specs.States.{States}
-use Rattle.state_asks.specs.Kept.{AreStatesOf, FollowBut}
-use Rattle.state_asks.specs.Counted.{IsCountedBy}
+use Rattle.state_requests.specs.States.{States}
+use Rattle.state_requests.specs.Kept.{AreStatesOf, FollowBut}
+use Rattle.state_requests.specs.Counted.{IsCountedBy}
 use Rattle.net_follow.specs.InStep.{IsCalm}
 use Rattle.net_follow.proofs.CountLemmas.{tied_other}
 use Rattle.net_follow.proofs.KeptLemmas.{Moves, has_member, within_of, rising_few}
@@ -55,14 +55,14 @@ module _ (inputs : Inputs) (what : DevEvent) (places : List ℕ) where
         let outside : Contains places q → ⊥ = λ member. let among = has_member places q member in cc (among, apart_from) in
         state_by q row st at outside (is_first inputs.conf.interfaces q row.name) refl (each q row st at here)
 
-    pub device_moves : (states : States) (reach : Reach) (c : Course) → AreStatesOf inputs states → IsReachOf now reach → IsCountedBy now states.list.items c → IsCalm c → inputs.next + 1024 ≤ 2 ^ 63
+    pub device_moves : (states : States) (reach : Reach) (c : SettlingState) → AreStatesOf inputs states → IsReachOf now reach → IsCountedBy now states.list.items c → IsCalm c → inputs.next + 1024 ≤ 2 ^ 63
         → Moves now places (record states { reach = reach }) c
     device_moves states reach c states_are reaches counted calm next =
         let few : length places ≤ length inputs.conf.interfaces = rising_few (length inputs.conf.interfaces) places rising in
         let rows : length inputs.conf.interfaces ≤ 1024 = counted.room.rows in
         record {
           rising = rising;
-          tied = tied_other inputs (devices_after inputs.devices what) inputs.commands states reach reaches states_are.tied;
+          tied = tied_other inputs (devices_after inputs.devices what) inputs.operator_states states reach reaches states_are.tied;
           follow = follow_but states.list.items states_are.are.each;
           counted = counted;
           calm = calm;

@@ -9,8 +9,8 @@ use Rattle.kern_model.proofs.MemberLemmas.{map_member, member_of_map}
 use Rattle.graph_rules.specs.State.{State}
 use Rattle.given_objects.specs.declared.gift.Gift.{Gift}
 use Rattle.given_objects.specs.Gifts.{Gifts, is_of, gift_of, has_place, givers_of, held_of}
-use Rattle.state_asks.specs.Leaving.{looked_at, all_looked_at, is_left, left_gift, left_gifts}
-use Rattle.course_laws.specs.Beside.{AreQuiet}
+use Rattle.state_requests.specs.Leaving.{looked_at, all_looked_at, is_left, left_gift, left_gifts}
+use Rattle.settling_laws.specs.Beside.{AreQuiet}
 use Rattle.net_gifts.specs.Giving.{without_givers, DiffersInGivers}
 
 -- a change that leaves the object of each gift, and how often it is given
@@ -63,14 +63,14 @@ looked_held s gs = ap set_of (looked_objects s gs)
 left_object : (s : State) (g : Gift) → (left_gift s g).object ≡ g.object
 left_object s g = by (is_left s g)
   where
-    by : (b : Bool) → (if b then record g { held = false; falls = false } else g).object ≡ g.object
+    by : (b : Bool) → (if b then record g { held = false; loses_link = false } else g).object ≡ g.object
     by true = refl
     by false = refl
 
 left_given : (s : State) (g : Gift) → (left_gift s g).givers ≡ g.givers
 left_given s g = by (is_left s g)
   where
-    by : (b : Bool) → (if b then record g { held = false; falls = false } else g).givers ≡ g.givers
+    by : (b : Bool) → (if b then record g { held = false; loses_link = false } else g).givers ≡ g.givers
     by true = refl
     by false = refl
 
@@ -86,4 +86,4 @@ pub quiet_counts : (before now : Gifts) → DiffersInGivers before now → AreQu
 quiet_counts before now same quiet g member held =
     let bare = subst (λ (gs : Gifts). Contains gs (without_givers g)) same (map_member without_givers now g member) in
     let from = member_of_map without_givers before (without_givers g) bare in
-    sym (ap (λ (x : Gift). x.falls) from.same) ∙ quiet from.source from.member (ap (λ (x : Gift). x.held) from.same ∙ held)
+    sym (ap (λ (x : Gift). x.loses_link) from.same) ∙ quiet from.source from.member (ap (λ (x : Gift). x.held) from.same ∙ held)

@@ -19,13 +19,13 @@ use Rattle.graph_counts.proofs.AnswerLemmas.{device_spelled}
 use Rattle.graph_laws.specs.Below.{AgreesBelow}
 use Rattle.graph_laws.specs.Knowing.{KnowsRows}
 use Rattle.graph_laws.specs.Links.{HoldsLinksOfRows}
-use Rattle.graph_laws.proofs.FallLemmas.{links_stay}
-use Rattle.state_asks.specs.Course.{Course, IsReady}
-use Rattle.state_asks.specs.Leaving.{left_gifts}
-use Rattle.course_laws.specs.Beside.{HoldsLower, AreQuiet}
-use Rattle.course_laws.proofs.DeviceLemmas.{at_place}
-use Rattle.course_laws.proofs.QuietLemmas.{quiet_left}
-use Rattle.state_asks.specs.Claiming.{HasClaims}
+use Rattle.graph_laws.proofs.LostLinkLemmas.{links_stay}
+use Rattle.state_requests.specs.SettlingState.{SettlingState, IsReady}
+use Rattle.state_requests.specs.Leaving.{left_gifts}
+use Rattle.settling_laws.specs.Beside.{HoldsLower, AreQuiet}
+use Rattle.settling_laws.proofs.DeviceLemmas.{at_place}
+use Rattle.settling_laws.proofs.QuietLemmas.{quiet_left}
+use Rattle.state_requests.specs.Claiming.{HasClaims}
 use Rattle.net_rules.specs.declared.state.InterfaceState.{InterfaceState}
 use Rattle.net_rules.proofs.MoveLemmas.{some_is}
 use Rattle.net_follow.specs.InStep.{IsCalm}
@@ -104,7 +104,7 @@ module _ (s : State) (id : ℕ) (d : Option Device) where
   links_told held within holds = links_stay s (with_device s.known.names id d) held holds (λ name member. subst (λ (names : List (List ℕ)). Contains names name) (sym (device_spelled s.known.names id d)) member) within
 
 -- another device leaves all calm
-pub calm_told : (c : Course) (id : ℕ) (d : Option Device) → IsReady c → IsCalm (record c { graph = with_names c.graph (with_device c.graph.known.names id d) })
+pub calm_told : (c : SettlingState) (id : ℕ) (d : Option Device) → IsReady c → IsCalm (record c { graph = with_names c.graph (with_device c.graph.known.names id d) })
 calm_told c id d ready = record {
   lower = ready.lower;
   links = λ off. links_told c.graph id d c.graph.held (λ o has. has) (ready.links off);
@@ -112,7 +112,7 @@ calm_told c id d ready = record {
 }
 
 -- so does one that leaves
-pub calm_left : (c now : Course) (id : ℕ) → now.graph ≡ absent_after c.graph id → now.gifts ≡ left_gifts now.graph c.gifts → now.may_fall ≡ c.may_fall → IsReady c → IsCalm now
+pub calm_left : (c now : SettlingState) (id : ℕ) → now.graph ≡ absent_after c.graph id → now.gifts ≡ left_gifts now.graph c.gifts → now.may_lose_link ≡ c.may_lose_link → IsReady c → IsCalm now
 calm_left c now id graph_is gifts may ready =
     let named : Named = name_at c.graph.known.names id in
     let within : AreWithin (left_by named.device named.name c.graph.held) c.graph.held = within_left named.device named.name c.graph.held in

@@ -6,16 +6,16 @@ use Rattle.std.proofs.lemmas.Bool.Decides.{Decides-eqb}
 use Rattle.kern_model.proofs.TestLemmas.{of_any}
 use Rattle.net_rules.specs.declared.inputs.Inputs.{Inputs}
 use Rattle.net_rules.specs.Numbers.{AreRising}
-use Rattle.state_asks.specs.Course.{Course}
+use Rattle.state_requests.specs.SettlingState.{SettlingState}
 use Rattle.asked_places.specs.Touched.{has}
-use Rattle.state_asks.specs.States.{States}
-use Rattle.state_asks.specs.Kept.{IsTied, FollowBut}
-use Rattle.state_asks.specs.Counted.{IsCountedBy}
+use Rattle.state_requests.specs.States.{States}
+use Rattle.state_requests.specs.Kept.{IsTied, FollowBut}
+use Rattle.state_requests.specs.Counted.{IsCountedBy}
 use Rattle.net_follow.specs.declared.follower.Follower.{Follower}
 use Rattle.net_follow.specs.InStep.{inputs_of, HasRoom, IsCalm, IsMoving}
 
 -- the parts of what moves
-pub record Moves (inputs : Inputs) (places : List ℕ) (states : States) (c : Course) : Type 0 where
+pub record Moves (inputs : Inputs) (places : List ℕ) (states : States) (c : SettlingState) : Type 0 where
   pub rising : AreRising 0 (length inputs.conf.interfaces) places
   pub tied : IsTied inputs states
   pub follow : FollowBut inputs places states.list.items

@@ -3,7 +3,7 @@ pub mod CalmLemmas
 pub mod CountLemmas
 pub mod KeptLemmas
 pub mod StepLemmas
-pub mod CommandLemmas
+pub mod OperatorStateLemmas
 pub mod RoomLemmas
 pub mod PlaceLemmas
 pub mod GraphLemmas
@@ -14,11 +14,11 @@ pub mod AnsweredLemmas
 pub mod MoreLemmas
 pub mod AwaitLemmas
 -- what is kept of interfaces, as its crate tells it
-pub use Rattle.state_asks.proofs.PlaceLemmas as StatePlaceLemmas
-pub use Rattle.state_asks.proofs.StateCountLemmas
+pub use Rattle.state_requests.proofs.PlaceLemmas as StatePlaceLemmas
+pub use Rattle.state_requests.proofs.StateCountLemmas
 -- graphs with gifts beside inputs, as their crates tell them
-pub use Rattle.course_laws.proofs.CountedLemmas
-pub use Rattle.course_laws.proofs.CourseLemmas
-pub use Rattle.course_laws.proofs.FurtherLemmas
-pub use Rattle.course_laws.proofs.LentLemmas
-pub use Rattle.course_laws.proofs.LoadLemmas as CourseLoadLemmas
+pub use Rattle.settling_laws.proofs.CountedLemmas
+pub use Rattle.settling_laws.proofs.SettlingStateLemmas
+pub use Rattle.settling_laws.proofs.FurtherLemmas
+pub use Rattle.settling_laws.proofs.LentLemmas
+pub use Rattle.settling_laws.proofs.LoadLemmas as SettlingStateLoadLemmas

@@ -20,12 +20,12 @@ use Rattle.net_wants.proofs.GroupLemmas.{items_are}
 use Rattle.given_objects.specs.declared.gift.Gift.{Gift}
 use Rattle.given_objects.specs.Gifts.{Gifts}
 use Rattle.graph_rules.specs.Wanted.{want_in}
-use Rattle.state_asks.specs.Course.{Course, held_of, wanted_of, devices_of, IsReady}
+use Rattle.state_requests.specs.SettlingState.{SettlingState, held_of, wanted_of, devices_of, IsReady}
 use Rattle.gift_places.specs.Expecting.{listed_given, with_places, HasMorePlaces}
 use Rattle.gift_places.proofs.LawLemmas.{same_held, same_given, same_givers, still_place, all_places, all_old_or_empty}
 use Rattle.net_rules.specs.declared.state.InterfaceState.{InterfaceState}
 use Rattle.net_gifts.specs.Giving.{HavePlaces}
-use Rattle.state_asks.specs.Counted.{IsCountedBy}
+use Rattle.state_requests.specs.Counted.{IsCountedBy}
 use Rattle.net_follow.specs.declared.follower.Follower.{Follower}
 use Rattle.net_follow.specs.InStep.{inputs_of, IsInStep}
 use Rattle.net_follow.specs.Answering.{heard, given_hearing}
@@ -34,9 +34,9 @@ use Rattle.net_follow.proofs.StepLemmas.{moment_of}
 
 -- ---- more places below what is ready
 
-module _ (c : Course) (os : List Object) where
-  abbrev pub with_more : Course
-  with_more = record { graph = c.graph; gifts = with_places c.gifts os; may_fall = c.may_fall }
+module _ (c : SettlingState) (os : List Object) where
+  abbrev pub with_more : SettlingState
+  with_more = record { graph = c.graph; gifts = with_places c.gifts os; may_lose_link = c.may_lose_link }
 
   pub held_more : held_of with_more ≡ held_of c
   held_more = ap (λ (held : Objects). set.union c.graph.held held) (same_held c.gifts os)
@@ -56,7 +56,7 @@ module _ (c : Course) (os : List Object) where
     held = subst (AreAllowed (devices_of c)) (sym held_more) ready.held;
     wanted = subst (AreAllowed (devices_of c)) (sym wanted_more) ready.wanted;
     lower = ready.lower;
-    falls = λ g member held given. ready.falls g (was_there g member held) held given;
+    loses_link = λ g member held given. ready.loses_link g (was_there g member held) held given;
     links = ready.links;
     quiet = λ off g member held. ready.quiet off g (was_there g member held) held;
   }
@@ -94,14 +94,14 @@ module _ (f : Follower) (gs : Gifts) (more : HasMorePlaces f.settling.gifts gs) 
 -- ---- what is expected of an answer
 
 -- nothing where there is no device
-pub none_given : (facts : Facts) (row : InterfaceRow) (answer : Answer) (gs : Gifts) (layer : Option (List ℕ)) → layer ≡ None → HavePlaces gs (given_hearing facts row answer layer)
-none_given facts row answer gs layer none = subst (λ (l : Option (List ℕ)). HavePlaces gs (given_hearing facts row answer l)) (sym none) (λ o member. absurd (none_in_nil o member))
+pub none_given : (facts : Facts) (row : InterfaceRow) (answer : Answer) (gs : Gifts) (l3_device : Option (List ℕ)) → l3_device ≡ None → HavePlaces gs (given_hearing facts row answer l3_device)
+none_given facts row answer gs l3_device none = subst (λ (l : Option (List ℕ)). HavePlaces gs (given_hearing facts row answer l)) (sym none) (λ o member. absurd (none_in_nil o member))
 
 -- else what is listed
-pub all_given : (facts : Facts) (row : InterfaceRow) (answer : Answer) (before gs : Gifts) (layer : Option (List ℕ)) (dev : List ℕ) (told : Option Answer) (places : List ℕ) → layer ≡ Some dev → told ≡ heard row answer
+pub all_given : (facts : Facts) (row : InterfaceRow) (answer : Answer) (before gs : Gifts) (l3_device : Option (List ℕ)) (dev : List ℕ) (told : Option Answer) (places : List ℕ) → l3_device ≡ Some dev → told ≡ heard row answer
     → map (slice_get facts.conf.routes) places ≡ map Some (filter (is_route_named facts.conf row.name) facts.conf.routes) → gs ≡ with_places before (listed_given row told facts.conf.routes places dev)
-    → HavePlaces gs (given_hearing facts row answer layer)
-all_given facts row answer before gs layer dev told places at hears routes is =
+    → HavePlaces gs (given_hearing facts row answer l3_device)
+all_given facts row answer before gs l3_device dev told places at hears routes is =
     let listed : filter_map (slice_get facts.conf.routes) places ≡ filter (is_route_named facts.conf row.name) facts.conf.routes = items_are facts.conf.routes places (filter (is_route_named facts.conf row.name) facts.conf.routes) routes in
     let same : listed_given row told facts.conf.routes places dev ≡ given_hearing facts row answer (Some dev) =
     ap (λ (a : Option Answer). cond {A = List Object} (is_static row.proto) (of_options row dev) (of_answer dev a) ++ map (route_on dev) (filter_map (slice_get facts.conf.routes) places)) hears

@@ -9,10 +9,10 @@ use Rattle.net_rules.specs.Notices.{notices}
 use Rattle.net_rules.specs.Touched.{asked_of}
 use Rattle.touch_laws.specs.Staying.{told_of, FollowTouched}
 use Rattle.known_inputs.specs.Known.{Known}
-use Rattle.state_asks.specs.Course.{held_of, IsReady}
+use Rattle.state_requests.specs.SettlingState.{held_of, IsReady}
 use Rattle.asked_places.specs.Touched.{is_touched}
-use Rattle.state_asks.specs.Kept.{AreStatesOf}
-use Rattle.state_asks.specs.Counted.{IsCountedBy}
+use Rattle.state_requests.specs.Kept.{AreStatesOf}
+use Rattle.state_requests.specs.Counted.{IsCountedBy}
 use Rattle.net_follow.specs.declared.follower.Follower.{Follower}
 use Rattle.net_follow.specs.InStep.{inputs_of, touched_by, HasRoom, IsInStep, HasFollowed}
 

@@ -16,14 +16,14 @@ use Rattle.graph_rules.specs.After.{name_at, with_device, with_names, left_by, p
 use Rattle.graph_laws.specs.Below.{AgreesBelow}
 use Rattle.given_objects.specs.Gifts as gift
 use Rattle.given_objects.specs.Gifts.{Gifts}
-use Rattle.state_asks.specs.Course.{Course, held_of, IsReady}
-use Rattle.state_asks.specs.Leaving.{left_gifts}
-use Rattle.course_laws.proofs.DeviceLemmas.{comes_below, leaves_below, carrier_below}
-use Rattle.state_asks.specs.Claiming.{HasClaims}
+use Rattle.state_requests.specs.SettlingState.{SettlingState, held_of, IsReady}
+use Rattle.state_requests.specs.Leaving.{left_gifts}
+use Rattle.settling_laws.proofs.DeviceLemmas.{comes_below, leaves_below, carrier_below}
+use Rattle.state_requests.specs.Claiming.{HasClaims}
 use Rattle.known_inputs.specs.Steps.{name_of}
 use Rattle.net_rules.specs.declared.state.InterfaceState.{InterfaceState}
 use Rattle.net_gifts.specs.Giving.{HasGivers}
-use Rattle.state_asks.specs.Counted.{AgreesWith, HasGiftRoom, IsCountedBy}
+use Rattle.state_requests.specs.Counted.{AgreesWith, HasGiftRoom, IsCountedBy}
 use Rattle.net_follow.specs.InStep.{IsCalm}
 use Rattle.net_follow.proofs.GiftLemmas.{left_places, left_givers}
 use Rattle.net_follow.proofs.CountLemmas.{counted_other}
@@ -33,18 +33,18 @@ use Rattle.net_follow.proofs.StepLemmas.{moment_of}
 
 -- ---- a device that is there, or is told of its carrier
 
-module _ (c : Course) (id : ℕ) (d : Option Device) (now : State) (is : now ≡ with_names c.graph (with_device c.graph.known.names id d)) where
+module _ (c : SettlingState) (id : ℕ) (d : Option Device) (now : State) (is : now ≡ with_names c.graph (with_device c.graph.known.names id d)) where
   abbrev told : State
   told = with_names c.graph (with_device c.graph.known.names id d)
 
-  abbrev then : State → Course
-  then s = record { graph = s; gifts = c.gifts; may_fall = c.may_fall }
+  abbrev then : State → SettlingState
+  then s = record { graph = s; gifts = c.gifts; may_lose_link = c.may_lose_link }
 
   pub told_counted : (what : DevEvent) → ((inputs : Inputs) → AgreesBelow (facts_of inputs) c.graph.known → AgreesBelow (facts_of (changed inputs (event.Device what))) told.known) → (inputs : Inputs) (list : List InterfaceState)
       → IsCountedBy inputs list c → IsCountedBy (changed inputs (event.Device what)) list (then now)
   told_counted what below inputs list counted =
       subst (λ (s : State). IsCountedBy (changed inputs (event.Device what)) list (then s)) (sym is)
-      (counted_other inputs (devices_after inputs.devices what) inputs.commands list (then told)
+      (counted_other inputs (devices_after inputs.devices what) inputs.operator_states list (then told)
       (record { below = below inputs counted.agrees.below; knows = knows_told c.graph id d counted.agrees.knows })
       (claims_told c.graph id d list counted.counted.claims) counted.counted.givers counted.room)
 
@@ -76,15 +76,15 @@ module _ (what : DevEvent) (s : State) (id : ℕ) (place : place_among s.known.n
       (λ at inputs agrees. leaves_below inputs s agrees name id at) place
 
 -- where a device comes, or is told of its carrier, what is held stays
-pub come_held : (c now : Course) (what : DevEvent) (name : List ℕ) (carrier : Bool) (mtu : ℕ) (mac : Mac) → what ≡ device.Add name carrier mtu mac → held_of now ≡ held_of c → held_of now ≡ held_after (held_of c) (event.Device what)
+pub come_held : (c now : SettlingState) (what : DevEvent) (name : List ℕ) (carrier : Bool) (mtu : ℕ) (mac : Mac) → what ≡ device.Add name carrier mtu mac → held_of now ≡ held_of c → held_of now ≡ held_after (held_of c) (event.Device what)
 come_held c now what name carrier mtu mac is same = subst (λ (w : DevEvent). held_of now ≡ held_after (held_of c) (event.Device w)) (sym is) same
 
-pub set_held : (c now : Course) (what : DevEvent) (name : List ℕ) (on : Bool) → what ≡ device.Carrier name on → held_of now ≡ held_of c → held_of now ≡ held_after (held_of c) (event.Device what)
+pub set_held : (c now : SettlingState) (what : DevEvent) (name : List ℕ) (on : Bool) → what ≡ device.Carrier name on → held_of now ≡ held_of c → held_of now ≡ held_after (held_of c) (event.Device what)
 set_held c now what name on is same = subst (λ (w : DevEvent). held_of now ≡ held_after (held_of c) (event.Device w)) (sym is) same
 
 -- ---- a device that leaves
 
-module _ (c now : Course) (id : ℕ) (what : DevEvent) (name : List ℕ) (is : what ≡ device.Remove name) (place : place_among c.graph.known.names (name_of what) ≡ Some id)
+module _ (c now : SettlingState) (id : ℕ) (what : DevEvent) (name : List ℕ) (is : what ≡ device.Remove name) (place : place_among c.graph.known.names (name_of what) ≡ Some id)
     (graph_is : now.graph ≡ absent_after c.graph id) (gifts : now.gifts ≡ left_gifts now.graph c.gifts) where
   pub gone_counted : (inputs : Inputs) (list : List InterfaceState) → IsCountedBy inputs list c → IsCountedBy (changed inputs (event.Device what)) list now
   gone_counted inputs list counted =
@@ -98,7 +98,7 @@ module _ (c now : Course) (id : ℕ) (what : DevEvent) (name : List ℕ) (is : w
         few = counted.room.few;
         rows = counted.room.rows;
       }) in
-      counted_other inputs (devices_after inputs.devices what) inputs.commands list now agrees claims givers room
+      counted_other inputs (devices_after inputs.devices what) inputs.operator_states list now agrees claims givers room
 
   pub gone_held : let named = name_at c.graph.known.names id in held_of now ≡ left_by named.device named.name (held_of c) → (inputs : Inputs) → AgreesBelow (facts_of inputs) c.graph.known
       → refusal (moment_of inputs (held_of c)) (event.Device what) ≡ None → held_of now ≡ held_after (held_of c) (event.Device what)
@@ -106,5 +106,5 @@ module _ (c now : Course) (id : ℕ) (what : DevEvent) (name : List ℕ) (is : w
       subst (λ (w : DevEvent). place_among c.graph.known.names (name_of w) ≡ Some id → refusal (moment_of inputs (held_of c)) (event.Device w) ≡ None → held_of now ≡ held_after (held_of c) (event.Device w)) (sym is)
       (λ at none. held ∙ held_left inputs c.graph.known name id (held_of c) below at (was_present inputs (held_of c) name none)) place free
 
-  pub gone_calm : now.may_fall ≡ c.may_fall → IsReady c → IsCalm now
+  pub gone_calm : now.may_lose_link ≡ c.may_lose_link → IsReady c → IsCalm now
   gone_calm may ready = calm_left c now id graph_is gifts may ready

@@ -8,7 +8,7 @@ use Rattle.net_rules.specs.declared.event.Event.TheVariants as event
 use Rattle.net_rules.specs.Rows.{asks_nothing, is_static}
 use Rattle.net_rules.specs.RadioPorts.{device_of}
 use Rattle.net_rules.specs.Inputs.{facts_of}
-use Rattle.net_rules.specs.Interfaces.{device_or_own, layer_of}
+use Rattle.net_rules.specs.Interfaces.{device_or_own, l3_device_of}
 use Rattle.net_rules.specs.Want.{of_options, of_answer, of_sections, given_by}
 use Rattle.net_rules.specs.Facts.{Facts}
 use Rattle.net_rules.specs.After.{changed}
@@ -22,8 +22,8 @@ abbrev pub heard : InterfaceRow → Answer → Option Answer
 heard row answer = if asks_nothing row.proto then None else Some answer
 
 -- its layer-3 device then
-abbrev pub layer_by : Facts → InterfaceRow → Answer → Option (List ℕ)
-layer_by facts row answer =
+abbrev pub l3_device_by : Facts → InterfaceRow → Answer → Option (List ℕ)
+l3_device_by facts row answer =
     device_or_own (option_and_then (λ a. a.device) (heard row answer)) (device_of facts row)
 
 -- what it gives then, on that device
@@ -42,5 +42,5 @@ facts_answered f interface number answer =
 -- its layer-3 device.
 pub record HasAnswerRoom (f : Follower) (row : InterfaceRow) (number : ℕ) (answer : Answer) : Type 0 where
   pub places : let facts = facts_answered f row.name number answer in
-      HavePlaces f.settling.gifts (given_by facts row (layer_of facts row))
-  pub layer : IfSome answer.device (HasRoomAt f.states.reach.at_layer)
+      HavePlaces f.settling.gifts (given_by facts row (l3_device_of facts row))
+  pub l3_device : IfSome answer.device (HasRoomAt f.states.reach.at_l3_device)

@@ -8,18 +8,18 @@ use Rattle.net_rules.specs.Moment.{held_after, IsHistory}
 use Rattle.net_rules.specs.Notices.{notices}
 use Rattle.net_rules.specs.Numbers.{AreRising}
 use Rattle.graph_laws.specs.Links.{HoldsLinksOfRows}
-use Rattle.state_asks.specs.Course.{Course, held_of, IsReady}
-use Rattle.course_laws.specs.Beside.{HoldsLower, AreQuiet}
+use Rattle.state_requests.specs.SettlingState.{SettlingState, held_of, IsReady}
+use Rattle.settling_laws.specs.Beside.{HoldsLower, AreQuiet}
 use Rattle.asked_places.specs.Touched.{is_touched}
-use Rattle.state_asks.specs.Kept.{IsTied, AreStatesOf, FollowBut}
-use Rattle.state_asks.specs.Counted.{IsCountedBy}
+use Rattle.state_requests.specs.Kept.{IsTied, AreStatesOf, FollowBut}
+use Rattle.state_requests.specs.Counted.{IsCountedBy}
 use Rattle.net_follow.specs.declared.follower.Follower.{Follower}
 
 -- the inputs of the network
 abbrev pub inputs_of : Follower → Inputs
 inputs_of f = f.inputs.inputs
 
--- There is room for the places of all interfaces, and for what one event tells of their asks: each may be lost, and
+-- There is room for the places of all interfaces, and for what one event tells of their requests: each may be lost, and
 -- opened. Routes are few.
 pub record HasRoom (f : Follower) : Type 0 where
   pub touched : length (inputs_of f).conf.interfaces ≤ vec_capacity f.touched
@@ -43,10 +43,10 @@ pub record HasFollowed (event : Event) (before now : Follower) : Type 0 where
   pub loads : now.settling.graph.loads ≡ before.settling.graph.loads
 
 -- what is held is lower in the graph; and where no name may fall, its links are those of its rows, and gifts are quiet
-pub record IsCalm (c : Course) : Type 0 where
+pub record IsCalm (c : SettlingState) : Type 0 where
   pub lower : HoldsLower c.graph
-  pub links : c.may_fall ≡ false → HoldsLinksOfRows c.graph
-  pub quiet : c.may_fall ≡ false → AreQuiet c.gifts
+  pub links : c.may_lose_link ≡ false → HoldsLinksOfRows c.graph
+  pub quiet : c.may_lose_link ≡ false → AreQuiet c.gifts
 
 -- the interfaces that are touched, by name
 abbrev pub touched_by : Follower → List ℕ → Bool

@@ -1,11 +1,11 @@
-//! Answers to the asks of interfaces.
+//! Answers to the requests of interfaces.
 ghost use Rattle.std.specs.Prelude.{◌≡◌, ◌<◌, [], Some, None, slice_get};
 ghost use Rattle.std.specs.Option.{option_and_then};
 ghost use Rattle.net_rows.specs.declared.rows.InterfaceRow.{InterfaceRow};
 ghost use Rattle.net_rules.specs.declared.event.Event.TheVariants as event;
 ghost use Rattle.net_rules.specs.Refusal.{refusal};
-ghost use Rattle.state_asks.specs.Course.{held_of};
-ghost use Rattle.known_inputs.specs.Steps.{ask_of};
+ghost use Rattle.state_requests.specs.SettlingState.{held_of};
+ghost use Rattle.known_inputs.specs.Steps.{request_of};
 ghost use Rattle.net_reach.specs.Reach.{interface_place};
 ghost use Rattle.net_follow.specs.InStep.{inputs_of, IsInStep, HasFollowed};
 ghost use Rattle.net_follow.specs.Answering.{HasAnswerRoom};
@@ -21,7 +21,7 @@ use std::sync::ledger::{Blank, Ledger};
 use use_counts::Steps;
 
 impl Follower {
-    /// The handler of the interface at a place, the first of its name, answers the ask of this
+    /// The handler of the interface at a place, the first of its name, answers the request of this
     /// number. It takes no memory.
     pub fn answer(&mut self, place: usize, interface: &Text, number: u64, answer: Answer)
         requires step { IsInStep self.old }
@@ -68,30 +68,30 @@ impl Follower {
     {
         let mut steps = Steps::<L>::new(blank);
         let _rows = self.inputs.conf();
-        let was = layer_told(&self.inputs, number);
-        let layer = answer.device;
+        let was = l3_device_told(&self.inputs, number);
+        let l3_device = answer.device;
         self.states
             .let_down(place, &self.inputs, &mut self.settling, &mut steps);
         self.inputs.answer(interface, number, answer);
-        self.states.reach.set_layer(place, was, layer);
+        self.states.reach.set_l3_device(place, was, l3_device);
         touch_one(&mut self.touched, place);
         self.states.refresh(&self.touched, &self.inputs, &mut self.settling, &mut steps);
         look(&mut self.settling);
     }
 }
 
-// The layer-3 device that the latest answer to the ask of a number told.
-fn layer_told(inputs: &KnownInputs, number: u64) -> Option<DevName>
+// The layer-3 device that the latest answer to the request of a number told.
+fn l3_device_told(inputs: &KnownInputs, number: u64) -> Option<DevName>
     ensures { result ≡ option_and_then (λ o. option_and_then (λ answer. answer.device) o.answer)
-        (ask_of inputs.now.inputs number) }
+        (request_of inputs.now.inputs number) }
 {
-    match inputs.ask(number) {
-        Some(open) => layer_of(&open.answer),
+    match inputs.request(number) {
+        Some(open) => l3_device_of(&open.answer),
         None => None,
     }
 }
 
-fn layer_of(answer: &Option<Answer>) -> Option<DevName>
+fn l3_device_of(answer: &Option<Answer>) -> Option<DevName>
     ensures { result ≡ option_and_then (λ answer. answer.device) answer.now }
 {
     match answer {

@@ -10,13 +10,13 @@ ghost use Rattle.net_rules.specs.Refusal.{refusal};
 ghost use Rattle.net_rules.specs.declared.state.InterfaceState.{InterfaceState};
 ghost use Rattle.net_gifts.specs.Giving.{HavePlaces};
 ghost use Rattle.gift_places.specs.Expecting.{HasMorePlaces};
-ghost use Rattle.state_asks.specs.Course.{held_of};
+ghost use Rattle.state_requests.specs.SettlingState.{held_of};
 ghost use Rattle.net_reach.specs.Groups.{HasRoomAt};
 ghost use Rattle.net_reach.specs.Reach.{IsReachOf, interface_place};
-ghost use Rattle.state_asks.specs.Kept.{IsTied};
+ghost use Rattle.state_requests.specs.Kept.{IsTied};
 ghost use Rattle.net_follow.specs.InStep.{inputs_of, IsInStep, LooksAs};
 ghost use Rattle.net_follow.specs.Answering as spec;
-ghost use Rattle.net_follow.specs.Answering.{HasAnswerRoom, layer_by, given_hearing};
+ghost use Rattle.net_follow.specs.Answering.{HasAnswerRoom, l3_device_by, given_hearing};
 
 use crate::follower::Follower;
 use gift_places::expect_given;
@@ -28,11 +28,11 @@ use net_rows::InterfaceRow;
 use net_rules::Answer;
 use net_view::asks_nothing;
 use plane_io::{Memory, Text};
-use state_asks::States;
+use state_requests::States;
 use std::alloc::Global;
 
 impl Follower {
-    /// Takes all memory for an answer to the ask of the interface at a place.
+    /// Takes all memory for an answer to the request of the interface at a place.
     ///
     /// # Errors
     ///
@@ -62,7 +62,7 @@ impl Follower {
         let Ok(()) = expect_answer(&self.inputs, &self.states, gifts, place, answer) else {
             return Err(Memory);
         };
-        reserve_layer(alloc, &mut self.states.reach, &answer.device)
+        reserve_l3_device(alloc, &mut self.states.reach, &answer.device)
     }
 }
 
@@ -83,12 +83,12 @@ fn expect_answer(
         → slice_get inputs.now.inputs.conf.interfaces place ≡ Some row
         → OnOk result (HavePlaces gifts.new
         (given_hearing (facts_of inputs.now.inputs) row answer.now
-        (layer_by (facts_of inputs.now.inputs) row answer.now))) }
+        (l3_device_by (facts_of inputs.now.inputs) row answer.now))) }
     ensures more { HasMorePlaces gifts.old gifts.new }
 {
     let conf = inputs.conf();
     let row = &conf.interfaces.as_slice()[place];
-    let Some(dev) = layer_of(row, answer, states.list[place].device) else {
+    let Some(dev) = l3_device_of(row, answer, states.list[place].device) else {
         return Ok(());
     };
     let routes = conf.routes.as_slice();
@@ -108,7 +108,7 @@ fn heard<'a>(row: &InterfaceRow, answer: &'a Answer) -> Option<&'a Answer>
 }
 
 // The layer-3 device of a row with an answer, where it has that device of its own.
-fn layer_of(row: &InterfaceRow, answer: &Answer, own: Option<DevName>) -> Option<DevName>
+fn l3_device_of(row: &InterfaceRow, answer: &Answer, own: Option<DevName>) -> Option<DevName>
     ensures { result ≡ device_or_own
         (option_and_then (λ a. a.device) (spec.heard row.now answer.now)) own }
 {
@@ -122,12 +122,16 @@ fn layer_of(row: &InterfaceRow, answer: &Answer, own: Option<DevName>) -> Option
 }
 
 // Room for one more interface at a layer-3 device, if there is one.
-fn reserve_layer(alloc: Global, reach: &mut Reach, layer: &Option<DevName>) -> Result<(), Memory>
-    ensures room { OnOk result (IfSome layer.now (HasRoomAt reach.new.at_layer)) }
+fn reserve_l3_device(
+    alloc: Global,
+    reach: &mut Reach,
+    l3_device: &Option<DevName>,
+) -> Result<(), Memory>
+    ensures room { OnOk result (IfSome l3_device.now (HasRoomAt reach.new.at_l3_device)) }
     ensures stays { (inputs : Inputs) → IsReachOf inputs reach.old → IsReachOf inputs reach.new }
 {
-    match layer {
-        Some(layer) => reach.reserve_layer(alloc, layer),
+    match l3_device {
+        Some(l3_device) => reach.reserve_l3_device(alloc, l3_device),
         None => Ok(()),
     }
 }

@@ -1,12 +1,13 @@
 use known_inputs::KnownInputs;
 use net_rules::Notice;
-use state_asks::{GraphSettling, States};
+use state_requests::{GraphSettling, States};
 use std::collections::VecDeque;
 
 /// What is kept of a network, in step with its inputs.
 #[derive(Drop)]
 pub struct Follower {
-    /// The rows, the present devices, commands, open asks and the next number, with room.
+    /// The rows, the present devices, operator states, open requests and the next number, with
+    /// room.
     pub inputs: KnownInputs,
     /// What the kernel holds and what is wanted: on devices by the graph, addresses and routes by
     /// the gifts above it.

@@ -6,17 +6,17 @@ ghost use Rattle.net_rules.specs.Touched.{asked_of};
 ghost use Rattle.touch_laws.specs.Staying.{told_of};
 ghost use Rattle.net_rules.specs.declared.state.InterfaceState.{InterfaceState};
 ghost use Rattle.net_reach.specs.Reach.{IsReachOf, AreTouched};
-ghost use Rattle.state_asks.specs.Course.{held_of, IsReady};
-ghost use Rattle.state_asks.specs.Leaving.{all_looked_at};
-ghost use Rattle.state_asks.specs.States.{States};
-ghost use Rattle.state_asks.specs.Kept.{AreStatesOf};
-ghost use Rattle.state_asks.specs.Counted.{IsCountedBy};
+ghost use Rattle.state_requests.specs.SettlingState.{held_of, IsReady};
+ghost use Rattle.state_requests.specs.Leaving.{all_looked_at};
+ghost use Rattle.state_requests.specs.States.{States};
+ghost use Rattle.state_requests.specs.Kept.{AreStatesOf};
+ghost use Rattle.state_requests.specs.Counted.{IsCountedBy};
 ghost use Rattle.net_follow.specs.InStep.{inputs_of, touched_by, HasRoom, IsCalm, IsMoving};
 
 use crate::follower::Follower;
 use kern_model::DevName;
 use net_reach::Reach;
-use state_asks::{GraphSettling, renew};
+use state_requests::{GraphSettling, renew};
 use std::sync::ledger::Ledger;
 use use_counts::Steps;
 
@@ -65,21 +65,21 @@ pub(crate) fn look(settling: &mut GraphSettling)
         → AreStatesOf inputs states → IsCountedBy inputs states.list.items settling.new
         → IsReady settling.new }
 {
-    look_at_falls(settling);
+    view_lost_links(settling);
     settling.graph.is_kept();
     let _count = settling.gifts.len();
 }
 
 // Where a name may fall, each gift is told whether its name does.
-fn look_at_falls(settling: &mut GraphSettling)
+fn view_lost_links(settling: &mut GraphSettling)
     ensures graph { settling.new.graph ≡ settling.old.graph }
-    ensures may_fall { settling.new.may_fall ≡ settling.old.may_fall }
-    ensures looked { settling.old.may_fall ≡ true
+    ensures may_lose_link { settling.new.may_lose_link ≡ settling.old.may_lose_link }
+    ensures looked { settling.old.may_lose_link ≡ true
         → settling.new.gifts ≡ all_looked_at settling.old.graph settling.old.gifts }
-    ensures quiet { settling.old.may_fall ≡ false → settling.new.gifts ≡ settling.old.gifts }
+    ensures quiet { settling.old.may_lose_link ≡ false → settling.new.gifts ≡ settling.old.gifts }
 {
-    if settling.may_fall {
-        settling.look_at_falls();
+    if settling.may_lose_link {
+        settling.view_lost_links();
     }
 }
 

@@ -4,10 +4,10 @@
 
 mod answers;
 mod awaiting;
-mod commands;
 mod devices;
 mod follower;
 mod following;
+mod operator_states;
 
 pub use follower::Follower;
-pub use state_asks::{GraphSettling, States, forget_claims};
+pub use state_requests::{GraphSettling, States, forget_claims};

@@ -188,7 +188,7 @@ module _ (old now next : Network) (f b a : Outside) (count : ℕ)
         record {
           stopped = false;
           settling = record {
-            failed_behind = None;
+            failed_after = None;
             stops = refl;
             next = now_settled old next (mute f) (mute a) held next_held
                 (inputs ∙ far.inputs) (calls_of old) did;
@@ -230,7 +230,7 @@ module _ (old now next : Network) (f b a : Outside) (count : ℕ)
         record {
           stopped = true;
           settling = record {
-            failed_behind = Some count;
+            failed_after = Some count;
             stops = sym ((Decides-ltb count (length (calls_of old))).1 shorter);
             next = now_settled old next (mute f) (mute a) held next_held
                 (inputs ∙ far.inputs) (take count (calls_of old)) did;

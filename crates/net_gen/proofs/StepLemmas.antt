@@ -30,17 +30,17 @@ use Rattle.net_gen.specs.Run.{Took, with_text}
 use Rattle.net_gen.proofs.CountLemmas.{mute}
 
 -- where rows are loaded, the kernel is asked nothing
-loads_ask : (net : Moment) (network wireless : Package) (p : Option ℕ)
+loads_request : (net : Moment) (network wireless : Package) (p : Option ℕ)
     → (acted net (load_within network wireless p) false).asked ≡ []
-loads_ask net network wireless None = refl
-loads_ask net network wireless (Some number) = refl
+loads_request net network wireless None = refl
+loads_request net network wireless (Some number) = refl
 
 loads_asked : (rows wireless : Package) (old : Network) (kernel : Telled)
     → kernel.asked_now ≡ kernel.asked → kernel.faults_now ≡ kernel.faults
     → Asks (acted (moment_of old) (load_line rows wireless) false).asked false kernel
 loads_asked rows wireless old kernel asked faults = record {
   asked = subst (Records kernel.asked kernel.asked_now)
-      (sym (loads_ask (moment_of old) rows wireless (passed_limit (conf rows wireless))))
+      (sym (loads_request (moment_of old) rows wireless (passed_limit (conf rows wireless))))
       (subst (λ now. Records kernel.asked now []) (sym asked) (records_none kernel.asked));
   cause = omega arith;
 }
@@ -52,7 +52,7 @@ pub load_tries : {M : Type 0} (rows wireless : Package) (old new : Network) (ker
 load_tries rows wireless old new kernel asked faults (Ok told) is = record {
   failed = false;
   is = is;
-  asks = loads_asked rows wireless old kernel asked faults;
+  requests = loads_asked rows wireless old kernel asked faults;
 }
 load_tries rows wireless old new kernel asked faults (Err lacks) (inl same) =
     IsLeft.in_front same (record {
@@ -93,20 +93,20 @@ module _ (rows : Package) (which : Step) (old mid : Network) (f b a : Outside)
       → IsTaken rows which (moment_of old) now count (mute f) (mute a)
   unfolding moved
   step_taken now count c =
-      let behind = c.settling.failed_behind in
+      let behind = c.settling.failed_after in
       let at : moment_of mid ≡ done.net = t.is.net in
       record {
-        luck = record { events = t.failed ∷ []; failed_behind = behind };
+        luck = record { events = t.failed ∷ []; failed_after = behind };
         next = c.settling.next ∙ ap (λ m. settled m (made (due m) behind)) at;
         number = c.number ∙ ap (λ m. length (made (due m) behind)) at;
         left = record {
           asked = records_more f.asked b.asked a.asked done.asked (asked_in (due done.net) behind)
-              t.asks.asked
+              t.requests.asked
               (subst (λ m. Records b.asked a.asked (asked_in (due m) behind)) at c.settling.asked);
           logged = subst (λ x. Grows x a.calls (made (due done.net) behind)) calls
               (subst (λ m. Grows b.calls a.calls (made (due m) behind)) at c.settling.logged);
           written = refl;
-          cause = let first = t.asks.cause in let second = c.settling.cause in
+          cause = let first = t.requests.cause in let second = c.settling.cause in
               omega (arith, first, second);
           later = omega arith;
         };
@@ -120,12 +120,12 @@ module _ (rows : Package) (which : Step) (old mid : Network) (f b a : Outside)
       (s.next ∙ ap (λ m. settled m (take s.count (due m))) at)
       (record {
         asked = records_more f.asked b.asked a.asked done.asked
-            (map done_call (take s.count (due done.net))) t.asks.asked
+            (map done_call (take s.count (due done.net))) t.requests.asked
             (subst (λ m. Records b.asked a.asked (map done_call (take s.count (due m)))) at s.asked);
         logged = subst (λ x. Grows x a.calls (take s.count (due done.net))) calls
             (subst (λ m. Grows b.calls a.calls (take s.count (due m))) at s.logged);
         written = refl;
-        cause = let first = t.asks.cause in let second = s.later in omega (arith, first, second);
+        cause = let first = t.requests.cause in let second = s.later in omega (arith, first, second);
         later = omega arith;
       })
 
@@ -139,21 +139,21 @@ module _ (rows : Package) (which : Step) (old mid : Network) (f b a : Outside)
 pub step_halted : (rows : Package) (which : Step) (old new : Network) (f b : Outside)
     → b.calls ≡ f.calls → IsLeft (line_of rows which) old new (between f b)
     → IsHalted rows which (moment_of old) (moment_of new) (mute f) (mute b)
-step_halted rows which old new f b calls (IsLeft.in_front same asks) =
+step_halted rows which old new f b calls (IsLeft.in_front same requests) =
     IsHalted.in_front (ap moment_of same) (record {
-      asked = asks.asked;
+      asked = requests.asked;
       logged = subst (λ x. Grows f.calls x []) (sym calls) (grows_none f.calls);
       written = refl;
-      cause = asks.cause;
+      cause = requests.cause;
       later = omega arith;
     })
-step_halted rows which old new f b calls (IsLeft.behind failed net asks) =
+step_halted rows which old new f b calls (IsLeft.behind failed net requests) =
     IsHalted.behind failed 0 net (record {
       asked = subst (Records f.asked b.asked)
-          (sym (append-nil (acted (moment_of old) (line_of rows which) failed).asked)) asks.asked;
+          (sym (append-nil (acted (moment_of old) (line_of rows which) failed).asked)) requests.asked;
       logged = subst (λ x. Grows f.calls x []) (sym calls) (grows_none f.calls);
       written = refl;
-      cause = asks.cause;
+      cause = requests.cause;
       later = omega arith;
     })
 

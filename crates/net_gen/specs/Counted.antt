@@ -26,7 +26,7 @@ kernel_alone kernel state = record {
 pub record IsCounted (net now : Moment) (count : ℕ) (before after : Outside) : Type 0 where
   pub stopped : Bool
   pub settling : IsSettled net now before after stopped
-  pub number : count ≡ length (made (due net) settling.failed_behind)
+  pub number : count ≡ length (made (due net) settling.failed_after)
 
 -- a front of the calls was made, none of which failed, and then the settling was broken off
 pub record IsBrokenOff (net now : Moment) (before after : Outside) : Type 0 where

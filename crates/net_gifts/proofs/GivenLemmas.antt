@@ -5,7 +5,7 @@ use Rattle.kern_model.specs.declared.object.Object.{Object}
 use Rattle.net_rows.specs.declared.rows.InterfaceRow.{InterfaceRow}
 use Rattle.net_rules.specs.Facts.{Facts}
 use Rattle.net_rules.specs.Rows.{interfaces_of}
-use Rattle.net_rules.specs.Interfaces.{is_up, layer_of}
+use Rattle.net_rules.specs.Interfaces.{is_up, l3_device_of}
 use Rattle.net_rules.specs.Want.{given_by, given}
 use Rattle.net_rules.specs.declared.state.InterfaceState.{InterfaceState}
 use Rattle.net_rules.specs.States.{is_first, IsStateAs, AreStates}
@@ -14,9 +14,9 @@ use Rattle.net_gifts.specs.Giving.{gives, all_gives}
 
 gives_as : (facts : Facts) (first : Bool) (row : InterfaceRow) (st : InterfaceState) → IsStateAs first facts row st → gives facts row st ≡ cond first (given facts row) []
 gives_as facts true row st is =
-    ap (λ b. cond {A = List Object} b (given_by facts row st.layer) []) is.up
-    ∙ ap (λ (l : Option (List ℕ)). cond {A = List Object} (is_up facts row) (given_by facts row l) []) is.layer
-gives_as facts false row st is = ap (λ b. cond {A = List Object} b (given_by facts row st.layer) []) is.up
+    ap (λ b. cond {A = List Object} b (given_by facts row st.l3_device) []) is.up
+    ∙ ap (λ (l : Option (List ℕ)). cond {A = List Object} (is_up facts row) (given_by facts row l) []) is.l3_device
+gives_as facts false row st is = ap (λ b. cond {A = List Object} b (given_by facts row st.l3_device) []) is.up
 
 pub gives_are : (facts : Facts) (states : List InterfaceState) → AreStates facts facts.conf.interfaces states → all_gives facts facts.conf.interfaces states ≡ flat_map (given facts) (interfaces_of facts.conf)
 gives_are facts states are =

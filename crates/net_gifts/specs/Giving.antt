@@ -17,7 +17,7 @@ times_in o os = length (filter (eq_by_cmp object_cmp o) os)
 
 -- what an interface gives: its addresses and routes on its layer-3 device, where it is up
 abbrev pub gives : Facts → InterfaceRow → InterfaceState → List Object
-gives facts row st = if st.is_up then given_by facts row st.layer else []
+gives facts row st = if st.is_up then given_by facts row st.l3_device else []
 
 -- what all interfaces give, one after the other
 abbrev pub all_gives : Facts → List InterfaceRow → List InterfaceState → List Object

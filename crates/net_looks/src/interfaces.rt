@@ -18,8 +18,8 @@ impl Look<'_> {
     pub fn is_enabled(&self, row: &InterfaceRow) -> bool
         ensures { result ≡ spec.is_enabled (facts_at self.now) row.now }
     {
-        let is_up = match self.command(&row.name) {
-            Some(command) => command.up,
+        let is_up = match self.operator_state(&row.name) {
+            Some(operator_state) => operator_state.up,
             None => row.autostart,
         };
         row.faults.as_slice().is_empty() & (!row.anonymous & (!row.disabled & is_up))
@@ -75,22 +75,22 @@ impl Look<'_> {
     }
 
     /// The layer-3 device of the interface.
-    pub fn layer_of(&self, row: &InterfaceRow) -> Option<DevName>
+    pub fn l3_device_of(&self, row: &InterfaceRow) -> Option<DevName>
         requires { IsLookOf self.now }
-        ensures { result ≡ spec.layer_of (facts_at self.now) row.now }
+        ensures { result ≡ spec.l3_device_of (facts_at self.now) row.now }
     {
         let own = self.device_of(row);
         device_or_own(self.answer_of(row), own)
     }
 
-    fn serves_layer(&self, own: Option<DevName>, layer: Option<DevName>) -> bool
+    fn serves_l3_device(&self, own: Option<DevName>, l3_device: Option<DevName>) -> bool
         requires { IsLookOf self.now }
-        ensures { result ≡ spec.serves_layer (facts_at self.now) own layer }
+        ensures { result ≡ spec.serves_l3_device (facts_at self.now) own l3_device }
     {
-        match layer {
-            Some(layer) => {
-                let is_plain = self.is_plain(&layer);
-                self.is_available(&layer) & (is_plain | is_name(&own, &layer))
+        match l3_device {
+            Some(l3_device) => {
+                let is_plain = self.is_plain(&l3_device);
+                self.is_available(&l3_device) & (is_plain | is_name(&own, &l3_device))
             }
             None => false,
         }
@@ -102,7 +102,7 @@ impl Look<'_> {
         ensures { result ≡ spec.is_up (facts_at self.now) row.now }
     {
         let own = self.device_of(row);
-        let serves = self.serves_layer(own, self.layer_of(row));
+        let serves = self.serves_l3_device(own, self.l3_device_of(row));
         let is_answered = is_answered_up(self.answer_of(row)) & serves;
         self.is_ready(row) & (asks_nothing(&row.proto) | is_answered)
     }

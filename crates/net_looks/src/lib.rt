@@ -3,11 +3,11 @@
 //! in a table of gifts.
 #![tactic(auto)]
 
-mod asks;
 mod giving;
 mod interfaces;
 mod look;
 mod names;
 mod radios;
+mod requests;
 
 pub use look::Look;

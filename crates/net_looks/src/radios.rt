@@ -76,7 +76,7 @@ impl Look<'_> {
         ensures { result
             ≡ port_for interface.now (spec.ports_of_radio (facts_at self.now) radio.now) }
     {
-        match self.radio_ask(&radio.name) {
+        match self.radio_request(&radio.name) {
             Some(asked) => self.latest_port(radio.rows.as_slice(), &asked.ports, interface),
             None => None,
         }

@@ -12,10 +12,10 @@ use Rattle.net_rules.specs.Moment.{Moment, devices_of, held_after, moment_after}
 use Rattle.net_rules.specs.Notices.{notices}
 use Rattle.net_rules.specs.Refusal.{refusal}
 use Rattle.net_rules.proofs.MomentLemmas.{present_follows}
-use Rattle.net_anew.specs.Course.{held_of}
-use Rattle.net_anew.specs.Follower.{Follower}
-use Rattle.net_anew.specs.InStep.{inputs_of, HasFollowed}
-use Rattle.net_anew.specs.Begun.{HasBegun}
+use Rattle.net_rebuild.specs.SettlingState.{held_of}
+use Rattle.net_rebuild.specs.Follower.{Follower}
+use Rattle.net_rebuild.specs.InStep.{inputs_of, HasFollowed}
+use Rattle.net_rebuild.specs.Begun.{HasBegun}
 use Rattle.net_plane.specs.Network.{Network, HasSameKernel, moment_of}
 use Rattle.net_plane.specs.Seen.{network_of}
 use Rattle.net_plane.specs.Taken.{IsAfter, HasSoundRows, IsOfNoDevice}

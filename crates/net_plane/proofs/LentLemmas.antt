@@ -6,13 +6,13 @@ use Rattle.net_rules.specs.declared.inputs.Inputs.{Inputs}
 use Rattle.net_rules.specs.declared.event.Notice.{Notice}
 use Rattle.net_rules.specs.Sound.{IsSound}
 use Rattle.given_objects.specs.Gifts.{AreGifts}
-use Rattle.net_anew.specs.Course.{Course, held_of}
-use Rattle.net_anew.specs.Beside.{IsCourseOf, HoldsLower}
-use Rattle.net_anew.proofs.LentLemmas.{rows_known, devices_known, wants_below, holds_below}
+use Rattle.net_rebuild.specs.SettlingState.{SettlingState, held_of}
+use Rattle.net_rebuild.specs.Beside.{IsSettlingStateOf, HoldsLower}
+use Rattle.net_rebuild.proofs.LentLemmas.{rows_known, devices_known, wants_below, holds_below}
 use Rattle.net_plane.specs.Lent.{Lends}
 use Rattle.net_plane.proofs.SettledLemmas.{seen}
 
-pub lends : (inputs : Inputs) (c : Course) (notices : List Notice) → IsSound inputs.conf → IsCourseOf inputs c → AreGifts c.gifts → HoldsLower c.graph → Lends (seen inputs c notices) c.graph
+pub lends : (inputs : Inputs) (c : SettlingState) (notices : List Notice) → IsSound inputs.conf → IsSettlingStateOf inputs c → AreGifts c.gifts → HoldsLower c.graph → Lends (seen inputs c notices) c.graph
 lends inputs c notices sound beside are lower = record {
   agrees = beside.agrees;
   rows = rows_known inputs c beside;

@@ -24,15 +24,15 @@ use Rattle.net_rules.specs.After.{after}
 use Rattle.net_rules.specs.Sound.{IsSound}
 use Rattle.graph_rules.specs.Answers.{port_of}
 use Rattle.graph_rules.specs.Conditions.{CanLoad}
-use Rattle.net_anew.specs.Knowing.{AreFurther}
-use Rattle.net_anew.proofs.GraphLoadLemmas.{can_load_radios}
+use Rattle.net_rebuild.specs.Knowing.{AreFurther}
+use Rattle.net_rebuild.proofs.GraphLoadLemmas.{can_load_radios}
 use Rattle.known_inputs.specs.Known.{StandOnce}
-use Rattle.net_anew.proofs.FurtherLemmas.{are_further, ports_are_there}
-use Rattle.net_anew.specs.Follower.{Follower}
-use Rattle.net_anew.specs.InStep.{inputs_of, IsInStep}
-use Rattle.net_anew.specs.declared.anew.Anew.{Anew}
-use Rattle.net_anew.specs.Anew.{AreFewRows, IsAnewOf}
-use Rattle.net_anew.specs.Begun.{HasBegun}
+use Rattle.net_rebuild.proofs.FurtherLemmas.{are_further, ports_are_there}
+use Rattle.net_rebuild.specs.Follower.{Follower}
+use Rattle.net_rebuild.specs.InStep.{inputs_of, IsInStep}
+use Rattle.net_rebuild.specs.declared.rebuild.Rebuild.{Rebuild}
+use Rattle.net_rebuild.specs.Rebuild.{AreFewRows, IsRebuildOf}
+use Rattle.net_rebuild.specs.Begun.{HasBegun}
 use Rattle.net_plane.specs.Read.{AreRead}
 use Rattle.net_plane.specs.declared.net_error.NetError.{NetError}
 use Rattle.net_plane.specs.declared.net_error.NetError.TheVariants as error
@@ -93,26 +93,26 @@ loaded_conf : (inputs : Inputs) (rows : Conf) → (after inputs (event.Load rows
 unfolding after
 loaded_conf inputs rows = refl
 
-module _ (f : Follower) (rows : Conf) (made : Anew) (anew : IsAnewOf f (event.Load rows) made) (read : AreRead rows) where
+module _ (f : Follower) (rows : Conf) (made : Rebuild) (rebuild : IsRebuildOf f (event.Load rows) made) (read : AreRead rows) where
   pub conf_loaded : made.inputs.inputs.conf ≡ rows
-  conf_loaded = ap (λ (i : Inputs). i.conf) anew.inputs ∙ loaded_conf (inputs_of f) rows
+  conf_loaded = ap (λ (i : Inputs). i.conf) rebuild.inputs ∙ loaded_conf (inputs_of f) rows
 
   pub sound_loaded : IsSound made.inputs.inputs.conf
   sound_loaded = subst IsSound (sym conf_loaded) (sound_rows rows read)
 
   -- it is what is made anew for the rows that it has
-  pub anew_loaded : IsAnewOf f (event.Load made.inputs.inputs.conf) made
-  anew_loaded = subst (λ (c : Conf). IsAnewOf f (event.Load c) made) (sym conf_loaded) anew
+  pub rebuild_loaded : IsRebuildOf f (event.Load made.inputs.inputs.conf) made
+  rebuild_loaded = subst (λ (c : Conf). IsRebuildOf f (event.Load c) made) (sym conf_loaded) rebuild
 
   pub can_load : StandOnce made.inputs.inputs → CanLoad made.inputs.inputs.conf made.plain.items made.ports.items
   can_load once =
       let now : Inputs = made.inputs.inputs in
-      let further : AreFurther now.conf made.plain.items = subst (λ (names : List (List ℕ)). AreFurther now.conf names) (sym anew.further) (are_further now once.devices) in
+      let further : AreFurther now.conf made.plain.items = subst (λ (names : List (List ℕ)). AreFurther now.conf names) (sym rebuild.further) (are_further now once.devices) in
       let within : passed_limit now.conf ≡ None = ap passed_limit conf_loaded ∙ read.within in
-      can_load_radios read.network read.wireless (facts_of now) made.plain.items made.ports.items (conf_loaded ∙ read.read) within further anew.ports
+      can_load_radios read.network read.wireless (facts_of now) made.plain.items made.ports.items (conf_loaded ∙ read.read) within further rebuild.ports
       (λ p member.
-      let among : Contains (radio_ports (facts_of now)) (port_of p) = subst (λ (ports : List RadioPort). Contains ports (port_of p)) anew.ports (map_member port_of made.ports.items p member) in
-      subst (λ (names : List (List ℕ)). Contains (names_of now.conf ++ names) p.port) (sym anew.further) (ports_are_there now (port_of p) among))
+      let among : Contains (radio_ports (facts_of now)) (port_of p) = subst (λ (ports : List RadioPort). Contains ports (port_of p)) rebuild.ports (map_member port_of made.ports.items p member) in
+      subst (λ (names : List (List ℕ)). Contains (names_of now.conf ++ names) p.port) (sym rebuild.further) (ports_are_there now (port_of p) among))
 
   -- what began with these rows began with the load
   pub begun_loaded : (now : Follower) → HasBegun (event.Load made.inputs.inputs.conf) 1 f now → HasBegun (event.Load rows) 1 f now

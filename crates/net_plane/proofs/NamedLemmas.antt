@@ -18,13 +18,13 @@ use Rattle.net_refused.proofs.LookLemmas.{lacks}
 none_named : (conf : Conf) (name : List ℕ) → is_none (interface_place conf name) ≡ is_none (interface_named conf name)
 none_named conf name = lacks (λ (row : InterfaceRow). row.name) conf.interfaces name (interface_place conf name) refl
 
--- a command is refused where the interface has no place, and is free where it has one
+-- an operator state is refused where the interface has no place, and is free where it has one
 module _ (moment : Moment) (interface : List ℕ) (up : Bool) where
-  pub command_refused : interface_place moment.inputs.conf interface ≡ None → refusal moment (event.Operator interface up) ≡ Some refused.NoInterface
-  command_refused none = ap (λ (b : Bool). refused_if b refused.NoInterface) (sym (none_named moment.inputs.conf interface) ∙ ap is_none none)
+  pub operator_state_refused : interface_place moment.inputs.conf interface ≡ None → refusal moment (event.Operator interface up) ≡ Some refused.NoInterface
+  operator_state_refused none = ap (λ (b : Bool). refused_if b refused.NoInterface) (sym (none_named moment.inputs.conf interface) ∙ ap is_none none)
 
-  pub command_free : (place : ℕ) → interface_place moment.inputs.conf interface ≡ Some place → refusal moment (event.Operator interface up) ≡ None
-  command_free place is = ap (λ (b : Bool). refused_if b refused.NoInterface) (sym (none_named moment.inputs.conf interface) ∙ ap is_none is)
+  pub operator_state_free : (place : ℕ) → interface_place moment.inputs.conf interface ≡ Some place → refusal moment (event.Operator interface up) ≡ None
+  operator_state_free place is = ap (λ (b : Bool). refused_if b refused.NoInterface) (sym (none_named moment.inputs.conf interface) ∙ ap is_none is)
 
 -- an answer that is free is one for an interface that has a place
 module _ (moment : Moment) (interface : List ℕ) (number : ℕ) (answer : Answer) where

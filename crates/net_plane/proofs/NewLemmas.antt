@@ -15,18 +15,18 @@ use Rattle.net_rules.specs.Moment.{IsHistory}
 use Rattle.graph_rules.specs.State.{empty}
 use Rattle.given_objects.specs.declared.gift.Gift.{Gift}
 use Rattle.given_objects.specs.Gifts.{objects_by}
-use Rattle.net_anew.specs.Course.{Course, held_of, IsReady}
+use Rattle.net_rebuild.specs.SettlingState.{SettlingState, held_of, IsReady}
 use Rattle.net_rules.specs.declared.state.InterfaceState.{InterfaceState}
-use Rattle.net_anew.specs.Kept.{AreStatesOf}
-use Rattle.net_anew.specs.Counted.{IsCountedBy}
-use Rattle.net_anew.specs.Follower.{Follower}
-use Rattle.net_anew.specs.InStep.{inputs_of, IsInStep}
+use Rattle.net_rebuild.specs.Kept.{AreStatesOf}
+use Rattle.net_rebuild.specs.Counted.{IsCountedBy}
+use Rattle.net_rebuild.specs.Follower.{Follower}
+use Rattle.net_rebuild.specs.InStep.{inputs_of, IsInStep}
 use Rattle.net_plane.specs.Network.{IsNew}
 use Rattle.net_plane.specs.Seen.{network_of}
 use Rattle.net_plane.proofs.MomentLemmas.{same_moment}
 
-abbrev pub bare : Course
-bare = record { graph = empty; gifts = []; may_fall = false }
+abbrev pub bare : SettlingState
+bare = record { graph = empty; gifts = []; may_lose_link = false }
 
 no_gift : (o : Object) → Has (objects_by (λ (g : Gift). g.held) []) o → ⊥
 no_gift o h = none_in_nil o (member_of_set [] o h)
@@ -47,7 +47,7 @@ bare_counted = record {
   counted = record { claims = λ name. refl; givers = λ o. refl };
   room = record {
     places = λ place row at first needs. cc at;
-    few = λ row layer member. absurd (none_in_nil row member);
+    few = λ row l3_device member. absurd (none_in_nil row member);
     rows = omega arith;
   };
 }
@@ -70,7 +70,7 @@ module _ (f : Follower) (none : inputs_of f ≡ no_inputs) (is : f.settling ≡ 
       let nothing : f.states.list.items ≡ [] = nothing_of f.states.list.items are.are.size in
       subst (λ (i : Inputs). IsCountedBy i f.states.list.items f.settling) (sym none)
       (subst (λ (list : List InterfaceState). IsCountedBy no_inputs list f.settling) (sym nothing)
-      (subst (λ (c : Course). IsCountedBy no_inputs [] c) (sym is) bare_counted))
+      (subst (λ (c : SettlingState). IsCountedBy no_inputs [] c) (sym is) bare_counted))
 
   pub new_in_step : IsReady f.settling → IsInStep f
   new_in_step ready = record {

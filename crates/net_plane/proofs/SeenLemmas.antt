@@ -7,9 +7,9 @@ use Rattle.net_rules.specs.declared.inputs.Inputs.{Inputs}
 use Rattle.net_rules.specs.declared.event.Event.{Event}
 use Rattle.net_rules.specs.Moment.{Moment}
 use Rattle.net_rules.specs.Refusal.{refusal}
-use Rattle.net_anew.specs.Course.{held_of}
-use Rattle.net_anew.specs.Follower.{Follower}
-use Rattle.net_anew.specs.InStep.{inputs_of, LooksAs}
+use Rattle.net_rebuild.specs.SettlingState.{held_of}
+use Rattle.net_rebuild.specs.Follower.{Follower}
+use Rattle.net_rebuild.specs.InStep.{inputs_of, LooksAs}
 use Rattle.net_plane.specs.Network.{Network, moment_of}
 use Rattle.net_plane.specs.Seen.{network_of}
 

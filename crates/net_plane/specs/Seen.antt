@@ -1,8 +1,8 @@
 -- The plane, by what it follows.
 use Rattle.std.specs.FinSet as set
-use Rattle.net_anew.specs.Course.{held_of}
-use Rattle.net_anew.specs.Follower.{Follower}
-use Rattle.net_anew.specs.InStep.{inputs_of}
+use Rattle.net_rebuild.specs.SettlingState.{held_of}
+use Rattle.net_rebuild.specs.Follower.{Follower}
+use Rattle.net_rebuild.specs.InStep.{inputs_of}
 use Rattle.net_plane.specs.Network.{Network}
 
 -- what is kept of a network, as the plane shows it

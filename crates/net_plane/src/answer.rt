@@ -13,7 +13,7 @@ use plane_io::Text;
 use std::alloc::Global;
 
 impl Net {
-    /// The handler of the interface answers the ask of this number.
+    /// The handler of the interface answers the request of this number.
     ///
     /// # Errors
     ///

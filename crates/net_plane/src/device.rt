@@ -13,8 +13,8 @@ use net_refused::device_refusal;
 use net_rules::Refusal;
 use std::alloc::Global;
 
-/// What happens to a device opens an ask of each interface at most, of which there are so many.
-const MOST_ASKS: u64 = 1024;
+/// What happens to a device opens a request of each interface at most, of which there are so many.
+const MOST_REQUESTS: u64 = 1024;
 
 impl Net {
     /// What happens to a device is told to the kernel. No call is made.
@@ -77,7 +77,7 @@ impl Net {
         ensures loads { self.new.loads ≡ self.old.loads }
         ensures later { K.faults kernel.old ≤ K.faults kernel.new }
     {
-        if self.follower.inputs.next() > MOST_NEXT - MOST_ASKS {
+        if self.follower.inputs.next() > MOST_NEXT - MOST_REQUESTS {
             return Err(NetError::Memory);
         }
         let Ok(id) = self.follower.await_event(alloc, event) else {

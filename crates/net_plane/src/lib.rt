@@ -1,5 +1,5 @@
-//! The plane of interfaces: commits, reloads, devices that come and go, commands and answers in any
-//! order; once settled, the kernel holds exactly what a fresh start would give.
+//! The plane of interfaces: commits, reloads, devices that come and go, operator states and answers
+//! in any order; once settled, the kernel holds exactly what a fresh start would give.
 #![tactic(auto)]
 
 mod answer;

@@ -11,8 +11,8 @@ ghost use Rattle.net_plane.specs.declared.net_error.NetError.TheVariants as erro
 
 use crate::net::Net;
 use crate::net_error::NetError;
-use net_anew::{Anew, load};
 use net_conf::read_conf;
+use net_rebuild::{Rebuild, load};
 use net_rows::{Conf, ConfError};
 use net_rules::Event;
 use std::alloc::Global;
@@ -22,8 +22,8 @@ use uci_tree::Package;
 const MOST_LOADS: u64 = 1 << 63;
 
 impl Net {
-    /// Loads the rows of the files. Commands for interfaces that are gone are forgotten. The graph
-    /// of devices is made anew.
+    /// Loads the rows of the files. Operator states for interfaces that are gone are forgotten. The
+    /// graph of devices is made anew.
     ///
     /// # Errors
     ///
@@ -65,7 +65,7 @@ impl Net {
         if self.follower.settling.graph.loaded() >= MOST_LOADS {
             return Err(NetError::Memory);
         }
-        let Ok(made) = Anew::of(alloc, &self.follower, Event::Load(rows)) else {
+        let Ok(made) = Rebuild::of(alloc, &self.follower, Event::Load(rows)) else {
             return Err(NetError::Memory);
         };
         let _rows = made.inputs.conf();

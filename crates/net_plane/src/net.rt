@@ -7,8 +7,8 @@ ghost use Rattle.net_rules.specs.Moment.{want_of};
 ghost use Rattle.net_rules.specs.Fresh.{fresh_start};
 ghost use Rattle.net_settle.specs.Outside.{outside_of};
 ghost use Rattle.given_objects.specs.Gifts.{AreGifts};
-ghost use Rattle.net_anew.specs.Beside.{IsCourseOf};
-ghost use Rattle.net_anew.specs.InStep.{inputs_of, IsInStep};
+ghost use Rattle.net_rebuild.specs.Beside.{IsSettlingStateOf};
+ghost use Rattle.net_rebuild.specs.InStep.{inputs_of, IsInStep};
 ghost use Rattle.net_plane.specs.Network.{IsNew, IsOf, calls_of};
 ghost use Rattle.net_plane.specs.Lent.{Lends};
 ghost use Rattle.net_plane.specs.Settled.{Settles, HasMade, told_end};
@@ -17,7 +17,7 @@ use crate::net_error::NetError;
 use given_objects::GivenObjects;
 use kern_model::Kernel;
 use known_inputs::KnownInputs;
-use net_anew::{Follower, Graph, GraphSettling, States};
+use net_rebuild::{Follower, Graph, GraphSettling, States};
 use net_rows::Conf;
 use net_rules::Notice;
 use net_settle::SettleError;
@@ -26,8 +26,8 @@ use std::alloc::Global;
 use std::collections::VecDeque;
 use std::marker::Model;
 
-/// The plane of interfaces: the rows of the loaded files, the present devices, commands and
-/// answers, what the kernel holds, and what is still to be told of asks. After every list of
+/// The plane of interfaces: the rows of the loaded files, the present devices, operator states and
+/// answers, what the kernel holds, and what is still to be told of requests. After every list of
 /// events, once settled, the kernel holds exactly what a fresh start would give. Devices stand in a
 /// graph, so that an event costs what it changes.
 #[derive(Drop)]
@@ -36,7 +36,7 @@ pub struct Net {
 }
 
 impl Model for Net {
-    ghost use Rattle.net_anew.specs.InStep.{IsInStep};
+    ghost use Rattle.net_rebuild.specs.InStep.{IsInStep};
     ghost use Rattle.net_plane.specs.Network.{Network};
     ghost use Rattle.net_plane.specs.Seen.{network_of};
 
@@ -88,7 +88,7 @@ impl Net {
         self.follower.settling.due() as usize
     }
 
-    /// What is still to be told of the last event: the asks that were lost, by number, and then
+    /// What is still to be told of the last event: the requests that were lost, by number, and then
     /// those that were opened. It takes no memory.
     pub fn notice(&mut self) -> Option<Notice>
         ensures told { self.old.notices ≡ option_to_list result ++ self.new.notices }
@@ -137,7 +137,7 @@ impl Net {
 /// What is held and wanted is beside the inputs, and its gifts are gifts.
 pub(crate) fn are_beside(follower: &Follower)
     requires { IsInStep follower.now }
-    ensures beside { IsCourseOf (inputs_of follower.now) follower.now.settling }
+    ensures beside { IsSettlingStateOf (inputs_of follower.now) follower.now.settling }
     ensures gifts { AreGifts follower.now.settling.gifts }
 {
     follower.settling.graph.is_kept();

@@ -12,7 +12,7 @@ pub enum NetError {
     /// No interface has that name.
     #[error("no interface")]
     NoInterface,
-    /// The number is not that of the open ask, which is `current`, and 0 where there is none.
+    /// The number is not that of the open request, which is `current`, and 0 where there is none.
     #[error("stale {given} {current}")]
     Stale { given: u64, current: u64 },
     /// No device of that name is present.
@@ -24,7 +24,7 @@ pub enum NetError {
     /// The name of a device that comes is taken.
     #[error("known")]
     Known,
-    /// An answer of a radio has another number of ports than its ask has rows.
+    /// An answer of a radio has another number of ports than its request has rows.
     #[error("wrong ports {wanted}")]
     WrongPorts { wanted: u64 },
     /// A list is longer than this number allows.

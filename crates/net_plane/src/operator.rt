@@ -13,8 +13,8 @@ use crate::next::MOST_NEXT;
 use plane_io::Text;
 
 impl Net {
-    /// The interface is brought up, or down, by hand. It takes no memory, but numbers of asks may
-    /// run out.
+    /// The interface is brought up, or down, by hand. It takes no memory, but numbers of requests
+    /// may run out.
     ///
     /// # Errors
     ///
@@ -30,7 +30,7 @@ impl Net {
         ensures loads { self.new.loads ≡ self.old.loads }
     {
         match self.place_of(&interface) {
-            Some(place) => self.command(place, interface, up),
+            Some(place) => self.operator_state(place, interface, up),
             None => Err(NetError::NoInterface),
         }
     }
@@ -43,7 +43,7 @@ impl Net {
     }
 
     // The interface at a place is brought up, or down, by hand.
-    fn command(&mut self, place: usize, interface: Text, up: bool) -> Result<(), NetError>
+    fn operator_state(&mut self, place: usize, interface: Text, up: bool) -> Result<(), NetError>
         requires told { self.old.notices ≡ [] }
         requires place { interface_place self.old.inputs.conf interface ≡ Some place }
         ensures ok { OnOk result (IsAfter self.old (event_of.Operator interface up) self.new) }
@@ -56,7 +56,7 @@ impl Net {
         if self.follower.inputs.next() >= MOST_NEXT {
             return Err(NetError::Memory);
         }
-        self.follower.command(place, interface, up);
+        self.follower.operator_state(place, interface, up);
         Ok(())
     }
 }

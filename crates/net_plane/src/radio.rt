@@ -7,15 +7,15 @@ ghost use Rattle.net_plane.specs.Taken.{IsAfter, Refuses, Answers};
 use crate::net::Net;
 use crate::net_error::NetError;
 use kern_model::DevName;
-use net_anew::{Anew, join_ports};
+use net_rebuild::{Rebuild, join_ports};
 use net_refused::radio_refusal;
 use net_rules::{Event, Refusal};
 use plane_io::{Items, Text};
 use std::alloc::Global;
 
 impl Net {
-    /// The handler of the radio answers the ask of this number: a port for each of its rows, where
-    /// there is one.
+    /// The handler of the radio answers the request of this number: a port for each of its rows,
+    /// where there is one.
     ///
     /// # Errors
     ///
@@ -75,7 +75,7 @@ impl Net {
             number,
             ports,
         };
-        let Ok(made) = Anew::of(alloc, &self.follower, event) else {
+        let Ok(made) = Rebuild::of(alloc, &self.follower, event) else {
             return Err(NetError::Memory);
         };
         let Ok(()) = join_ports(alloc, &mut self.follower, made) else {

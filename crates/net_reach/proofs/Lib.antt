@@ -5,7 +5,7 @@ pub mod ReachLemmas
 pub mod DeviceLemmas
 pub mod GoneLemmas
 pub mod MemberLemmas
-pub mod LayerLemmas
+pub mod L3DeviceLemmas
 pub mod AlikeLemmas
 pub mod RoomLemmas
 pub mod ComeLemmas

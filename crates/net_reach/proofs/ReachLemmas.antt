@@ -18,7 +18,7 @@ use Rattle.net_view.specs.RadioPorts.{group_in}
 use Rattle.net_wants.proofs.ViewLemmas.{stands_on_none}
 use Rattle.net_reach.specs.Places.{Places}
 use Rattle.net_reach.specs.Walk.{Leads, Stays, IsClimbed, AreClimbed, IsAt, Touches, TouchesOnly, IsAtRow, HasTouched}
-use Rattle.net_reach.specs.Reach.{stands_on, is_at_device, is_at_layer, IsReachOf, IsTouched, AreTouched}
+use Rattle.net_reach.specs.Reach.{stands_on, is_at_device, is_at_l3_device, IsReachOf, IsTouched, AreTouched}
 use Rattle.net_reach.specs.declared.reach.Reach.{Reach}
 use Rattle.net_reach.proofs.GroupLemmas.{members_of}
 use Rattle.net_reach.proofs.WalkLemmas.{still_touches}
@@ -74,9 +74,9 @@ module _ (inputs : Inputs) (reach : Reach) (is : IsReachOf inputs reach) (base :
   module _ (rows touched : Places) (row_room : rows.bound ≡ length inputs.conf.names)
       (first : Leads reach.above base rows)
       (further : (place : ℕ) (name : List ℕ) → Contains rows.list place → slice_get reach.names.items place ≡ Some name → Leads reach.above name rows)
-      (at_base : Touches reach.at_device reach.at_layer base touched)
-      (at_rows : (row : ℕ) (name : List ℕ) → Contains rows.list row → slice_get reach.names.items row ≡ Some name → Touches reach.at_device reach.at_layer name touched) where
-    all_above : (name : List ℕ) → IsAbove facts base name → Leads reach.above name rows × Touches reach.at_device reach.at_layer name touched
+      (at_base : Touches reach.at_device reach.at_l3_device base touched)
+      (at_rows : (row : ℕ) (name : List ℕ) → Contains rows.list row → slice_get reach.names.items row ≡ Some name → Touches reach.at_device reach.at_l3_device name touched) where
+    all_above : (name : List ℕ) → IsAbove facts base name → Leads reach.above name rows × Touches reach.at_device reach.at_l3_device name touched
     all_above name IsAbove.itself = (first, at_base)
     all_above name (IsAbove.over upper lower h above) =
         let below = all_above lower above in
@@ -91,10 +91,10 @@ module _ (inputs : Inputs) (reach : Reach) (is : IsReachOf inputs reach) (base :
     touched_all room place is_touched =
         let touches = (all_above is_touched.name is_touched.above).1 in
         let within = subst (λ k. place < k) (sym room) (slice_get_within inputs.conf.interfaces place is_touched.row is_touched.found) in
-        elim (either (is_at_device inputs is_touched.name is_touched.row) (is_at_layer inputs is_touched.name place is_touched.row) is_touched.at) as (λ _. Contains touched.list place) [
+        elim (either (is_at_device inputs is_touched.name is_touched.row) (is_at_l3_device inputs is_touched.name place is_touched.row) is_touched.at) as (λ _. Contains touched.list place) [
           | inl device ↦ touches.device place ((members_of (group_in reach.at_device is_touched.name) (is_at_device inputs is_touched.name) inputs.conf.interfaces (is.at_device is_touched.name)).all place is_touched.row is_touched.found
               device) within
-          | inr layer ↦ touches.layer place ((is.at_layer is_touched.name).all place is_touched.row is_touched.found layer) within
+          | inr l3_device ↦ touches.l3_device place ((is.at_l3_device is_touched.name).all place is_touched.row is_touched.found l3_device) within
         ]
 
   -- ---- nothing else is found
@@ -110,18 +110,18 @@ module _ (inputs : Inputs) (reach : Reach) (is : IsReachOf inputs reach) (base :
   climbed_above place name (IsClimbed.further p lower other climbed at inside) named =
       IsAbove.over name other (stands_at other p name inside named) (climbed_above lower other climbed at)
 
-  at_name : (name : List ℕ) (place : ℕ) → IsAbove facts base name → IsAt reach.at_device reach.at_layer name place → IsTouched inputs base place
+  at_name : (name : List ℕ) (place : ℕ) → IsAbove facts base name → IsAt reach.at_device reach.at_l3_device name place → IsTouched inputs base place
   at_name name place above at = elim at as (λ _. IsTouched inputs base place) [
     | inl device ↦
         let found = (members_of (group_in reach.at_device name) (is_at_device inputs name) inputs.conf.interfaces (is.at_device name)).only place device in
-        record { row = found.0; found = found.1; name = name; at = of_left (is_at_device inputs name found.0) (is_at_layer inputs name place found.0) found.2; above = above }
-    | inr layer ↦
-        let found = (is.at_layer name).only place layer in
-        record { row = found.0; found = found.1; name = name; at = of_right (is_at_device inputs name found.0) (is_at_layer inputs name place found.0) found.2; above = above }
+        record { row = found.0; found = found.1; name = name; at = of_left (is_at_device inputs name found.0) (is_at_l3_device inputs name place found.0) found.2; above = above }
+    | inr l3_device ↦
+        let found = (is.at_l3_device name).only place l3_device in
+        record { row = found.0; found = found.1; name = name; at = of_right (is_at_device inputs name found.0) (is_at_l3_device inputs name place found.0) found.2; above = above }
   ]
 
-  pub touched_only : (rows none mid touched : Places) → none.list ≡ [] → AreClimbed reach.above reach.names.items base rows → TouchesOnly reach.at_device reach.at_layer base none mid
-      → ((place : ℕ) → Contains touched.list place → Contains mid.list place ⊎ IsAtRow reach.at_device reach.at_layer reach.names.items rows.list place) → (place : ℕ) → Contains touched.list place → IsTouched inputs base place
+  pub touched_only : (rows none mid touched : Places) → none.list ≡ [] → AreClimbed reach.above reach.names.items base rows → TouchesOnly reach.at_device reach.at_l3_device base none mid
+      → ((place : ℕ) → Contains touched.list place → Contains mid.list place ⊎ IsAtRow reach.at_device reach.at_l3_device reach.names.items rows.list place) → (place : ℕ) → Contains touched.list place → IsTouched inputs base place
   touched_only rows none mid touched empty climbed at_base at_rows place inside =
       elim (at_rows place inside) as (λ _. IsTouched inputs base place) [
         | inl before ↦ elim (at_base place before) as (λ _. IsTouched inputs base place) [
@@ -142,13 +142,13 @@ touched_in_order inputs base old new same rising all only = record {
 -- the whole walk
 pub walked : (inputs : Inputs) (reach : Reach) (is : IsReachOf inputs reach) (base : List ℕ) (names : List (List ℕ)) (listed : List ℕ) (rows none mid touched sorted : Places) → names ≡ reach.names.items → listed ≡ rows.list → rows.bound
     ≡ reach.visit.rows.bound → none ≡ record { bound = reach.visit.touched.bound; list = [] } → Leads reach.above base rows
-    → ((place : ℕ) (name : List ℕ) → Contains rows.list place → slice_get names place ≡ Some name → Leads reach.above name rows) → AreClimbed reach.above names base rows → Stays none mid → Touches reach.at_device reach.at_layer base mid
-    → TouchesOnly reach.at_device reach.at_layer base none mid → HasTouched reach.at_device reach.at_layer names listed mid touched → IsPermutation touched.list sorted.list → IsStrictlySortedBy nat_cmp sorted.list
+    → ((place : ℕ) (name : List ℕ) → Contains rows.list place → slice_get names place ≡ Some name → Leads reach.above name rows) → AreClimbed reach.above names base rows → Stays none mid → Touches reach.at_device reach.at_l3_device base mid
+    → TouchesOnly reach.at_device reach.at_l3_device base none mid → HasTouched reach.at_device reach.at_l3_device names listed mid touched → IsPermutation touched.list sorted.list → IsStrictlySortedBy nat_cmp sorted.list
     → AreTouched inputs base sorted.list
 walked inputs reach is base names listed rows none mid touched sorted same told row_bound empty first further climbed stays at_base only_base at_rows order rising =
     touched_in_order inputs base touched.list sorted.list order rising
     (touched_all inputs reach is base rows touched (row_bound ∙ is.row_room) first further_names
-    (still_touches reach.at_device reach.at_layer base mid touched rows_touched.stays at_base) rows_touched.touches
+    (still_touches reach.at_device reach.at_l3_device base mid touched rows_touched.stays at_base) rows_touched.touches
     (rows_touched.stays.bound ∙ stays.bound ∙ ap (λ (s : Places). s.bound) empty ∙ is.place_room))
     (touched_only inputs reach is base rows none mid touched (ap (λ (s : Places). s.list) empty) climbed_names only_base rows_touched.only)
   where
@@ -158,7 +158,7 @@ walked inputs reach is base names listed rows none mid touched sorted same told 
     climbed_names : AreClimbed reach.above reach.names.items base rows
     climbed_names = subst (λ (z : List (List ℕ)). AreClimbed reach.above z base rows) same climbed
 
-    rows_touched : HasTouched reach.at_device reach.at_layer reach.names.items rows.list mid touched
+    rows_touched : HasTouched reach.at_device reach.at_l3_device reach.names.items rows.list mid touched
     rows_touched =
-        subst (λ (z : List (List ℕ)). HasTouched reach.at_device reach.at_layer z rows.list mid touched) same
-        (subst (λ (z : List ℕ). HasTouched reach.at_device reach.at_layer names z mid touched) told at_rows)
+        subst (λ (z : List (List ℕ)). HasTouched reach.at_device reach.at_l3_device z rows.list mid touched) same
+        (subst (λ (z : List ℕ). HasTouched reach.at_device reach.at_l3_device names z mid touched) told at_rows)

@@ -155,68 +155,69 @@ climbed_all above names next rows all climbed place name inside named =
 
 -- ---- touching
 
-pub touches_only : (at_device at_layer : Groups) (name : List ℕ) (old mid new : Places) (first second : List ℕ) → first ≡ group_in at_device name → second ≡ group_in at_layer name → mid ≡ with_places old first → new ≡ with_places mid second
-    → TouchesOnly at_device at_layer name old new
-touches_only at_device at_layer name old mid new first second are told one two place inside =
-    elim (only_with mid new second place two inside) as (λ _. Contains old.list place ⊎ IsAt at_device at_layer name place) [
-      | inl before ↦ elim (only_with old mid first place one before) as (λ _. Contains old.list place ⊎ IsAt at_device at_layer name place) [
+pub touches_only : (at_device at_l3_device : Groups) (name : List ℕ) (old mid new : Places) (first second : List ℕ) → first ≡ group_in at_device name → second ≡ group_in at_l3_device name → mid ≡ with_places old first → new
+    ≡ with_places mid second
+    → TouchesOnly at_device at_l3_device name old new
+touches_only at_device at_l3_device name old mid new first second are told one two place inside =
+    elim (only_with mid new second place two inside) as (λ _. Contains old.list place ⊎ IsAt at_device at_l3_device name place) [
+      | inl before ↦ elim (only_with old mid first place one before) as (λ _. Contains old.list place ⊎ IsAt at_device at_l3_device name place) [
         | inl was ↦ inl was
         | inr device ↦ inr (inl (subst (λ (z : List ℕ). Contains z place) are device))
       ]
-      | inr layer ↦ inr (inr (subst (λ (z : List ℕ). Contains z place) told layer))
+      | inr l3_device ↦ inr (inr (subst (λ (z : List ℕ). Contains z place) told l3_device))
     ]
 
-pub still_touches : (at_device at_layer : Groups) (name : List ℕ) (old new : Places) → Stays old new → Touches at_device at_layer name old → Touches at_device at_layer name new
-still_touches at_device at_layer name old new stays touches = record {
+pub still_touches : (at_device at_l3_device : Groups) (name : List ℕ) (old new : Places) → Stays old new → Touches at_device at_l3_device name old → Touches at_device at_l3_device name new
+still_touches at_device at_l3_device name old new stays touches = record {
   device = still_leads at_device name old new stays touches.device;
-  layer = still_leads at_layer name old new stays touches.layer;
+  l3_device = still_leads at_l3_device name old new stays touches.l3_device;
 }
 
-pub touched_none : (at_device at_layer : Groups) (names : List (List ℕ)) (set : Places) → HasTouched at_device at_layer names [] set set
-touched_none at_device at_layer names set = record {
+pub touched_none : (at_device at_l3_device : Groups) (names : List (List ℕ)) (set : Places) → HasTouched at_device at_l3_device names [] set set
+touched_none at_device at_l3_device names set = record {
   stays = stays_itself set;
   touches = λ row name inside named. absurd (none_in_nil row inside);
   only = λ place inside. inl inside;
 }
 
 -- the rows are one more, of which nothing came
-pub touched_unnamed : (at_device at_layer : Groups) (names : List (List ℕ)) (rows : List ℕ) (row : ℕ) (old new : Places) → slice_get names row ≡ None → HasTouched at_device at_layer names rows old new
-    → HasTouched at_device at_layer names (rows ++ row ∷ []) old new
-touched_unnamed at_device at_layer names rows row old new none was = record {
+pub touched_unnamed : (at_device at_l3_device : Groups) (names : List (List ℕ)) (rows : List ℕ) (row : ℕ) (old new : Places) → slice_get names row ≡ None → HasTouched at_device at_l3_device names rows old new
+    → HasTouched at_device at_l3_device names (rows ++ row ∷ []) old new
+touched_unnamed at_device at_l3_device names rows row old new none was = record {
   stays = was.stays;
   touches = λ other name inside named.
-      elim (Contains-push_cases rows row other inside) as (λ _. Touches at_device at_layer name new) [
+      elim (Contains-push_cases rows row other inside) as (λ _. Touches at_device at_l3_device name new) [
         | inl sooner ↦ was.touches other name sooner named
         | inr same ↦ let both : None ≡ Some name = sym none ∙ ap (slice_get names) same ∙ named in cc both
       ];
   only = λ place inside. later (was.only place inside);
 }
   where
-    later : {place : ℕ} → Contains old.list place ⊎ IsAtRow at_device at_layer names rows place → Contains old.list place ⊎ IsAtRow at_device at_layer names (rows ++ row ∷ []) place
+    later : {place : ℕ} → Contains old.list place ⊎ IsAtRow at_device at_l3_device names rows place → Contains old.list place ⊎ IsAtRow at_device at_l3_device names (rows ++ row ∷ []) place
     later {place} (inl had) = inl had
     later {place} (inr at) = inr (record { row = at.row; member = Contains-append_left rows (row ∷ []) at.row at.member; name = at.name; named = at.named; at = at.at })
 
 -- the rows are one more, and those at its name came
-pub touched_named : (at_device at_layer : Groups) (names : List (List ℕ)) (rows : List ℕ) (row : ℕ) (name : List ℕ) (old mid new : Places) → slice_get names row ≡ Some name → Stays mid new → Touches at_device at_layer name new
-    → TouchesOnly at_device at_layer name mid new → HasTouched at_device at_layer names rows old mid → HasTouched at_device at_layer names (rows ++ row ∷ []) old new
-touched_named at_device at_layer names rows row name old mid new is stays touches only was = record {
+pub touched_named : (at_device at_l3_device : Groups) (names : List (List ℕ)) (rows : List ℕ) (row : ℕ) (name : List ℕ) (old mid new : Places) → slice_get names row ≡ Some name → Stays mid new → Touches at_device at_l3_device name new
+    → TouchesOnly at_device at_l3_device name mid new → HasTouched at_device at_l3_device names rows old mid → HasTouched at_device at_l3_device names (rows ++ row ∷ []) old new
+touched_named at_device at_l3_device names rows row name old mid new is stays touches only was = record {
   stays = stays_then old mid new was.stays stays;
   touches = λ other called inside named.
-      elim (Contains-push_cases rows row other inside) as (λ _. Touches at_device at_layer called new) [
-        | inl sooner ↦ still_touches at_device at_layer called mid new stays (was.touches other called sooner named)
+      elim (Contains-push_cases rows row other inside) as (λ _. Touches at_device at_l3_device called new) [
+        | inl sooner ↦ still_touches at_device at_l3_device called mid new stays (was.touches other called sooner named)
         | inr same ↦
             let both : Some name ≡ Some called = sym is ∙ ap (slice_get names) same ∙ named in
             let one : name ≡ called = cc both in
-            subst (λ (z : List ℕ). Touches at_device at_layer z new) one touches
+            subst (λ (z : List ℕ). Touches at_device at_l3_device z new) one touches
       ];
   only = λ place inside.
-      elim (only place inside) as (λ _. Contains old.list place ⊎ IsAtRow at_device at_layer names (rows ++ row ∷ []) place) [
+      elim (only place inside) as (λ _. Contains old.list place ⊎ IsAtRow at_device at_l3_device names (rows ++ row ∷ []) place) [
         | inl before ↦ later (was.only place before)
         | inr at ↦ inr (record { row = row; member = Contains-push rows row; name = name; named = is; at = at })
       ];
 }
   where
-    later : {place : ℕ} → Contains old.list place ⊎ IsAtRow at_device at_layer names rows place → Contains old.list place ⊎ IsAtRow at_device at_layer names (rows ++ row ∷ []) place
+    later : {place : ℕ} → Contains old.list place ⊎ IsAtRow at_device at_l3_device names rows place → Contains old.list place ⊎ IsAtRow at_device at_l3_device names (rows ++ row ∷ []) place
     later {place} (inl had) = inl had
     later {place} (inr at) = inr (record { row = at.row; member = Contains-append_left rows (row ∷ []) at.row at.member; name = at.name; named = at.named; at = at.at })
 

@@ -13,4 +13,4 @@ pub mod Walk
 -- what reaches what
 pub mod Reach
 -- inputs in which other layer-3 devices are told
-pub mod Layers
+pub mod L3Devices

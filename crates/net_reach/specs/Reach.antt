@@ -22,9 +22,9 @@ use Rattle.net_reach.specs.declared.reach.Reach.{Reach}
 abbrev pub stands_on : Inputs → List ℕ → NameRow → Bool
 stands_on inputs lower row = stands (facts_of inputs) lower row.name
 
--- the device of the latest answer to the open ask of an interface
-abbrev pub told_layer : Inputs → List ℕ → Option (List ℕ)
-told_layer inputs interface =
+-- the device of the latest answer to the open request of an interface
+abbrev pub told_l3_device : Inputs → List ℕ → Option (List ℕ)
+told_l3_device inputs interface =
     option_and_then (λ o. option_and_then (λ answer. answer.device) o.answer)
     (open_interface inputs.interfaces interface)
 
@@ -37,13 +37,13 @@ abbrev pub interface_place : Conf → List ℕ → Option ℕ
 interface_place conf name = place_of (map (λ row. row.name) conf.interfaces) name
 
 -- the device of the latest answer for the row at a place, where it is the first of its name
-abbrev pub layer_at : Inputs → ℕ → InterfaceRow → Option (List ℕ)
-layer_at inputs place row =
-    if is_place place (interface_place inputs.conf row.name) then told_layer inputs row.name else None
+abbrev pub l3_device_at : Inputs → ℕ → InterfaceRow → Option (List ℕ)
+l3_device_at inputs place row =
+    if is_place place (interface_place inputs.conf row.name) then told_l3_device inputs row.name else None
 
 -- a name is the device of the latest answer for the row at a place
-abbrev pub is_at_layer : Inputs → List ℕ → ℕ → InterfaceRow → Bool
-is_at_layer inputs name place row = is_name (layer_at inputs place row) name
+abbrev pub is_at_l3_device : Inputs → List ℕ → ℕ → InterfaceRow → Bool
+is_at_l3_device inputs name place row = is_name (l3_device_at inputs place row) name
 
 -- All is that of the inputs: the places of interfaces, radios, present devices and rows by name; the
 -- names of the rows, and the rows that stand right on a name; the interfaces at a device and at an
@@ -56,7 +56,7 @@ pub record IsReachOf (inputs : Inputs) (reach : Reach) : Type 0 where
   pub names : reach.names.items ≡ names_of inputs.conf
   pub above : HasGroups reach.above (stands_on inputs) inputs.conf.names
   pub at_device : HasGroups reach.at_device (is_at_device inputs) inputs.conf.interfaces
-  pub at_layer : HasMembers reach.at_layer (is_at_layer inputs) inputs.conf.interfaces
+  pub at_l3_device : HasMembers reach.at_l3_device (is_at_l3_device inputs) inputs.conf.interfaces
   pub routes : HasItems reach.routes (is_route_named inputs.conf) inputs.conf.routes
   pub row_room : reach.visit.rows.bound ≡ length inputs.conf.names
   pub place_room : reach.visit.touched.bound ≡ length inputs.conf.interfaces
@@ -67,7 +67,7 @@ pub record IsTouched (inputs : Inputs) (base : List ℕ) (place : ℕ) : Type 0 
   pub row : InterfaceRow
   pub found : slice_get inputs.conf.interfaces place ≡ Some row
   pub name : List ℕ
-  pub at : (is_at_device inputs name row || is_at_layer inputs name place row) ≡ true
+  pub at : (is_at_device inputs name row || is_at_l3_device inputs name place row) ≡ true
   pub above : IsAbove (facts_of inputs) base name
 
 -- the touched places, rising

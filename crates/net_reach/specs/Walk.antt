@@ -29,34 +29,34 @@ AreClimbed above names base set =
 
 -- a place is that of an interface at a name
 abbrev pub IsAt : Groups → Groups → List ℕ → ℕ → Type 0
-IsAt at_device at_layer name place =
-    Contains (group_in at_device name) place ⊎ Contains (group_in at_layer name) place
+IsAt at_device at_l3_device name place =
+    Contains (group_in at_device name) place ⊎ Contains (group_in at_l3_device name) place
 
 -- a set has the interfaces at a name
-pub record Touches (at_device at_layer : Groups) (name : List ℕ) (set : Places) : Type 0 where
+pub record Touches (at_device at_l3_device : Groups) (name : List ℕ) (set : Places) : Type 0 where
   pub device : Leads at_device name set
-  pub layer : Leads at_layer name set
+  pub l3_device : Leads at_l3_device name set
 
 -- what a set has more are interfaces at a name
 abbrev pub TouchesOnly : Groups → Groups → List ℕ → Places → Places → Type 0
-TouchesOnly at_device at_layer name old new =
+TouchesOnly at_device at_l3_device name old new =
     (place : ℕ) → Contains new.list place
-    → Contains old.list place ⊎ IsAt at_device at_layer name place
+    → Contains old.list place ⊎ IsAt at_device at_l3_device name place
 
 -- a place is that of an interface at the name of one of the rows
-pub record IsAtRow (at_device at_layer : Groups) (names : List (List ℕ)) (rows : List ℕ) (place : ℕ)
+pub record IsAtRow (at_device at_l3_device : Groups) (names : List (List ℕ)) (rows : List ℕ) (place : ℕ)
     : Type 0 where
   pub row : ℕ
   pub member : Contains rows row
   pub name : List ℕ
   pub named : slice_get names row ≡ Some name
-  pub at : IsAt at_device at_layer name place
+  pub at : IsAt at_device at_l3_device name place
 
 -- the interfaces at the names of rows came, and nothing else
-pub record HasTouched (at_device at_layer : Groups) (names : List (List ℕ)) (rows : List ℕ)
+pub record HasTouched (at_device at_l3_device : Groups) (names : List (List ℕ)) (rows : List ℕ)
     (old new : Places) : Type 0 where
   pub stays : Stays old new
   pub touches : (row : ℕ) (name : List ℕ) → Contains rows row → slice_get names row ≡ Some name
-      → Touches at_device at_layer name new
+      → Touches at_device at_l3_device name new
   pub only : (place : ℕ) → Contains new.list place
-      → Contains old.list place ⊎ IsAtRow at_device at_layer names rows place
+      → Contains old.list place ⊎ IsAtRow at_device at_l3_device names rows place

@@ -36,7 +36,7 @@ pub(crate) fn interfaces_at(
     Ok(groups)
 }
 
-/// The places of the interfaces whose open ask was last answered with each device.
+/// The places of the interfaces whose open request was last answered with each device.
 pub(crate) fn interfaces_told(
     alloc: Global,
     index: &Index,
@@ -44,12 +44,12 @@ pub(crate) fn interfaces_told(
     rows: &[InterfaceRow],
 ) -> Result<BTreeMap<DevName, Vec<usize>>, Memory>
     requires { IsIndexOf inputs.now index.now }
-    ensures { IfOk result (λ groups. HasMembers groups (spec.is_at_layer inputs.now) rows.now) }
+    ensures { IfOk result (λ groups. HasMembers groups (spec.is_at_l3_device inputs.now) rows.now) }
 {
     let mut groups = BTreeMap::new(alloc);
     for (place, row) in rows.iter().enumerate() {
-        let layer = layer_at(index, inputs, row, place);
-        add_at(alloc, &mut groups, layer, place)?;
+        let l3_device = l3_device_at(index, inputs, row, place);
+        add_at(alloc, &mut groups, l3_device, place)?;
     }
     Ok(groups)
 }
@@ -79,21 +79,21 @@ fn device_of(ports: &RadioPorts, inputs: &Inputs, row: &InterfaceRow) -> Option<
 }
 
 // The answers for a name are those for its first row.
-fn layer_at(index: &Index, inputs: &Inputs, row: &InterfaceRow, place: usize) -> Option<DevName>
+fn l3_device_at(index: &Index, inputs: &Inputs, row: &InterfaceRow, place: usize) -> Option<DevName>
     requires { IsIndexOf inputs.now index.now }
-    ensures { result ≡ spec.layer_at inputs.now place row.now }
+    ensures { result ≡ spec.l3_device_at inputs.now place row.now }
 {
     if !is_first(&index.interfaces, &row.name, place) {
         return None;
     }
-    told_layer(index, inputs, &row.name)
+    told_l3_device(index, inputs, &row.name)
 }
 
-fn told_layer(index: &Index, inputs: &Inputs, interface: &Text) -> Option<DevName>
+fn told_l3_device(index: &Index, inputs: &Inputs, interface: &Text) -> Option<DevName>
     requires { IsIndexOf inputs.now index.now }
-    ensures { result ≡ spec.told_layer inputs.now interface.now }
+    ensures { result ≡ spec.told_l3_device inputs.now interface.now }
 {
-    match index.interface_ask(inputs, interface) {
+    match index.interface_request(inputs, interface) {
         Some(found) => answered_device(&found.answer),
         None => None,
     }

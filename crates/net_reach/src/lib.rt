@@ -6,14 +6,14 @@ mod above;
 mod changes;
 mod groups;
 mod interfaces;
+mod l3_devices;
 mod laws;
-mod layers;
 mod lookups;
 mod place_set;
 mod reach;
 mod routes;
 mod walk;
 
-pub use laws::{answers_tell_layers, devices_come_and_go, reach_stays, steps_that_reach_alike};
+pub use laws::{answers_tell_l3_devices, devices_come_and_go, reach_stays, steps_that_reach_alike};
 pub use place_set::PlaceSet;
 pub use reach::{Reach, Visit};

@@ -9,7 +9,7 @@ ghost use Rattle.net_view.specs.Places.{place_of};
 ghost use Rattle.net_view.specs.RadioPorts.{group_in};
 ghost use Rattle.net_wants.specs.Grouped.{is_route_named};
 ghost use Rattle.net_reach.specs.Groups.{AreMembers};
-ghost use Rattle.net_reach.specs.Reach.{IsReachOf, is_at_layer};
+ghost use Rattle.net_reach.specs.Reach.{IsReachOf, is_at_l3_device};
 
 use crate::groups::places_at;
 use crate::reach::Reach;
@@ -50,12 +50,12 @@ impl Reach {
         place_of_name(&self.rows, name)
     }
 
-    /// The places of the interfaces whose open ask was last answered with a device.
-    pub fn interfaces_told(&self, layer: &DevName) -> &[usize]
+    /// The places of the interfaces whose open request was last answered with a device.
+    pub fn interfaces_told(&self, l3_device: &DevName) -> &[usize]
         ensures { (inputs : Inputs) → IsReachOf inputs self.now
-            → AreMembers result.now (is_at_layer inputs layer.now) inputs.conf.interfaces }
+            → AreMembers result.now (is_at_l3_device inputs l3_device.now) inputs.conf.interfaces }
     {
-        places_at(&self.at_layer, layer)
+        places_at(&self.at_l3_device, l3_device)
     }
 
     /// The places of the routes of an interface that have no fault and are not disabled, in file

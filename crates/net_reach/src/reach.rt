@@ -59,8 +59,8 @@ pub struct Reach {
     pub above: BTreeMap<DevName, Vec<usize>>,
     /// The places of the interfaces whose device is a name.
     pub at_device: BTreeMap<DevName, Vec<usize>>,
-    /// The places of the interfaces whose open ask was last answered with a device.
-    pub at_layer: BTreeMap<DevName, Vec<usize>>,
+    /// The places of the interfaces whose open request was last answered with a device.
+    pub at_l3_device: BTreeMap<DevName, Vec<usize>>,
     /// The places of the routes of an interface, in file order.
     pub routes: BTreeMap<Text, Vec<usize>>,
     pub visit: Visit,
@@ -79,7 +79,7 @@ impl Reach {
             names: Vec::new(alloc),
             above: BTreeMap::new(alloc),
             at_device: BTreeMap::new(alloc),
-            at_layer: BTreeMap::new(alloc),
+            at_l3_device: BTreeMap::new(alloc),
             routes: BTreeMap::new(alloc),
             visit: Visit::new(alloc),
         }
@@ -99,7 +99,7 @@ impl Reach {
         let above = rows_above(alloc, &ports, inputs, name_rows)?;
         let interface_rows = inputs.conf.interfaces.as_slice();
         let at_device = interfaces_at(alloc, &ports, inputs, interface_rows)?;
-        let at_layer = interfaces_told(alloc, &ports.index, inputs, interface_rows)?;
+        let at_l3_device = interfaces_told(alloc, &ports.index, inputs, interface_rows)?;
         let routes = route_places(alloc, inputs, inputs.conf.routes.as_slice())?;
         let visit = Visit::of(alloc, name_rows.len(), interface_rows.len())?;
         let RadioPorts { index, .. } = ports;
@@ -118,7 +118,7 @@ impl Reach {
             names,
             above,
             at_device,
-            at_layer,
+            at_l3_device,
             routes,
             visit,
         })
@@ -136,9 +136,9 @@ impl Reach {
         climb(&mut self.visit.rows, &self.above, names, name);
         let touched = &mut self.visit.touched;
         touched.clear();
-        touch_at(touched, &self.at_device, &self.at_layer, name);
+        touch_at(touched, &self.at_device, &self.at_l3_device, name);
         let rows = self.visit.rows.places();
-        touch_rows(touched, &self.at_device, &self.at_layer, names, rows);
+        touch_rows(touched, &self.at_device, &self.at_l3_device, names, rows);
         touched.sort();
     }
 }

@@ -55,29 +55,29 @@ fn add_above(
 pub(crate) fn touch_at(
     touched: &mut PlaceSet,
     at_device: &BTreeMap<DevName, Vec<usize>>,
-    at_layer: &BTreeMap<DevName, Vec<usize>>,
+    at_l3_device: &BTreeMap<DevName, Vec<usize>>,
     name: &DevName,
 )
     ensures stays { Stays touched.old touched.new }
-    ensures touches { Touches at_device.now at_layer.now name.now touched.new }
-    ensures only { TouchesOnly at_device.now at_layer.now name.now touched.old touched.new }
+    ensures touches { Touches at_device.now at_l3_device.now name.now touched.new }
+    ensures only { TouchesOnly at_device.now at_l3_device.now name.now touched.old touched.new }
 {
     touched.add_all(places_at(at_device, name));
-    touched.add_all(places_at(at_layer, name));
+    touched.add_all(places_at(at_l3_device, name));
 }
 
 /// The interfaces at the names of rows.
 pub(crate) fn touch_rows(
     touched: &mut PlaceSet,
     at_device: &BTreeMap<DevName, Vec<usize>>,
-    at_layer: &BTreeMap<DevName, Vec<usize>>,
+    at_l3_device: &BTreeMap<DevName, Vec<usize>>,
     names: &[DevName],
     rows: &[usize],
 )
-    ensures { HasTouched at_device.now at_layer.now names.now rows.now touched.old touched.new }
+    ensures { HasTouched at_device.now at_l3_device.now names.now rows.now touched.old touched.new }
 {
     for row in rows {
-        touch_row(touched, at_device, at_layer, names, *row);
+        touch_row(touched, at_device, at_l3_device, names, *row);
     }
 }
 
@@ -85,16 +85,17 @@ pub(crate) fn touch_rows(
 fn touch_row(
     touched: &mut PlaceSet,
     at_device: &BTreeMap<DevName, Vec<usize>>,
-    at_layer: &BTreeMap<DevName, Vec<usize>>,
+    at_l3_device: &BTreeMap<DevName, Vec<usize>>,
     names: &[DevName],
     row: usize,
 )
     ensures { (before : Places) (rows : List ℕ)
-        → HasTouched at_device.now at_layer.now names.now rows before touched.old
-        → HasTouched at_device.now at_layer.now names.now (rows ++ row ∷ []) before touched.new }
+        → HasTouched at_device.now at_l3_device.now names.now rows before touched.old
+        → HasTouched at_device.now at_l3_device.now names.now (rows ++ row ∷ []) before
+        touched.new }
 {
     match names.get(row) {
-        Some(name) => touch_at(touched, at_device, at_layer, name),
+        Some(name) => touch_at(touched, at_device, at_l3_device, name),
         None => {}
     }
 }

@@ -1,4 +1,4 @@
--- What look-ups by place and by number tell of names and of open asks.
+-- What look-ups by place and by number tell of names and of open requests.
 use Rattle.std.proofs.Common.{arith, ℕ, ◌≡◌, ◌==◌, List, [], ◌∷◌, map, length, slice_get, Contains, Bool, true, false, cond, Option, Some, None, Bor, refl, ap, sym, subst, ◌∙◌}
 use Rattle.std.specs.Prelude.{is_some, is_none, not}
 use Rattle.std.specs.List.{find}
@@ -19,8 +19,8 @@ use Rattle.net_rules.specs.Rows.{radio_named}
 use Rattle.net_rules.specs.Inputs.{device_in, open_interface, open_radio}
 use Rattle.net_rules.specs.Refusal.{or_else, refused_if, stale_number, wrong_ports, number_of_interface, number_of_radio, radio_refusal}
 use Rattle.known_inputs.specs.Known.{StandOnce}
-use Rattle.known_inputs.specs.Steps.{has_number, ask_of}
-use Rattle.known_inputs.specs.Places.{is_ask_of}
+use Rattle.known_inputs.specs.Steps.{has_number, request_of}
+use Rattle.known_inputs.specs.Places.{is_request_of}
 use Rattle.known_inputs.proofs.FoundLemmas.{found_named}
 use Rattle.net_view.specs.Places.{place_of, named}
 use Rattle.net_view.proofs.PlaceLemmas.{at_place, read_at, place_is_found}
@@ -79,14 +79,15 @@ not_stale given current same =
     let turned : (given == current) ≡ true = grind (arith, nat_tests, same) in
     ap (λ b. refused_if (not b) (refused.Stale given current)) turned
 
-pub number_is_open : (inputs : Inputs) (interface : List ℕ) (number : ℕ) → StandOnce inputs → is_ask_of interface (ask_of inputs number) ≡ true → None ≡ stale_number number (number_of_interface (open_interface inputs.interfaces interface))
-number_is_open inputs interface number stand is = at (ask_of inputs number) refl is
+pub number_is_open : (inputs : Inputs) (interface : List ℕ) (number : ℕ) → StandOnce inputs → is_request_of interface (request_of inputs number) ≡ true → None
+    ≡ stale_number number (number_of_interface (open_interface inputs.interfaces interface))
+number_is_open inputs interface number stand is = at (request_of inputs number) refl is
   where
-    at : (o : Option OpenInterface) → ask_of inputs number ≡ o → is_ask_of interface o ≡ true → None ≡ stale_number number (number_of_interface (open_interface inputs.interfaces interface))
+    at : (o : Option OpenInterface) → request_of inputs number ≡ o → is_request_of interface o ≡ true → None ≡ stale_number number (number_of_interface (open_interface inputs.interfaces interface))
     at None found h = cc h
     at (Some o) found h =
         let passes = found_in (has_number number) inputs.interfaces o found in
-        let asked : open_interface inputs.interfaces interface ≡ Some o = subst (λ n. open_interface inputs.interfaces n ≡ Some o) (bytes_same o.ask.name interface h) (found_named inputs o stand passes.0) in
+        let asked : open_interface inputs.interfaces interface ≡ Some o = subst (λ n. open_interface inputs.interfaces n ≡ Some o) (bytes_same o.request.name interface h) (found_named inputs o stand passes.0) in
         sym (ap (λ other. stale_number number (number_of_interface other)) asked ∙ not_stale number o.number passes.1)
 
 -- ---- radios
@@ -96,14 +97,14 @@ module _ (inputs : Inputs) (radio : List ℕ) (number : ℕ) (ports : List (Opti
   test_is : test ≡ is_none (radio_named inputs.conf radio)
   test_is = told ∙ lacks (λ (row : RadioRow). row.name) inputs.conf.radios radio place is
 
-  abbrev by_ask : Option OpenRadio → Option Refusal
-  by_ask asked = or_else (stale_number number (number_of_radio asked)) (wrong_ports (length ports) asked)
+  abbrev by_request : Option OpenRadio → Option Refusal
+  by_request asked = or_else (stale_number number (number_of_radio asked)) (wrong_ports (length ports) asked)
 
-  by_test : (b : Bool) → test ≡ b → or_else (refused_if b refused.NoRadio) (by_ask (open_radio inputs.radios radio)) ≡ radio_refusal inputs radio number ports
-  by_test b at = ap (λ t. or_else (refused_if t refused.NoRadio) (by_ask (open_radio inputs.radios radio))) (sym at ∙ test_is)
+  by_test : (b : Bool) → test ≡ b → or_else (refused_if b refused.NoRadio) (by_request (open_radio inputs.radios radio)) ≡ radio_refusal inputs radio number ports
+  by_test b at = ap (λ t. or_else (refused_if t refused.NoRadio) (by_request (open_radio inputs.radios radio))) (sym at ∙ test_is)
 
   pub radio_lacks : test ≡ true → Some refused.NoRadio ≡ radio_refusal inputs radio number ports
   radio_lacks none = by_test true none
 
-  pub radio_known : test ≡ false → (asked : Option OpenRadio) → asked ≡ open_radio inputs.radios radio → by_ask asked ≡ radio_refusal inputs radio number ports
-  radio_known some asked found = ap by_ask found ∙ by_test false some
+  pub radio_known : test ≡ false → (asked : Option OpenRadio) → asked ≡ open_radio inputs.radios radio → by_request asked ≡ radio_refusal inputs radio number ports
+  radio_known some asked found = ap by_request found ∙ by_test false some

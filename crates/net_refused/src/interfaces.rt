@@ -1,11 +1,11 @@
-//! Why answers to the asks of interfaces are refused.
+//! Why answers to the requests of interfaces are refused.
 ghost use Rattle.std.specs.Prelude.{◌≡◌, is_none};
 ghost use Rattle.net_rules.specs.declared.inputs.Inputs.{Inputs};
 ghost use Rattle.net_rules.specs.Rows.{interface_named};
 ghost use Rattle.net_rules.specs.Inputs.{open_interface};
 ghost use Rattle.net_rules.specs.Refusal as spec;
-ghost use Rattle.known_inputs.specs.Steps.{ask_of};
-ghost use Rattle.known_inputs.specs.Places.{is_ask_of};
+ghost use Rattle.known_inputs.specs.Steps.{request_of};
+ghost use Rattle.known_inputs.specs.Places.{is_request_of};
 ghost use Rattle.net_reach.specs.Reach.{IsReachOf};
 
 use crate::stale::stale_number;
@@ -14,7 +14,7 @@ use net_reach::Reach;
 use net_rules::{Answer, MOST_IN_ANSWER, OpenInterface, Refusal};
 use plane_io::Text;
 
-/// Why an answer to the ask of an interface is refused, if it is.
+/// Why an answer to the request of an interface is refused, if it is.
 pub fn answer_refusal(
     inputs: &KnownInputs,
     reach: &Reach,
@@ -51,8 +51,8 @@ fn is_too_long(answer: &Answer) -> bool
     (MOST_IN_ANSWER < addresses) | (MOST_IN_ANSWER < routes)
 }
 
-// Why a number is refused that is given for the open ask of an interface. All open asks are looked
-// at where it is stale, to tell theirs.
+// Why a number is refused that is given for the open request of an interface. All open requests are
+// looked at where it is stale, to tell theirs.
 fn number_refusal(inputs: &KnownInputs, interface: &Text, number: u64) -> Option<Refusal>
     ensures { result ≡ spec.stale_number number (spec.number_of_interface
         (open_interface inputs.now.inputs.interfaces interface.now)) }
@@ -64,22 +64,22 @@ fn number_refusal(inputs: &KnownInputs, interface: &Text, number: u64) -> Option
     stale_number(number, open_number(inputs.interfaces(), interface))
 }
 
-// Whether the open ask of that number is one of the interface.
+// Whether the open request of that number is one of the interface.
 fn is_number_of(inputs: &KnownInputs, interface: &Text, number: u64) -> bool
-    ensures { result ≡ is_ask_of interface.now (ask_of inputs.now.inputs number) }
+    ensures { result ≡ is_request_of interface.now (request_of inputs.now.inputs number) }
 {
-    match inputs.ask(number) {
-        Some(asked) => asked.ask.name.as_bytes() == interface.as_bytes(),
+    match inputs.request(number) {
+        Some(asked) => asked.request.name.as_bytes() == interface.as_bytes(),
         None => false,
     }
 }
 
-// The number of the open ask of an interface.
-fn open_number(asks: &[OpenInterface], interface: &Text) -> Option<u64>
-    ensures { result ≡ spec.number_of_interface (open_interface asks.now interface.now) }
+// The number of the open request of an interface.
+fn open_number(requests: &[OpenInterface], interface: &Text) -> Option<u64>
+    ensures { result ≡ spec.number_of_interface (open_interface requests.now interface.now) }
 {
-    for asked in asks {
-        if asked.ask.name.as_bytes() == interface.as_bytes() {
+    for asked in requests {
+        if asked.request.name.as_bytes() == interface.as_bytes() {
             return Some(asked.number);
         }
     }

@@ -1,5 +1,5 @@
 //! Why an event of a device or an answer is refused, looked up: names by the maps of what reaches
-//! what, open asks by their numbers.
+//! what, open requests by their numbers.
 #![tactic(auto)]
 
 mod devices;

@@ -1,4 +1,4 @@
-//! Why answers to the asks of radios are refused.
+//! Why answers to the requests of radios are refused.
 ghost use Rattle.std.specs.Prelude.{◌≡◌, Some};
 ghost use Rattle.std.specs.Option.{option_copied};
 ghost use Rattle.net_rules.specs.Inputs.{open_radio};
@@ -12,7 +12,7 @@ use net_reach::Reach;
 use net_rules::{OpenRadio, Refusal};
 use plane_io::{Items, Text};
 
-/// Why an answer to the ask of a radio is refused, if it is.
+/// Why an answer to the request of a radio is refused, if it is.
 pub fn radio_refusal(
     inputs: &KnownInputs,
     reach: &Reach,
@@ -26,7 +26,7 @@ pub fn radio_refusal(
     if reach.radio_place(radio).is_none() {
         return Some(Refusal::NoRadio);
     }
-    match open_radio_ask(inputs.radios(), radio) {
+    match open_radio_request(inputs.radios(), radio) {
         Some(asked) => asked_refusal(number, ports.as_slice().len() as u64, asked),
         None => stale_number(number, None),
     }
@@ -42,16 +42,16 @@ fn asked_refusal(number: u64, ports: u64, asked: &OpenRadio) -> Option<Refusal>
             current: asked.number,
         });
     }
-    let wanted = asked.ask.rows.as_slice().len() as u64;
+    let wanted = asked.request.rows.as_slice().len() as u64;
     refused_if(ports != wanted, Refusal::WrongPorts { wanted })
 }
 
-// The open ask of a radio.
-fn open_radio_ask<'a>(asks: &'a [OpenRadio], name: &Text) -> Option<&'a OpenRadio>
-    ensures { option_copied result ≡ open_radio asks.now name.now }
+// The open request of a radio.
+fn open_radio_request<'a>(requests: &'a [OpenRadio], name: &Text) -> Option<&'a OpenRadio>
+    ensures { option_copied result ≡ open_radio requests.now name.now }
 {
-    for asked in asks {
-        if asked.ask.name.as_bytes() == name.as_bytes() {
+    for asked in requests {
+        if asked.request.name.as_bytes() == name.as_bytes() {
             return Some(asked);
         }
     }

@@ -13,7 +13,7 @@ pub(crate) fn refused_if(holds: bool, why: Refusal) -> Option<Refusal>
     None
 }
 
-/// A number is stale that is not that of the open ask.
+/// A number is stale that is not that of the open request.
 pub(crate) fn stale_number(given: u64, current: Option<u64>) -> Option<Refusal>
     ensures { result ≡ spec.stale_number given current }
 {

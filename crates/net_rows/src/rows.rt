@@ -59,7 +59,7 @@ pub struct InterfaceRow {
     pub addresses: Items<Cidr>,
     /// `gateway`, then `ip6gw`.
     pub gateways: Items<Addr>,
-    /// What the ask of the row shows.
+    /// What the request of the row shows.
     pub options: Items<Opt>,
     pub faults: Items<RowFault>,
 }

@@ -10,8 +10,8 @@ use Rattle.net_rules.specs.Rows.{is_name, is_plain, interfaces_of, interface_nam
 use Rattle.net_rules.specs.RadioPorts.{device_of}
 use Rattle.net_rules.specs.Standing.{Standing, standing_at, lowers_of}
 use Rattle.net_rules.specs.Available.{is_present, has_carrier, opens, opens_at, available, links, links_at, link}
-use Rattle.net_rules.specs.Interfaces.{is_enabled, has_device, is_claimed, has_link, is_ready, answer_of, layer_of, is_answered_up, serves_layer, is_up}
-use Rattle.net_rules.specs.Need.{interface_ask, interface_need}
+use Rattle.net_rules.specs.Interfaces.{is_enabled, has_device, is_claimed, has_link, is_ready, answer_of, l3_device_of, is_answered_up, serves_l3_device, is_up}
+use Rattle.net_rules.specs.Need.{interface_request, interface_need}
 use Rattle.net_rules.specs.Want.{given_by, given}
 use Rattle.net_rules.proofs.TableLemmas.{found_member}
 use Rattle.net_rules.proofs.OnceLemmas.{found_firsts}
@@ -65,9 +65,9 @@ module _ (facts : Facts) (other : List ℕ → Option Device) (base : List ℕ) 
   linked_off None off = refl
   linked_off (Some device) off = link_off device off
 
-  layer_off : (own o : Option (List ℕ)) → IsOffBase facts base o → serves_layer with_others own o ≡ serves_layer facts own o
-  layer_off own None off = refl
-  layer_off own (Some layer) off = ap (λ b. b && (is_plain facts.conf layer || is_name own layer)) (available_off layer off)
+  l3_device_off : (own o : Option (List ℕ)) → IsOffBase facts base o → serves_l3_device with_others own o ≡ serves_l3_device facts own o
+  l3_device_off own None off = refl
+  l3_device_off own (Some l3_device) off = ap (λ b. b && (is_plain facts.conf l3_device || is_name own l3_device)) (available_off l3_device off)
 
   module _ (row : InterfaceRow) (off : IsOffBase facts base (device_of facts row)) where
     claimed_off : is_claimed with_others row ≡ is_claimed facts row
@@ -79,16 +79,16 @@ module _ (facts : Facts) (other : List ℕ → Option Device) (base : List ℕ) 
         ∙ ap (λ b. is_claimed facts row && (row.force_link || b)) (linked_off (device_of facts row) off)
 
     need_off : interface_need with_others row ≡ interface_need facts row
-    need_off = ap (λ b. cond (b && not (asks_nothing row.proto)) (Some (interface_ask facts row)) None) ready_off
+    need_off = ap (λ b. cond (b && not (asks_nothing row.proto)) (Some (interface_request facts row)) None) ready_off
 
-    module _ (layer : IsOffBase facts base (layer_of facts row)) where
+    module _ (l3_device : IsOffBase facts base (l3_device_of facts row)) where
       up_off : is_up with_others row ≡ is_up facts row
       up_off =
-          ap (λ b. b && (asks_nothing row.proto || (is_answered_up (answer_of facts row) && serves_layer with_others (device_of facts row) (layer_of facts row)))) ready_off
-          ∙ ap (λ b. is_ready facts row && (asks_nothing row.proto || (is_answered_up (answer_of facts row) && b))) (layer_off (device_of facts row) (layer_of facts row) layer)
+          ap (λ b. b && (asks_nothing row.proto || (is_answered_up (answer_of facts row) && serves_l3_device with_others (device_of facts row) (l3_device_of facts row)))) ready_off
+          ∙ ap (λ b. is_ready facts row && (asks_nothing row.proto || (is_answered_up (answer_of facts row) && b))) (l3_device_off (device_of facts row) (l3_device_of facts row) l3_device)
 
       given_off : given with_others row ≡ given facts row
-      given_off = ap (λ b. cond b (given_by facts row (layer_of facts row)) []) up_off
+      given_off = ap (λ b. cond b (given_by facts row (l3_device_of facts row)) []) up_off
 
 -- names that stand alike are above the same
 above_by : (facts other : Facts) → ((name : List ℕ) → standing_at facts name ≡ standing_at other name) → (base name : List ℕ) → IsAbove facts base name → IsAbove other base name
@@ -101,7 +101,7 @@ module _ (before now : Facts) (base : List ℕ) (differs : DiffersAt base before
   same_but = λ i. record {
     conf = differs.conf i;
     device = now.device;
-    command = λ q. differs.command q i;
+    operator_state = λ q. differs.operator_state q i;
     answer = λ q. differs.answer q i;
     ports = λ q. differs.ports q i;
   }
@@ -118,8 +118,8 @@ module _ (before now : Facts) (base : List ℕ) (differs : DiffersAt base before
     ap (λ (f : Facts). link f name) same_but ∙ link_off before now.device base differs.device name off,
   )
 
-  pub places_stay : (row : InterfaceRow) → (device_of now row ≡ device_of before row) × (layer_of now row ≡ layer_of before row)
-  places_stay row = (ap (λ (f : Facts). device_of f row) same_but, ap (λ (f : Facts). layer_of f row) same_but)
+  pub places_stay : (row : InterfaceRow) → (device_of now row ≡ device_of before row) × (l3_device_of now row ≡ l3_device_of before row)
+  places_stay row = (ap (λ (f : Facts). device_of f row) same_but, ap (λ (f : Facts). l3_device_of f row) same_but)
 
   pub needs_off : (row : InterfaceRow) → IsOffBase before base (device_of before row) → (is_claimed now row ≡ is_claimed before row) × (interface_need now row ≡ interface_need before row)
   needs_off row off = (
@@ -127,10 +127,10 @@ module _ (before now : Facts) (base : List ℕ) (differs : DiffersAt base before
     ap (λ (f : Facts). interface_need f row) same_but ∙ need_off before now.device base differs.device row off,
   )
 
-  pub uses_off : (row : InterfaceRow) → IsOffBase before base (device_of before row) → IsOffBase before base (layer_of before row) → (is_up now row ≡ is_up before row) × (given now row ≡ given before row)
-  uses_off row off layer = (
-    ap (λ (f : Facts). is_up f row) same_but ∙ up_off before now.device base differs.device row off layer,
-    ap (λ (f : Facts). given f row) same_but ∙ given_off before now.device base differs.device row off layer,
+  pub uses_off : (row : InterfaceRow) → IsOffBase before base (device_of before row) → IsOffBase before base (l3_device_of before row) → (is_up now row ≡ is_up before row) × (given now row ≡ given before row)
+  uses_off row off l3_device = (
+    ap (λ (f : Facts). is_up f row) same_but ∙ up_off before now.device base differs.device row off l3_device,
+    ap (λ (f : Facts). given f row) same_but ∙ given_off before now.device base differs.device row off l3_device,
   )
 
   module _ (touched : List ℕ → Bool) (apart : (row : InterfaceRow) → Contains (interfaces_of before.conf) row → touched row.name ≡ false → IsOffBase before base (device_of before row)) where

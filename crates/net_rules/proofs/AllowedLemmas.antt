@@ -23,13 +23,13 @@ use Rattle.net_rules.specs.RadioPorts.{device_of}
 use Rattle.net_rules.specs.Standing.{Standing, Broken, Alone, Over, Ports, standing_at}
 use Rattle.net_rules.specs.Sound.{level_at, IsSound, AreOnBridge}
 use Rattle.net_rules.specs.Available.{is_present}
-use Rattle.net_rules.specs.Interfaces.{is_claimed, is_up, layer_of}
+use Rattle.net_rules.specs.Interfaces.{is_claimed, is_up, l3_device_of}
 use Rattle.net_rules.specs.Used.{used}
 use Rattle.net_rules.specs.Want.{want}
 use Rattle.net_rules.specs.Wanted.{IsUsedBridge, IsWantedMaster, IsWantedPortVlan, IsSetOn, IsGiven, IsWanted}
 use Rattle.net_rules.proofs.StandingLemmas.{rises, plain_port, port_no_bridge, bridge_row, bridge_test, one_owner, least_id, most_id, one_vlan, vlan_stands}
 use Rattle.net_rules.proofs.DeviceLemmas.{not_broken, present_alone, absent_over, absent_bridge, used_available, used_by_interface, used_below, name_of_some}
-use Rattle.net_rules.proofs.GivenLemmas.{IsOn, IsOnLayer, on_layer, layer_available}
+use Rattle.net_rules.proofs.GivenLemmas.{IsOn, IsOnL3Device, on_l3_device, l3_device_available}
 use Rattle.net_rules.proofs.WantLemmas.{has_wanted, of_wanted}
 
 number_same : (a b : ℕ) → nat_eq a b ≡ true → a ≡ b
@@ -79,17 +79,17 @@ module _ (facts : Facts) (devices : Devices) (sound : IsSound facts.conf) (same_
       record { mac = (row_at facts.conf.names bridge).mac; held = subst (λ f. Has (want facts) (object.Link bridge (Bridge (row_at facts.conf.names bridge).mac f))) filtering (bridge_wanted bridge ports b) }
 
   -- the layer-3 device of an interface that is up is used
-  layer_used : (o : Object) (w : IsGiven facts o) (on : IsOnLayer facts w.row o) → used facts on.layer ≡ true
-  layer_used o w on =
+  l3_device_used : (o : Object) (w : IsGiven facts o) (on : IsOnL3Device facts w.row o) → used facts on.l3_device ≡ true
+  l3_device_used o w on =
       let row = w.row in
-      used_by_interface facts sound row on.layer w.member (layer_available facts row on.layer on.up on.layer_is)
-      (of_right (is_claimed facts row && is_name (device_of facts row) on.layer) (is_up facts row && is_name (layer_of facts row) on.layer)
-      (of_both (is_up facts row) (is_name (layer_of facts row) on.layer) on.up (name_of_some (layer_of facts row) on.layer on.layer_is)))
+      used_by_interface facts sound row on.l3_device w.member (l3_device_available facts row on.l3_device on.up on.l3_device_is)
+      (of_right (is_claimed facts row && is_name (device_of facts row) on.l3_device) (is_up facts row && is_name (l3_device_of facts row) on.l3_device)
+      (of_both (is_up facts row) (is_name (l3_device_of facts row) on.l3_device) on.up (name_of_some (l3_device_of facts row) on.l3_device on.l3_device_is)))
 
-  layer_up : (o : Object) (dev : List ℕ) → ((layer : List ℕ) → IsOn layer o → dev ≡ layer) → IsGiven facts o → Has (want facts) (object.Up dev)
-  layer_up o dev on_dev w =
-      let on = on_layer facts w.row o w.among in
-      has_wanted facts sound (object.Up dev) (subst (λ name. used facts name ≡ true) (sym (on_dev on.layer on.on)) (layer_used o w on))
+  l3_device_up : (o : Object) (dev : List ℕ) → ((l3_device : List ℕ) → IsOn l3_device o → dev ≡ l3_device) → IsGiven facts o → Has (want facts) (object.Up dev)
+  l3_device_up o dev on_dev w =
+      let on = on_l3_device facts w.row o w.among in
+      has_wanted facts sound (object.Up dev) (subst (λ name. used facts name ≡ true) (sym (on_dev on.l3_device on.on)) (l3_device_used o w on))
 
   supported : (o : Object) → IsWanted facts o → HasSupport devices (want facts) o
   supported (object.Link name (Bridge mac filtering)) w = absent name (absent_bridge facts sound name w.bridge.empty w.ports w.bridge.standing (used_available facts sound name w.bridge.used))
@@ -119,8 +119,8 @@ module _ (facts : Facts) (devices : Devices) (sound : IsSound facts.conf) (same_
     exists name w,
     λ lower id mac held. has_wanted facts sound (object.Up lower) (lower_used name lower id (of_wanted facts sound (object.Link name (Vlan lower id mac)) held).standing w),
   )
-  supported (object.Address dev cidr) w = layer_up (object.Address dev cidr) dev (λ layer on. on) w
-  supported (object.Route r) w = layer_up (object.Route r) r.dev (λ layer on. on) w
+  supported (object.Address dev cidr) w = l3_device_up (object.Address dev cidr) dev (λ l3_device on. on) w
+  supported (object.Route r) w = l3_device_up (object.Route r) r.dev (λ l3_device on. on) w
 
   -- links of one name
   one_kind : (name other : List ℕ) (kind other_kind : LinkKind) → IsWanted facts (object.Link name kind) → IsWanted facts (object.Link other other_kind) → name ≡ other → kind ≡ other_kind

@@ -18,9 +18,9 @@ use Rattle.net_rules.specs.RadioPorts.{device_of, radio_ports}
 use Rattle.net_rules.specs.Standing.{Standing, Broken, Alone, Over, Ports, standing_at, lowers_of, stands}
 use Rattle.net_rules.specs.Sound.{IsSound, AreClosedDown}
 use Rattle.net_rules.specs.Available.{is_present, has_carrier, opens, opens_at, available, links, links_at, link}
-use Rattle.net_rules.specs.Interfaces.{is_enabled, has_device, is_claimed, has_link, is_ready, answer_of, is_answered_up, serves_layer, layer_of, is_up}
+use Rattle.net_rules.specs.Interfaces.{is_enabled, has_device, is_claimed, has_link, is_ready, answer_of, is_answered_up, serves_l3_device, l3_device_of, is_up}
 use Rattle.net_rules.specs.Used.{uses, serves_at, used}
-use Rattle.net_rules.specs.Need.{interface_ask, interface_need}
+use Rattle.net_rules.specs.Need.{interface_request, interface_need}
 use Rattle.net_rules.specs.After.{interface_need_of}
 use Rattle.net_rules.specs.Want.{mtu_of, local_vlan, objects_by, objects_of_row, objects_at, given_by, given, known_names, wanted_list, want}
 use Rattle.net_rules.proofs.ListLemmas.{any_same, in_firsts}
@@ -47,25 +47,25 @@ module _ (facts : Facts) (sound : IsSound facts.conf) (other : List ℕ → Opti
   abbrev of_devices : List (List ℕ)
   of_devices = filter_map (device_of facts) (interfaces_of facts.conf)
 
-  abbrev of_layers : List (List ℕ)
-  of_layers = filter_map (layer_of facts) (interfaces_of facts.conf)
+  abbrev of_l3_devices : List (List ℕ)
+  of_l3_devices = filter_map (l3_device_of facts) (interfaces_of facts.conf)
 
-  unknown : Contains (names_of facts.conf ++ (of_radios ++ (of_devices ++ of_layers))) name → ⊥
-  unknown h = apart (in_firsts (names_of facts.conf ++ (of_radios ++ (of_devices ++ of_layers))) name h)
+  unknown : Contains (names_of facts.conf ++ (of_radios ++ (of_devices ++ of_l3_devices))) name → ⊥
+  unknown h = apart (in_firsts (names_of facts.conf ++ (of_radios ++ (of_devices ++ of_l3_devices))) name h)
 
   no_row : Contains (names_of facts.conf) name → ⊥
-  no_row h = unknown (Contains-append_left (names_of facts.conf) (of_radios ++ (of_devices ++ of_layers)) name h)
+  no_row h = unknown (Contains-append_left (names_of facts.conf) (of_radios ++ (of_devices ++ of_l3_devices)) name h)
 
   no_port : Contains of_radios name → ⊥
-  no_port h = unknown (Contains-append_right (names_of facts.conf) (of_radios ++ (of_devices ++ of_layers)) name (Contains-append_left of_radios (of_devices ++ of_layers) name h))
+  no_port h = unknown (Contains-append_right (names_of facts.conf) (of_radios ++ (of_devices ++ of_l3_devices)) name (Contains-append_left of_radios (of_devices ++ of_l3_devices) name h))
 
   no_device : (row : InterfaceRow) → Contains (interfaces_of facts.conf) row → device_of facts row ≡ Some name → ⊥
-  no_device row member is = unknown (Contains-append_right (names_of facts.conf) (of_radios ++ (of_devices ++ of_layers)) name
-      (Contains-append_right of_radios (of_devices ++ of_layers) name (Contains-append_left of_devices of_layers name (in_filter_map (device_of facts) (interfaces_of facts.conf) row name member is))))
+  no_device row member is = unknown (Contains-append_right (names_of facts.conf) (of_radios ++ (of_devices ++ of_l3_devices)) name
+      (Contains-append_right of_radios (of_devices ++ of_l3_devices) name (Contains-append_left of_devices of_l3_devices name (in_filter_map (device_of facts) (interfaces_of facts.conf) row name member is))))
 
-  no_layer : (row : InterfaceRow) → Contains (interfaces_of facts.conf) row → layer_of facts row ≡ Some name → ⊥
-  no_layer row member is = unknown (Contains-append_right (names_of facts.conf) (of_radios ++ (of_devices ++ of_layers)) name
-      (Contains-append_right of_radios (of_devices ++ of_layers) name (Contains-append_right of_devices of_layers name (in_filter_map (layer_of facts) (interfaces_of facts.conf) row name member is))))
+  no_l3_device : (row : InterfaceRow) → Contains (interfaces_of facts.conf) row → l3_device_of facts row ≡ Some name → ⊥
+  no_l3_device row member is = unknown (Contains-append_right (names_of facts.conf) (of_radios ++ (of_devices ++ of_l3_devices)) name
+      (Contains-append_right of_radios (of_devices ++ of_l3_devices) name (Contains-append_right of_devices of_l3_devices name (in_filter_map (l3_device_of facts) (interfaces_of facts.conf) row name member is))))
 
   -- nothing stands on it
   no_lower : (upper : List ℕ) → Contains (lowers_of (standing_at facts upper)) name → ⊥
@@ -109,9 +109,9 @@ module _ (facts : Facts) (sound : IsSound facts.conf) (other : List ℕ → Opti
   linked_same None other_name = refl
   linked_same (Some device) other_name = link_same device (λ same. other_name (ap Some same))
 
-  layer_same : (own o : Option (List ℕ)) → (o ≡ Some name → ⊥) → serves_layer now own o ≡ serves_layer facts own o
-  layer_same own None other_name = refl
-  layer_same own (Some layer) other_name = ap (λ b. b && (is_plain facts.conf layer || is_name own layer)) (available_same layer (λ same. other_name (ap Some same)))
+  l3_device_same : (own o : Option (List ℕ)) → (o ≡ Some name → ⊥) → serves_l3_device now own o ≡ serves_l3_device facts own o
+  l3_device_same own None other_name = refl
+  l3_device_same own (Some l3_device) other_name = ap (λ b. b && (is_plain facts.conf l3_device || is_name own l3_device)) (available_same l3_device (λ same. other_name (ap Some same)))
 
   claimed_same : (row : InterfaceRow) → Contains (interfaces_of facts.conf) row → is_claimed now row ≡ is_claimed facts row
   claimed_same row member = ap (λ b. is_enabled facts row && b) (device_same row.proto (device_of facts row) (no_device row member))
@@ -123,16 +123,16 @@ module _ (facts : Facts) (sound : IsSound facts.conf) (other : List ℕ → Opti
 
   pub up_same : (row : InterfaceRow) → Contains (interfaces_of facts.conf) row → is_up now row ≡ is_up facts row
   up_same row member =
-      ap (λ b. b && (asks_nothing row.proto || (is_answered_up (answer_of facts row) && serves_layer now (device_of facts row) (layer_of facts row)))) (ready_same row member)
-      ∙ ap (λ b. is_ready facts row && (asks_nothing row.proto || (is_answered_up (answer_of facts row) && b))) (layer_same (device_of facts row) (layer_of facts row) (no_layer row member))
+      ap (λ b. b && (asks_nothing row.proto || (is_answered_up (answer_of facts row) && serves_l3_device now (device_of facts row) (l3_device_of facts row)))) (ready_same row member)
+      ∙ ap (λ b. is_ready facts row && (asks_nothing row.proto || (is_answered_up (answer_of facts row) && b))) (l3_device_same (device_of facts row) (l3_device_of facts row) (no_l3_device row member))
 
   uses_same : (q : List ℕ) (row : InterfaceRow) → Contains (interfaces_of facts.conf) row → uses now q row ≡ uses facts q row
   uses_same q row member =
-      ap (λ b. (b && is_name (device_of facts row) q) || (is_up now row && is_name (layer_of facts row) q)) (claimed_same row member)
-      ∙ ap (λ b. (is_claimed facts row && is_name (device_of facts row) q) || (b && is_name (layer_of facts row) q)) (up_same row member)
+      ap (λ b. (b && is_name (device_of facts row) q) || (is_up now row && is_name (l3_device_of facts row) q)) (claimed_same row member)
+      ∙ ap (λ b. (is_claimed facts row && is_name (device_of facts row) q) || (b && is_name (l3_device_of facts row) q)) (up_same row member)
 
   need_same : (row : InterfaceRow) → Contains (interfaces_of facts.conf) row → interface_need now row ≡ interface_need facts row
-  need_same row member = ap (λ b. cond (b && not (asks_nothing row.proto)) (Some (interface_ask facts row)) None) (ready_same row member)
+  need_same row member = ap (λ b. cond (b && not (asks_nothing row.proto)) (Some (interface_request facts row)) None) (ready_same row member)
 
   need_by : (q : List ℕ) (row : Option InterfaceRow) → interface_named facts.conf q ≡ row → option_and_then (interface_need now) row ≡ option_and_then (interface_need facts) row
   need_by q None is = refl
@@ -146,9 +146,9 @@ module _ (facts : Facts) (sound : IsSound facts.conf) (other : List ℕ → Opti
   not_used = false_of_not (used facts name) (λ h. apart (used_known facts sound name h))
 
   uses_none : (row : InterfaceRow) → Contains (interfaces_of facts.conf) row → uses now name row ≡ true → ⊥
-  uses_none row member h = elim (either (is_claimed now row && is_name (device_of facts row) name) (is_up now row && is_name (layer_of facts row) name) h) as (λ _. ⊥) [
+  uses_none row member h = elim (either (is_claimed now row && is_name (device_of facts row) name) (is_up now row && is_name (l3_device_of facts row) name) h) as (λ _. ⊥) [
     | inl own ↦ no_device row member (of_name (device_of facts row) name (both (is_claimed now row) (is_name (device_of facts row) name) own).1)
-    | inr layer ↦ no_layer row member (of_name (layer_of facts row) name (both (is_up now row) (is_name (layer_of facts row) name) layer).1)
+    | inr l3_device ↦ no_l3_device row member (of_name (l3_device_of facts row) name (both (is_up now row) (is_name (l3_device_of facts row) name) l3_device).1)
   ]
 
   serves_none : serves_at now (used facts) name ≡ true → ⊥
@@ -195,7 +195,7 @@ module _ (facts : Facts) (sound : IsSound facts.conf) (other : List ℕ → Opti
       ∙ ap (λ os. cond (used facts q) os []) (row_same q (row_at facts.conf.names q))
 
   given_same : (row : InterfaceRow) → Contains (interfaces_of facts.conf) row → given now row ≡ given facts row
-  given_same row member = ap (λ b. cond b (given_by facts row (layer_of facts row)) []) (up_same row member)
+  given_same row member = ap (λ b. cond b (given_by facts row (l3_device_of facts row)) []) (up_same row member)
 
   list_same : wanted_list now ≡ wanted_list facts
   list_same =

@@ -7,7 +7,7 @@ use Rattle.net_rules.specs.Facts.{Facts}
 use Rattle.net_rules.specs.Firsts.{firsts}
 use Rattle.net_rules.specs.Rows.{is_name, interfaces_of}
 use Rattle.net_rules.specs.RadioPorts.{device_of}
-use Rattle.net_rules.specs.Interfaces.{is_claimed, is_up, layer_of}
+use Rattle.net_rules.specs.Interfaces.{is_claimed, is_up, l3_device_of}
 use Rattle.net_rules.specs.Used.{uses}
 use Rattle.net_rules.specs.declared.state.InterfaceState.{InterfaceState}
 use Rattle.net_rules.specs.Claims.{uses_by, claims_of}
@@ -18,15 +18,15 @@ use Rattle.net_rules.proofs.MoveLemmas.{count_is, count_beside}
 module _ (facts : Facts) (name : List ℕ) where
   uses_same : (row : InterfaceRow) (st : InterfaceState) → IsStateOf facts row st → uses_by name st ≡ uses facts name row
   uses_same row st is =
-      ap (λ b. (b && is_name st.device name) || (st.is_up && is_name st.layer name)) is.claimed
-      ∙ ap (λ d. (is_claimed facts row && is_name d name) || (st.is_up && is_name st.layer name)) is.device
-      ∙ ap (λ b. (is_claimed facts row && is_name (device_of facts row) name) || (b && is_name st.layer name)) is.up
-      ∙ ap (λ l. (is_claimed facts row && is_name (device_of facts row) name) || (is_up facts row && is_name l name)) is.layer
+      ap (λ b. (b && is_name st.device name) || (st.is_up && is_name st.l3_device name)) is.claimed
+      ∙ ap (λ d. (is_claimed facts row && is_name d name) || (st.is_up && is_name st.l3_device name)) is.device
+      ∙ ap (λ b. (is_claimed facts row && is_name (device_of facts row) name) || (b && is_name st.l3_device name)) is.up
+      ∙ ap (λ l. (is_claimed facts row && is_name (device_of facts row) name) || (is_up facts row && is_name l name)) is.l3_device
 
   idle_uses : (st : InterfaceState) → IsIdle st → uses_by name st ≡ false
   idle_uses st is =
-      ap (λ b. (b && is_name st.device name) || (st.is_up && is_name st.layer name)) is.claimed
-      ∙ ap (λ b. b && is_name st.layer name) is.up
+      ap (λ b. (b && is_name st.device name) || (st.is_up && is_name st.l3_device name)) is.claimed
+      ∙ ap (λ b. b && is_name st.l3_device name) is.up
 
   uses_as : (first : Bool) (row : InterfaceRow) (st : InterfaceState) → IsStateAs first facts row st → cond {A = List ℕ} (uses_by name st) (0 ∷ []) [] ≡ cond first (cond {A = List ℕ} (uses facts name row) (0 ∷ []) []) []
   uses_as true row st is = ap (λ b. cond {A = List ℕ} b (0 ∷ []) []) (uses_same row st is)

@@ -13,7 +13,7 @@ use Rattle.net_rules.specs.RadioPorts.{device_of, radio_ports}
 use Rattle.net_rules.specs.Standing.{Standing, Broken, Alone, Over, Ports, standing_at, lowers_of, stands}
 use Rattle.net_rules.specs.Sound.{level_at, IsSound}
 use Rattle.net_rules.specs.Available.{is_present, has_carrier, opens, opens_at, available, links, links_at, link}
-use Rattle.net_rules.specs.Interfaces.{is_claimed, is_up, layer_of}
+use Rattle.net_rules.specs.Interfaces.{is_claimed, is_up, l3_device_of}
 use Rattle.net_rules.specs.Used.{uses, serves_at, used}
 use Rattle.net_rules.specs.Want.{known_names}
 use Rattle.net_rules.proofs.ListLemmas.{and_same, any_same, in_firsts}
@@ -67,25 +67,25 @@ module _ (facts : Facts) where
   abbrev of_devices : List (List ℕ)
   of_devices = filter_map (device_of facts) (interfaces_of facts.conf)
 
-  abbrev of_layers : List (List ℕ)
-  of_layers = filter_map (layer_of facts) (interfaces_of facts.conf)
+  abbrev of_l3_devices : List (List ℕ)
+  of_l3_devices = filter_map (l3_device_of facts) (interfaces_of facts.conf)
 
-  known : (name : List ℕ) → Contains (names_of facts.conf ++ (of_radios ++ (of_devices ++ of_layers))) name → Contains (known_names facts) name
-  known name h = in_firsts (names_of facts.conf ++ (of_radios ++ (of_devices ++ of_layers))) name h
+  known : (name : List ℕ) → Contains (names_of facts.conf ++ (of_radios ++ (of_devices ++ of_l3_devices))) name → Contains (known_names facts) name
+  known name h = in_firsts (names_of facts.conf ++ (of_radios ++ (of_devices ++ of_l3_devices))) name h
 
   row_known : (name : List ℕ) → Contains (names_of facts.conf) name → Contains (known_names facts) name
-  row_known name h = known name (Contains-append_left (names_of facts.conf) (of_radios ++ (of_devices ++ of_layers)) name h)
+  row_known name h = known name (Contains-append_left (names_of facts.conf) (of_radios ++ (of_devices ++ of_l3_devices)) name h)
 
   radio_known : (name : List ℕ) → Contains of_radios name → Contains (known_names facts) name
-  radio_known name h = known name (Contains-append_right (names_of facts.conf) (of_radios ++ (of_devices ++ of_layers)) name (Contains-append_left of_radios (of_devices ++ of_layers) name h))
+  radio_known name h = known name (Contains-append_right (names_of facts.conf) (of_radios ++ (of_devices ++ of_l3_devices)) name (Contains-append_left of_radios (of_devices ++ of_l3_devices) name h))
 
   device_known : (name : List ℕ) → Contains of_devices name → Contains (known_names facts) name
-  device_known name h = known name (Contains-append_right (names_of facts.conf) (of_radios ++ (of_devices ++ of_layers)) name
-      (Contains-append_right of_radios (of_devices ++ of_layers) name (Contains-append_left of_devices of_layers name h)))
+  device_known name h = known name (Contains-append_right (names_of facts.conf) (of_radios ++ (of_devices ++ of_l3_devices)) name
+      (Contains-append_right of_radios (of_devices ++ of_l3_devices) name (Contains-append_left of_devices of_l3_devices name h)))
 
-  layer_known : (name : List ℕ) → Contains of_layers name → Contains (known_names facts) name
-  layer_known name h = known name (Contains-append_right (names_of facts.conf) (of_radios ++ (of_devices ++ of_layers)) name
-      (Contains-append_right of_radios (of_devices ++ of_layers) name (Contains-append_right of_devices of_layers name h)))
+  l3_device_known : (name : List ℕ) → Contains of_l3_devices name → Contains (known_names facts) name
+  l3_device_known name h = known name (Contains-append_right (names_of facts.conf) (of_radios ++ (of_devices ++ of_l3_devices)) name
+      (Contains-append_right of_radios (of_devices ++ of_l3_devices) name (Contains-append_right of_devices of_l3_devices name h)))
 
 module _ (facts : Facts) (sound : IsSound facts.conf) where
   opens_local : IsLocal (opens_at facts) (rank_down facts.conf)
@@ -150,10 +150,11 @@ module _ (facts : Facts) (sound : IsSound facts.conf) where
         | inl claimed ↦
             let found = from_any (uses facts name) (interfaces_of facts.conf) claimed in
             let row = found.passing in
-            elim (either (is_claimed facts row && is_name (device_of facts row) name) (is_up facts row && is_name (layer_of facts row) name) found.passes) as (λ _. Contains (known_names facts) name) [
+            elim (either (is_claimed facts row && is_name (device_of facts row) name) (is_up facts row && is_name (l3_device_of facts row) name) found.passes) as (λ _. Contains (known_names facts) name) [
               | inl own ↦ device_known facts name (in_filter_map (device_of facts) (interfaces_of facts.conf) row name found.member
                   (of_name (device_of facts row) name (both (is_claimed facts row) (is_name (device_of facts row) name) own).1))
-              | inr over ↦ layer_known facts name (in_filter_map (layer_of facts) (interfaces_of facts.conf) row name found.member (of_name (layer_of facts row) name (both (is_up facts row) (is_name (layer_of facts row) name) over).1))
+              | inr over ↦ l3_device_known facts name (in_filter_map (l3_device_of facts) (interfaces_of facts.conf) row name found.member
+                  (of_name (l3_device_of facts row) name (both (is_up facts row) (is_name (l3_device_of facts row) name) over).1))
             ]
         | inr below ↦
             let found = from_any (λ upper. stands facts name upper && used facts upper) (names_of facts.conf) below in

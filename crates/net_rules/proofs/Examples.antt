@@ -90,7 +90,7 @@ router = record {
 }
 
 abbrev router_with : List (List ℕ × Device) → Inputs
-router_with devices = record { conf = router; devices = devices; commands = []; interfaces = []; radios = []; next = 1 }
+router_with devices = record { conf = router; devices = devices; operator_states = []; interfaces = []; radios = []; next = 1 }
 
 -- the first port and the second device come, the latter without carrier: nobody is asked
 two_devices : wanted_list (facts_of (router_with ((lan1, present true) ∷ (wan, present false) ∷ []))) ≡
@@ -106,11 +106,11 @@ abbrev asked : Inputs
 asked = after loaded (come wan)
 
 -- `wan` comes with carrier, and its handler is asked
-first_ask : notices loaded (come wan) ≡ notice.Interface 1 1 (Some wan) ∷ []
+first_request : notices loaded (come wan) ≡ notice.Interface 1 1 (Some wan) ∷ []
 unfolding after available link by_levels
-first_ask = refl
+first_request = refl
 
--- it goes, and the ask with it; it comes again, and the ask has the next number
+-- it goes, and the request with it; it comes again, and the request has the next number
 dropped : notices asked (event.Device (device.Remove wan)) ≡ notice.Dropped 1 ∷ []
 unfolding after available link by_levels
 dropped = refl
@@ -122,7 +122,7 @@ asked_again = refl
 abbrev address_given : ℕ → Event
 address_given number = event.Answer wan number (record { up = true; device = None; addresses = (v4 192 0 2 5, 24) ∷ []; routes = [] })
 
--- an answer to the open ask gives an address; one to another number changes nothing
+-- an answer to the open request gives an address; one to another number changes nothing
 given_address : wanted_list (facts_of (after asked (address_given 1))) ≡ object.Up wan ∷ object.Address wan (v4 192 0 2 5, 24) ∷ []
 unfolding after available link used by_levels
 given_address = refl
@@ -155,7 +155,7 @@ filtering = record {
   } ∷ [];
 }
 
-one_port : wanted_list (facts_of (record { conf = filtering; devices = (lan1, present true) ∷ []; commands = []; interfaces = []; radios = []; next = 1 })) ≡
+one_port : wanted_list (facts_of (record { conf = filtering; devices = (lan1, present true) ∷ []; operator_states = []; interfaces = []; radios = []; next = 1 })) ≡
     object.Up br0 ∷ object.Link br0 (kind.Bridge None true) ∷ object.Master lan1 br0 ∷ object.Vlan br0 lan1 10 true true ∷ object.Vlan br0 br0 10 false false
     ∷ object.Up lan1 ∷ object.Up br0-10 ∷ object.Link br0-10 (kind.Vlan br0 10 None) ∷ object.Address br0-10 (v4 10 0 10 1, 24) ∷ []
 unfolding available link used by_levels
@@ -218,7 +218,7 @@ abbrev with_names : List NameRow → List InterfaceRow → List (List ℕ × Dev
 with_names names interfaces devices = record {
   conf = record { interfaces = interfaces; devices = []; routes = []; radios = []; names = names; vlans = [] };
   devices = devices;
-  commands = [];
+  operator_states = [];
   interfaces = [];
   radios = [];
   next = 1;
@@ -258,25 +258,25 @@ unfolding available link used by_levels
 over_device = refl
 
 -- the layer-3 device that an answer names serves where it is plain; a bridge that is not the own device does not
-abbrev layer_given : List ℕ → Event
-layer_given layer = event.Answer wan 1 (record { up = true; device = Some layer; addresses = (v4 192 0 2 5, 24) ∷ []; routes = [] })
+abbrev l3_device_given : List ℕ → Event
+l3_device_given l3_device = event.Answer wan 1 (record { up = true; device = Some l3_device; addresses = (v4 192 0 2 5, 24) ∷ []; routes = [] })
 
-abbrev with_layer : Inputs
-with_layer = after (after asked (come lan1)) (come (codes "tun0"))
+abbrev with_l3_device : Inputs
+with_l3_device = after (after asked (come lan1)) (come (codes "tun0"))
 
-plain_layer : wanted_list (facts_of (after with_layer (layer_given (codes "tun0")))) ≡
+plain_l3_device : wanted_list (facts_of (after with_l3_device (l3_device_given (codes "tun0")))) ≡
     object.Up br-lan ∷ object.Link br-lan (kind.Bridge None false) ∷ object.Master lan1 br-lan ∷ object.Up lan1 ∷ object.Up wan ∷ object.Up (codes "tun0")
     ∷ object.Address br-lan (v4 192 168 1 1, 24) ∷ object.Address (codes "tun0") (v4 192 0 2 5, 24) ∷ []
 unfolding after available link used by_levels
-plain_layer = refl
+plain_l3_device = refl
 
-bridge_layer : wanted_list (facts_of (after with_layer (layer_given br-lan))) ≡
+bridge_l3_device : wanted_list (facts_of (after with_l3_device (l3_device_given br-lan))) ≡
     object.Up br-lan ∷ object.Link br-lan (kind.Bridge None false) ∷ object.Master lan1 br-lan ∷ object.Up lan1 ∷ object.Up wan
     ∷ object.Address br-lan (v4 192 168 1 1, 24) ∷ []
 unfolding after available link used by_levels
-bridge_layer = refl
+bridge_l3_device = refl
 
--- rows whose options changed: the ask goes with its answer, and a new one gets a number
+-- rows whose options changed: the request goes with its answer, and a new one gets a number
 abbrev with_options : InterfaceRow → InterfaceRow
 with_options row = record row { options = record { name = codes "hostname"; value = One (codes "r") } ∷ [] }
 
@@ -287,13 +287,13 @@ other_options : notices (after asked (address_given 1)) (event.Load router_with_
 unfolding after available link by_levels
 other_options = refl
 
--- the same rows: the ask stays with its answer
+-- the same rows: the request stays with its answer
 same_rows : after (after asked (address_given 1)) (event.Load router) ≡ after asked (address_given 1)
 unfolding after available link by_levels
 same_rows = refl
 
--- a command is forgotten when its interface is gone
-forgotten : (after (after (after loaded (event.Operator wan false)) (event.Load (record router { interfaces = [] }))) (event.Load router)).commands ≡ []
+-- an operator state is forgotten when its interface is gone
+forgotten : (after (after (after loaded (event.Operator wan false)) (event.Load (record router { interfaces = [] }))) (event.Load router)).operator_states ≡ []
 unfolding after available link by_levels
 forgotten = refl
 
@@ -338,20 +338,21 @@ abbrev two_rows : Conf
 two_rows = record router { interfaces = interface_row wan (codes "dhcp") wan false [] ∷ on_eth0 ∷ []; names = name_row wan Plain 1 ∷ name_row eth0 Plain 1 ∷ [] }
 
 abbrev eth0-9_told : Inputs
-eth0-9_told = after (after (after (after no_inputs (event.Load two_rows)) (come eth0)) (come wan)) (layer_given (codes "eth0.9"))
+eth0-9_told = after (after (after (after no_inputs (event.Load two_rows)) (come eth0)) (come wan)) (l3_device_given (codes "eth0.9"))
 
 without_a_row : footprint_list eth0-9_told (interface_row wan (codes "dhcp") wan false []) ≡ object.Up wan ∷ object.Up eth0 ∷ []
 unfolding after available link used by_levels leads_down
 without_a_row = refl
 
 -- a layer-3 device that is not the own one: both are of the footprint
-own_and_layer : footprint_list (after with_layer (layer_given (codes "tun0"))) (interface_row wan (codes "dhcp") wan false []) ≡
+own_and_l3_device : footprint_list (after with_l3_device (l3_device_given (codes "tun0"))) (interface_row wan (codes "dhcp") wan false []) ≡
     object.Up wan ∷ object.Up (codes "tun0") ∷ object.Address (codes "tun0") (v4 192 0 2 5, 24) ∷ []
 unfolding after available link used by_levels leads_down
-own_and_layer = refl
+own_and_l3_device = refl
 
 -- a bridge below a VLAN is of the footprint, with the VLAN that is set on the bridge itself, but not its ports
-over_bridge : footprint_list (record { conf = filtering; devices = (lan1, present true) ∷ []; commands = []; interfaces = []; radios = []; next = 1 }) (interface_row (codes "x") (codes "static") br0-10 true ((v4 10 0 10 1, 24) ∷ [])) ≡
+over_bridge : footprint_list (record { conf = filtering; devices = (lan1, present true) ∷ []; operator_states = []; interfaces = []; radios = []; next = 1 }) (interface_row (codes "x") (codes "static") br0-10 true ((v4 10 0 10 1, 24) ∷ []))
+    ≡
     object.Up br0 ∷ object.Link br0 (kind.Bridge None true) ∷ object.Vlan br0 br0 10 false false
     ∷ object.Up br0-10 ∷ object.Link br0-10 (kind.Vlan br0 10 None) ∷ object.Address br0-10 (v4 10 0 10 1, 24) ∷ []
 unfolding available link used by_levels leads_down

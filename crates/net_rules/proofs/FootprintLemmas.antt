@@ -24,7 +24,7 @@ use Rattle.net_rules.specs.Rows.{row_at, is_filtering}
 use Rattle.net_rules.specs.RadioPorts.{device_of, radio_ports_of}
 use Rattle.net_rules.specs.Standing.{Standing, Broken, Alone, Over, Ports, standing_at}
 use Rattle.net_rules.specs.Sound.{IsSound}
-use Rattle.net_rules.specs.Interfaces.{layer_of}
+use Rattle.net_rules.specs.Interfaces.{l3_device_of}
 use Rattle.net_rules.specs.Used.{used}
 use Rattle.net_rules.specs.Want.{want, given}
 use Rattle.net_rules.specs.Wanted.{IsUsedBridge, IsWantedPortVlan}
@@ -33,7 +33,7 @@ use Rattle.net_rules.specs.Footprint.{is_down_from, is_below, is_of, footprint, 
 use Rattle.net_rules.proofs.DownLemmas.{down_test, down_joined, down_of_test, standing_lower}
 use Rattle.net_rules.proofs.StandingLemmas.{only}
 use Rattle.net_rules.proofs.DeviceLemmas.{not_broken, present_alone, used_available}
-use Rattle.net_rules.proofs.GivenLemmas.{IsOn, on_layer}
+use Rattle.net_rules.proofs.GivenLemmas.{IsOn, on_l3_device}
 use Rattle.net_rules.proofs.WantLemmas.{has_wanted, of_wanted}
 use Rattle.net_rules.proofs.AllowedLemmas.{lower_used, allowed}
 
@@ -54,13 +54,13 @@ module _ (facts : Facts) where
 
   below_lower : (row : InterfaceRow) (name lower : List ℕ) (id : ℕ) → is_below facts row name ≡ true → standing_at facts name ≡ Over lower id → is_below facts row lower ≡ true
   below_lower row name lower id p is =
-      elim (either (is_down_from facts (device_of facts row) name) (is_down_from facts (layer_of facts row) name) p) as (λ _. is_below facts row lower ≡ true) [
-        | inl own ↦ of_left (is_down_from facts (device_of facts row) lower) (is_down_from facts (layer_of facts row) lower) (from_lower (device_of facts row) name lower id own is)
-        | inr over ↦ of_right (is_down_from facts (device_of facts row) lower) (is_down_from facts (layer_of facts row) lower) (from_lower (layer_of facts row) name lower id over is)
+      elim (either (is_down_from facts (device_of facts row) name) (is_down_from facts (l3_device_of facts row) name) p) as (λ _. is_below facts row lower ≡ true) [
+        | inl own ↦ of_left (is_down_from facts (device_of facts row) lower) (is_down_from facts (l3_device_of facts row) lower) (from_lower (device_of facts row) name lower id own is)
+        | inr over ↦ of_right (is_down_from facts (device_of facts row) lower) (is_down_from facts (l3_device_of facts row) lower) (from_lower (l3_device_of facts row) name lower id over is)
       ]
 
-  below_layer : (row : InterfaceRow) (layer : List ℕ) → layer_of facts row ≡ Some layer → is_below facts row layer ≡ true
-  below_layer row layer is = of_right (is_down_from facts (device_of facts row) layer) (is_down_from facts (layer_of facts row) layer) (subst (λ o. is_down_from facts o layer ≡ true) (sym is) (down_itself layer))
+  below_l3_device : (row : InterfaceRow) (l3_device : List ℕ) → l3_device_of facts row ≡ Some l3_device → is_below facts row l3_device ≡ true
+  below_l3_device row l3_device is = of_right (is_down_from facts (device_of facts row) l3_device) (is_down_from facts (l3_device_of facts row) l3_device) (subst (λ o. is_down_from facts o l3_device ≡ true) (sym is) (down_itself l3_device))
 
 in_footprint : (facts : Facts) (row : InterfaceRow) (o : Object) → Has (want facts) o → is_of facts row o ≡ true → Has (footprint facts row) o
 unfolding footprint
@@ -80,14 +80,14 @@ from_down facts from name device is p = subst (λ o. is_down_from facts o name �
 
 below : (facts : Facts) (row : InterfaceRow) (name : List ℕ) → is_below facts row name ≡ true → IsBelow facts row name
 below facts row name h =
-    elim (either (is_down_from facts (device_of facts row) name) (is_down_from facts (layer_of facts row) name) h) as (λ _. IsBelow facts row name) [
+    elim (either (is_down_from facts (device_of facts row) name) (is_down_from facts (l3_device_of facts row) name) h) as (λ _. IsBelow facts row name) [
       | inl p ↦ let d = down_from facts (device_of facts row) name p in IsBelow.own d.0 d.1 d.2
-      | inr p ↦ let d = down_from facts (layer_of facts row) name p in IsBelow.layer d.0 d.1 d.2
+      | inr p ↦ let d = down_from facts (l3_device_of facts row) name p in IsBelow.l3_device d.0 d.1 d.2
     ]
 
 test_below : (facts : Facts) (row : InterfaceRow) (name : List ℕ) → IsBelow facts row name → is_below facts row name ≡ true
-test_below facts row name (IsBelow.own device is p) = of_left (is_down_from facts (device_of facts row) name) (is_down_from facts (layer_of facts row) name) (from_down facts (device_of facts row) name device is p)
-test_below facts row name (IsBelow.layer device is p) = of_right (is_down_from facts (device_of facts row) name) (is_down_from facts (layer_of facts row) name) (from_down facts (layer_of facts row) name device is p)
+test_below facts row name (IsBelow.own device is p) = of_left (is_down_from facts (device_of facts row) name) (is_down_from facts (l3_device_of facts row) name) (from_down facts (device_of facts row) name device is p)
+test_below facts row name (IsBelow.l3_device device is p) = of_right (is_down_from facts (device_of facts row) name) (is_down_from facts (l3_device_of facts row) name) (from_down facts (l3_device_of facts row) name device is p)
 
 -- in an allowed set
 absent_link : (devices : Devices) (held : Objects) → AreAllowed devices held → (name : List ℕ) (kind : LinkKind) → Has held (object.Link name kind) → kernel.is_present devices name ≡ false
@@ -169,10 +169,10 @@ module _ (facts : Facts) (devices : Devices) (sound : IsSound facts.conf) (same_
   bridge_used bridge port id pvid untagged (IsWantedPortVlan.entry r e set member w) = w.bridge_used.used
   bridge_used bridge port id pvid untagged (IsWantedPortVlan.itself r ports set local b) = b.used
 
-  layer_under : (o : Object) (dev : List ℕ) → ((layer : List ℕ) → IsOn layer o → dev ≡ layer) → used facts dev ≡ true → Contains (given facts row) o → IsUnder facts row dev
-  layer_under o dev on_dev serves h =
-      let on = on_layer facts row o h in
-      record { serves = serves; below = subst (λ n. is_below facts row n ≡ true) (sym (on_dev on.layer on.on)) (below_layer facts row on.layer on.layer_is) }
+  l3_device_under : (o : Object) (dev : List ℕ) → ((l3_device : List ℕ) → IsOn l3_device o → dev ≡ l3_device) → used facts dev ≡ true → Contains (given facts row) o → IsUnder facts row dev
+  l3_device_under o dev on_dev serves h =
+      let on = on_l3_device facts row o h in
+      record { serves = serves; below = subst (λ n. is_below facts row n ≡ true) (sym (on_dev on.l3_device on.on)) (below_l3_device facts row on.l3_device on.l3_device_is) }
 
   up_used : (dev : List ℕ) → Has (want facts) (object.Up dev) → used facts dev ≡ true
   up_used dev h = of_wanted facts sound (object.Up dev) h
@@ -196,9 +196,9 @@ module _ (facts : Facts) (devices : Devices) (sound : IsSound facts.conf) (same_
       ]
   place_of (object.Up name) place h of at = subst (IsUnder facts row) (only name place at) (record { serves = up_used name h; below = of })
   place_of (object.Address dev cidr) place h of at = subst (IsUnder facts row) (only dev place at)
-      (layer_under (object.Address dev cidr) dev (λ layer on. on) (up_used dev ((allowed facts devices sound same_devices).supported (object.Address dev cidr) h)) (among_member (given facts row) (object.Address dev cidr) of))
+      (l3_device_under (object.Address dev cidr) dev (λ l3_device on. on) (up_used dev ((allowed facts devices sound same_devices).supported (object.Address dev cidr) h)) (among_member (given facts row) (object.Address dev cidr) of))
   place_of (object.Route r) place h of at = subst (IsUnder facts row) (only r.dev place at)
-      (layer_under (object.Route r) r.dev (λ layer on. on) (up_used r.dev ((allowed facts devices sound same_devices).supported (object.Route r) h)) (among_member (given facts row) (object.Route r) of))
+      (l3_device_under (object.Route r) r.dev (λ l3_device on. on) (up_used r.dev ((allowed facts devices sound same_devices).supported (object.Route r) h)) (among_member (given facts row) (object.Route r) of))
 
   pub whole_part : (wanted : Objects) → ((o : Object) → Has (footprint facts row) o → Has wanted o) → IsWholePart held wanted (footprint facts row)
   whole_part wanted stays = record {

@@ -13,7 +13,7 @@ use Rattle.net_rules.specs.Facts.{Facts}
 use Rattle.net_rules.specs.Rows.{is_name, is_plain, is_static, asks_nothing, needs_device}
 use Rattle.net_rules.specs.RadioPorts.{device_of}
 use Rattle.net_rules.specs.Available.{available}
-use Rattle.net_rules.specs.Interfaces.{is_enabled, has_device, is_claimed, has_link, is_ready, answer_of, device_or_own, layer_of, serves_layer, is_answered_up, is_up}
+use Rattle.net_rules.specs.Interfaces.{is_enabled, has_device, is_claimed, has_link, is_ready, answer_of, device_or_own, l3_device_of, serves_l3_device, is_answered_up, is_up}
 use Rattle.net_rules.specs.Want.{default_route, of_options, of_answer, is_route_of, of_sections, given_on, given_by, given}
 use Rattle.net_rules.proofs.ListLemmas.{of_cond}
 
@@ -57,18 +57,18 @@ given_is_on facts row dev o h =
     ]
 
 -- an address or a route that an interface gives: it is up, and they are on its layer-3 device
-pub record IsOnLayer (facts : Facts) (row : InterfaceRow) (o : Object) : Type 0 where
+pub record IsOnL3Device (facts : Facts) (row : InterfaceRow) (o : Object) : Type 0 where
   pub up : is_up facts row ≡ true
-  pub layer : List ℕ
-  pub layer_is : layer_of facts row ≡ Some layer
-  pub on : IsOn layer o
+  pub l3_device : List ℕ
+  pub l3_device_is : l3_device_of facts row ≡ Some l3_device
+  pub on : IsOn l3_device o
 
-on_layer_by : (facts : Facts) (row : InterfaceRow) (o : Object) (layer : Option (List ℕ)) → layer_of facts row ≡ layer → is_up facts row ≡ true → Contains (given_by facts row layer) o → IsOnLayer facts row o
-on_layer_by facts row o None is up h = absurd (none_in_nil o h)
-on_layer_by facts row o (Some layer) is up h = record { up = up; layer = layer; layer_is = is; on = given_is_on facts row layer o h }
+on_l3_device_by : (facts : Facts) (row : InterfaceRow) (o : Object) (l3_device : Option (List ℕ)) → l3_device_of facts row ≡ l3_device → is_up facts row ≡ true → Contains (given_by facts row l3_device) o → IsOnL3Device facts row o
+on_l3_device_by facts row o None is up h = absurd (none_in_nil o h)
+on_l3_device_by facts row o (Some l3_device) is up h = record { up = up; l3_device = l3_device; l3_device_is = is; on = given_is_on facts row l3_device o h }
 
-pub on_layer : (facts : Facts) (row : InterfaceRow) (o : Object) → Contains (given facts row) o → IsOnLayer facts row o
-on_layer facts row o h = let parts = of_cond (is_up facts row) (given_by facts row (layer_of facts row)) o h in on_layer_by facts row o (layer_of facts row) refl parts.0 parts.1
+pub on_l3_device : (facts : Facts) (row : InterfaceRow) (o : Object) → Contains (given facts row) o → IsOnL3Device facts row o
+on_l3_device facts row o h = let parts = of_cond (is_up facts row) (given_by facts row (l3_device_of facts row)) o h in on_l3_device_by facts row o (l3_device_of facts row) refl parts.0 parts.1
 
 -- the protocols of whom nobody is asked need a device
 among_five : (a b c d e : Bool) → (a || b) ≡ true → (a || (b || (c || (d || (e || false))))) ≡ true
@@ -80,27 +80,27 @@ nothing_needs : (proto : List ℕ) → asks_nothing proto ≡ true → needs_dev
 nothing_needs proto h = among_five (bytes_eq proto (codes "static")) (bytes_eq proto (codes "none")) (bytes_eq proto (codes "dhcp")) (bytes_eq proto (codes "dhcpv6")) (bytes_eq proto (codes "pppoe")) h
 
 -- the layer-3 device of an interface that is up is available
-needed_device : (facts : Facts) (proto : List ℕ) (device : Option (List ℕ)) (layer : List ℕ) → needs_device proto ≡ true → has_device facts proto device ≡ true → device ≡ Some layer → available facts layer ≡ true
-needed_device facts proto None layer needs has is = cc is
-needed_device facts proto (Some device) layer needs has is = let same : device ≡ layer = cc is in subst (λ n. available facts n ≡ true) same has
+needed_device : (facts : Facts) (proto : List ℕ) (device : Option (List ℕ)) (l3_device : List ℕ) → needs_device proto ≡ true → has_device facts proto device ≡ true → device ≡ Some l3_device → available facts l3_device ≡ true
+needed_device facts proto None l3_device needs has is = cc is
+needed_device facts proto (Some device) l3_device needs has is = let same : device ≡ l3_device = cc is in subst (λ n. available facts n ≡ true) same has
 
 pub up_ready : (facts : Facts) (row : InterfaceRow) → is_up facts row ≡ true → is_ready facts row ≡ true
-up_ready facts row up = (both (is_ready facts row) (asks_nothing row.proto || (is_answered_up (answer_of facts row) && serves_layer facts (device_of facts row) (layer_of facts row))) up).0
+up_ready facts row up = (both (is_ready facts row) (asks_nothing row.proto || (is_answered_up (answer_of facts row) && serves_l3_device facts (device_of facts row) (l3_device_of facts row))) up).0
 
 pub ready_claimed : (facts : Facts) (row : InterfaceRow) → is_ready facts row ≡ true → is_claimed facts row ≡ true
 ready_claimed facts row ready = (both (is_claimed facts row) (row.force_link || has_link facts (device_of facts row)) ready).0
 
-static_layer : (facts : Facts) (row : InterfaceRow) → asks_nothing row.proto ≡ true → layer_of facts row ≡ device_of facts row
-static_layer facts row h = ap (λ b. device_or_own (option_and_then (λ a. a.device) (if b then None else facts.answer row.name)) (device_of facts row)) h
+static_l3_device : (facts : Facts) (row : InterfaceRow) → asks_nothing row.proto ≡ true → l3_device_of facts row ≡ device_of facts row
+static_l3_device facts row h = ap (λ b. device_or_own (option_and_then (λ a. a.device) (if b then None else facts.answer row.name)) (device_of facts row)) h
 
-pub layer_available : (facts : Facts) (row : InterfaceRow) (layer : List ℕ) → is_up facts row ≡ true → layer_of facts row ≡ Some layer → available facts layer ≡ true
-layer_available facts row layer up is =
-    let parts = both (is_ready facts row) (asks_nothing row.proto || (is_answered_up (answer_of facts row) && serves_layer facts (device_of facts row) (layer_of facts row))) up in
-    elim (either (asks_nothing row.proto) (is_answered_up (answer_of facts row) && serves_layer facts (device_of facts row) (layer_of facts row)) parts.1) as (λ _. available facts layer ≡ true) [
-      | inl static ↦ needed_device facts row.proto (device_of facts row) layer (nothing_needs row.proto static)
+pub l3_device_available : (facts : Facts) (row : InterfaceRow) (l3_device : List ℕ) → is_up facts row ≡ true → l3_device_of facts row ≡ Some l3_device → available facts l3_device ≡ true
+l3_device_available facts row l3_device up is =
+    let parts = both (is_ready facts row) (asks_nothing row.proto || (is_answered_up (answer_of facts row) && serves_l3_device facts (device_of facts row) (l3_device_of facts row))) up in
+    elim (either (asks_nothing row.proto) (is_answered_up (answer_of facts row) && serves_l3_device facts (device_of facts row) (l3_device_of facts row)) parts.1) as (λ _. available facts l3_device ≡ true) [
+      | inl static ↦ needed_device facts row.proto (device_of facts row) l3_device (nothing_needs row.proto static)
           (both (is_enabled facts row) (has_device facts row.proto (device_of facts row)) (ready_claimed facts row parts.0)).1
-          (sym (static_layer facts row static) ∙ is)
+          (sym (static_l3_device facts row static) ∙ is)
       | inr asked ↦
-          let serves = (both (is_answered_up (answer_of facts row)) (serves_layer facts (device_of facts row) (layer_of facts row)) asked).1 in
-          (both (available facts layer) (is_plain facts.conf layer || is_name (device_of facts row) layer) (subst (λ o. serves_layer facts (device_of facts row) o ≡ true) is serves)).0
+          let serves = (both (is_answered_up (answer_of facts row)) (serves_l3_device facts (device_of facts row) (l3_device_of facts row)) asked).1 in
+          (both (available facts l3_device) (is_plain facts.conf l3_device || is_name (device_of facts row) l3_device) (subst (λ o. serves_l3_device facts (device_of facts row) o ≡ true) is serves)).0
     ]

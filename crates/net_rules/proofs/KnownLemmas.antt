@@ -53,26 +53,28 @@ module _ (inputs : Inputs) where
   abbrev of_radios : List (List ℕ)
   of_radios = flat_map reach.ports_of inputs.radios
 
-  abbrev of_layers : List (List ℕ)
-  of_layers = filter_map reach.layer_of inputs.interfaces
+  abbrev of_l3_devices : List (List ℕ)
+  of_l3_devices = filter_map reach.l3_device_of inputs.interfaces
 
   row_reached : (name : List ℕ) → Contains (names_of inputs.conf) name → Contains (reached_names inputs) name
-  row_reached name h = Contains-append_left (names_of inputs.conf) (of_devices ++ (of_radios ++ of_layers)) name h
+  row_reached name h = Contains-append_left (names_of inputs.conf) (of_devices ++ (of_radios ++ of_l3_devices)) name h
 
   device_reached : (name : List ℕ) → Contains of_devices name → Contains (reached_names inputs) name
-  device_reached name h = Contains-append_right (names_of inputs.conf) (of_devices ++ (of_radios ++ of_layers)) name (Contains-append_left of_devices (of_radios ++ of_layers) name h)
+  device_reached name h = Contains-append_right (names_of inputs.conf) (of_devices ++ (of_radios ++ of_l3_devices)) name (Contains-append_left of_devices (of_radios ++ of_l3_devices) name h)
 
   radio_reached : (name : List ℕ) → Contains of_radios name → Contains (reached_names inputs) name
-  radio_reached name h = Contains-append_right (names_of inputs.conf) (of_devices ++ (of_radios ++ of_layers)) name (Contains-append_right of_devices (of_radios ++ of_layers) name (Contains-append_left of_radios of_layers name h))
+  radio_reached name h = Contains-append_right (names_of inputs.conf) (of_devices ++ (of_radios ++ of_l3_devices)) name
+      (Contains-append_right of_devices (of_radios ++ of_l3_devices) name (Contains-append_left of_radios of_l3_devices name h))
 
-  layer_reached : (name : List ℕ) → Contains of_layers name → Contains (reached_names inputs) name
-  layer_reached name h = Contains-append_right (names_of inputs.conf) (of_devices ++ (of_radios ++ of_layers)) name (Contains-append_right of_devices (of_radios ++ of_layers) name (Contains-append_right of_radios of_layers name h))
+  l3_device_reached : (name : List ℕ) → Contains of_l3_devices name → Contains (reached_names inputs) name
+  l3_device_reached name h = Contains-append_right (names_of inputs.conf) (of_devices ++ (of_radios ++ of_l3_devices)) name
+      (Contains-append_right of_devices (of_radios ++ of_l3_devices) name (Contains-append_right of_radios of_l3_devices name h))
 
   -- a port of a radio is one that the radio answered
   answered_by : (radio : List ℕ) (o : Option OpenRadio) → open_radio inputs.radios radio ≡ o → (port : List ℕ) → Contains (unwrap_or (option_and_then (λ x. x.ports) o) []) (Some port) → Contains of_radios port
   answered_by radio None is port h = absurd (none_in_nil (Some port) h)
   answered_by radio (Some o) is port h =
-      let found = found_member (λ (x : OpenRadio). x.ask.name) inputs.radios radio o is in
+      let found = found_member (λ (x : OpenRadio). x.request.name) inputs.radios radio o is in
       in_join reach.ports_of inputs.radios o port found.member (in_filter_map (λ (p : Option (List ℕ)). p) (unwrap_or o.ports []) (Some port) port h refl)
 
   answered_reached : (a : AnsweredPort) → Contains (answered_ports (facts_of inputs)) a → Contains of_radios a.port
@@ -124,44 +126,45 @@ module _ (inputs : Inputs) where
   own_reached row member name h = own_by row (within_firsts (λ (r : InterfaceRow). r.name) inputs.conf.interfaces row member) row.device refl name h
 
   -- the layer-3 device of an interface
-  answer_by : (interface : List ℕ) (o : Option OpenInterface) → open_interface inputs.interfaces interface ≡ o → (layer : List ℕ) → option_and_then (λ (a : Answer). a.device) (option_and_then (λ (x : OpenInterface). x.answer) o)
-      ≡ Some layer → Contains of_layers layer
-  answer_by interface None is layer h = cc h
-  answer_by interface (Some o) is layer h =
-      let found = found_member (λ (x : OpenInterface). x.ask.name) inputs.interfaces interface o is in
-      in_filter_map reach.layer_of inputs.interfaces o layer found.member h
+  answer_by : (interface : List ℕ) (o : Option OpenInterface) → open_interface inputs.interfaces interface ≡ o → (l3_device : List ℕ) → option_and_then (λ (a : Answer). a.device) (option_and_then (λ (x : OpenInterface). x.answer) o)
+      ≡ Some l3_device → Contains of_l3_devices l3_device
+  answer_by interface None is l3_device h = cc h
+  answer_by interface (Some o) is l3_device h =
+      let found = found_member (λ (x : OpenInterface). x.request.name) inputs.interfaces interface o is in
+      in_filter_map reach.l3_device_of inputs.interfaces o l3_device found.member h
 
-  answer_reached : (row : InterfaceRow) (b : Bool) (layer : List ℕ) → option_and_then (λ (a : Answer). a.device) (cond b None ((facts_of inputs).answer row.name)) ≡ Some layer → Contains of_layers layer
-  answer_reached row true layer h = cc h
-  answer_reached row false layer h = answer_by row.name (open_interface inputs.interfaces row.name) refl layer h
+  answer_reached : (row : InterfaceRow) (b : Bool) (l3_device : List ℕ) → option_and_then (λ (a : Answer). a.device) (cond b None ((facts_of inputs).answer row.name)) ≡ Some l3_device → Contains of_l3_devices l3_device
+  answer_reached row true l3_device h = cc h
+  answer_reached row false l3_device h = answer_by row.name (open_interface inputs.interfaces row.name) refl l3_device h
 
-  layer_by : (row : InterfaceRow) → Contains (interfaces_of inputs.conf) row → (answered : Option (List ℕ)) → option_and_then (λ (a : Answer). a.device) (answer_of (facts_of inputs) row) ≡ answered → (name : List ℕ)
+  l3_device_by : (row : InterfaceRow) → Contains (interfaces_of inputs.conf) row → (answered : Option (List ℕ)) → option_and_then (λ (a : Answer). a.device) (answer_of (facts_of inputs) row) ≡ answered → (name : List ℕ)
       → device_or_own answered (device_of (facts_of inputs) row) ≡ Some name → Contains (reached_names inputs) name
-  layer_by row member None is name h = own_reached row member name h
-  layer_by row member (Some layer) is name h = layer_reached name (answer_reached row (asks_nothing row.proto) name (is ∙ h))
+  l3_device_by row member None is name h = own_reached row member name h
+  l3_device_by row member (Some l3_device) is name h = l3_device_reached name (answer_reached row (asks_nothing row.proto) name (is ∙ h))
 
   known_cases : (name : List ℕ) → Contains (names_of inputs.conf
-      ++ (map (λ j. j.port) (radio_ports (facts_of inputs)) ++ (filter_map (device_of (facts_of inputs)) (interfaces_of inputs.conf) ++ filter_map (interfaces.layer_of (facts_of inputs)) (interfaces_of inputs.conf)))) name
+      ++ (map (λ j. j.port) (radio_ports (facts_of inputs)) ++ (filter_map (device_of (facts_of inputs)) (interfaces_of inputs.conf) ++ filter_map (interfaces.l3_device_of (facts_of inputs)) (interfaces_of inputs.conf)))) name
       → Contains (reached_names inputs) name
   known_cases name h = elim (Contains-append_cases (names_of inputs.conf)
-      (map (λ j. j.port) (radio_ports (facts_of inputs)) ++ (filter_map (device_of (facts_of inputs)) (interfaces_of inputs.conf) ++ filter_map (interfaces.layer_of (facts_of inputs)) (interfaces_of inputs.conf))) name h) as
+      (map (λ j. j.port) (radio_ports (facts_of inputs)) ++ (filter_map (device_of (facts_of inputs)) (interfaces_of inputs.conf) ++ filter_map (interfaces.l3_device_of (facts_of inputs)) (interfaces_of inputs.conf))) name h) as
       (λ _. Contains (reached_names inputs) name) [
         | inl row ↦ row_reached name row
         | inr others ↦ elim (Contains-append_cases (map (λ j. j.port) (radio_ports (facts_of inputs)))
-            (filter_map (device_of (facts_of inputs)) (interfaces_of inputs.conf) ++ filter_map (interfaces.layer_of (facts_of inputs)) (interfaces_of inputs.conf)) name others) as (λ _. Contains (reached_names inputs) name) [
+            (filter_map (device_of (facts_of inputs)) (interfaces_of inputs.conf) ++ filter_map (interfaces.l3_device_of (facts_of inputs)) (interfaces_of inputs.conf)) name others) as (λ _. Contains (reached_names inputs) name) [
               | inl port ↦ port_reached name port
-              | inr behind ↦ elim (Contains-append_cases (filter_map (device_of (facts_of inputs)) (interfaces_of inputs.conf)) (filter_map (interfaces.layer_of (facts_of inputs)) (interfaces_of inputs.conf)) name behind) as
+              | inr behind ↦ elim (Contains-append_cases (filter_map (device_of (facts_of inputs)) (interfaces_of inputs.conf)) (filter_map (interfaces.l3_device_of (facts_of inputs)) (interfaces_of inputs.conf)) name behind) as
                   (λ _. Contains (reached_names inputs) name) [
                     | inl own ↦ let from = from_filter_map (device_of (facts_of inputs)) (interfaces_of inputs.conf) name own in own_reached from.source from.member name from.gives
-                    | inr layer ↦ let from = from_filter_map (interfaces.layer_of (facts_of inputs)) (interfaces_of inputs.conf) name layer in
-                        layer_by from.source from.member (option_and_then (λ (a : Answer). a.device) (answer_of (facts_of inputs) from.source)) refl name from.gives
+                    | inr l3_device ↦ let from = from_filter_map (interfaces.l3_device_of (facts_of inputs)) (interfaces_of inputs.conf) name l3_device in
+                        l3_device_by from.source from.member (option_and_then (λ (a : Answer). a.device) (answer_of (facts_of inputs) from.source)) refl name from.gives
                   ]
             ]
       ]
 
   pub known_reached : (name : List ℕ) → Contains (known_names (facts_of inputs)) name → Contains (reached_names inputs) name
   known_reached name h = known_cases name (within_firsts (λ (n : List ℕ). n)
-      (names_of inputs.conf ++ (map (λ j. j.port) (radio_ports (facts_of inputs)) ++ (filter_map (device_of (facts_of inputs)) (interfaces_of inputs.conf) ++ filter_map (interfaces.layer_of (facts_of inputs)) (interfaces_of inputs.conf))))
+      (names_of inputs.conf ++ (map (λ j. j.port) (radio_ports (facts_of inputs))
+      ++ (filter_map (device_of (facts_of inputs)) (interfaces_of inputs.conf) ++ filter_map (interfaces.l3_device_of (facts_of inputs)) (interfaces_of inputs.conf))))
       name h)
 
   pub reached_test : (name : List ℕ) → Contains (reached_names inputs) name → is_reached inputs name ≡ true

@@ -13,7 +13,7 @@ pub mod TableLemmas
 pub mod MomentLemmas
 pub mod OnceLemmas
 pub mod SameLemmas
-pub mod AskLemmas
+pub mod RequestLemmas
 pub mod AfterLemmas
 pub mod ReachedLemmas
 pub mod FreshLemmas

@@ -119,7 +119,7 @@ devices_follow es (device.Carrier name on) =
     set_map : (m : Devices) (name : List ℕ) (on : Bool) (q : List ℕ) → cond (bytes_eq name q) (option_map (with_carrier on) (map.get m q)) (map.get m q) ≡ map.get (after_event m (device.Carrier name on)) q
     set_map m name on q = set_found m name on q (map.get m name) refl (bytes_eq name q) refl
 
--- the fields that the steps of asks leave
+-- the fields that the steps of requests leave
 abbrev pub conf_after : Inputs → Event → Conf
 conf_after inputs (event.Load conf) = conf
 conf_after inputs _ = inputs.conf

@@ -7,13 +7,13 @@ use Rattle.net_rows.specs.declared.rows.Conf.{Conf}
 use Rattle.net_rows.specs.declared.rows.InterfaceRow.{InterfaceRow}
 use Rattle.net_rows.specs.declared.rows.RadioRow.{RadioRow}
 use Rattle.net_rules.specs.declared.answer.Answer.{Answer}
-use Rattle.net_rules.specs.declared.ask.InterfaceAsk.{InterfaceAsk}
-use Rattle.net_rules.specs.declared.ask.RadioAsk.{RadioAsk}
+use Rattle.net_rules.specs.declared.request.InterfaceRequest.{InterfaceRequest}
+use Rattle.net_rules.specs.declared.request.RadioRequest.{RadioRequest}
 use Rattle.net_rules.specs.Facts.{Facts}
 use Rattle.net_rules.specs.Rows.{asks_nothing, interface_named, radio_named, interfaces_of, radios_of}
 use Rattle.net_rules.specs.Available.{available, link}
 use Rattle.net_rules.specs.Interfaces.{is_ready}
-use Rattle.net_rules.specs.Need.{interface_ask, interface_need, radio_ask, radio_need}
+use Rattle.net_rules.specs.Need.{interface_request, interface_need, radio_request, radio_need}
 use Rattle.net_rules.specs.After.{interface_need_of, radio_need_of}
 use Rattle.net_rules.proofs.TableLemmas.{found_in, found_member}
 use Rattle.net_rules.proofs.OnceLemmas.{AreOnce, found_firsts, once_firsts, found_given, once_given}
@@ -31,33 +31,33 @@ pub same_need_of : (facts : Facts) (answer : List ℕ → Option Answer) (name :
 same_need_of facts answer name = same_need_by facts answer (interface_named facts.conf name)
 
 -- a need has the name of its row
-interface_ask_named : (facts : Facts) (row : InterfaceRow) (b : Bool) (ask : InterfaceAsk) → cond b (Some (interface_ask facts row)) None ≡ Some ask → ask.name ≡ row.name
-interface_ask_named facts row true ask h = let same : interface_ask facts row ≡ ask = cc h in ap (λ a. a.name) (sym same)
-interface_ask_named facts row false ask h = cc h
+interface_request_named : (facts : Facts) (row : InterfaceRow) (b : Bool) (request : InterfaceRequest) → cond b (Some (interface_request facts row)) None ≡ Some request → request.name ≡ row.name
+interface_request_named facts row true request h = let same : interface_request facts row ≡ request = cc h in ap (λ a. a.name) (sym same)
+interface_request_named facts row false request h = cc h
 
-pub interface_named_as : (facts : Facts) (row : InterfaceRow) (ask : InterfaceAsk) → interface_need facts row ≡ Some ask → ask.name ≡ row.name
-interface_named_as facts row ask h = interface_ask_named facts row (is_ready facts row && not (asks_nothing row.proto)) ask h
+pub interface_named_as : (facts : Facts) (row : InterfaceRow) (request : InterfaceRequest) → interface_need facts row ≡ Some request → request.name ≡ row.name
+interface_named_as facts row request h = interface_request_named facts row (is_ready facts row && not (asks_nothing row.proto)) request h
 
-radio_ask_named : (row : RadioRow) (b : Bool) (ask : RadioAsk) → cond b (Some (radio_ask row)) None ≡ Some ask → ask.name ≡ row.name
-radio_ask_named row true ask h = let same : radio_ask row ≡ ask = cc h in ap (λ a. a.name) (sym same)
-radio_ask_named row false ask h = cc h
+radio_request_named : (row : RadioRow) (b : Bool) (request : RadioRequest) → cond b (Some (radio_request row)) None ≡ Some request → request.name ≡ row.name
+radio_request_named row true request h = let same : radio_request row ≡ request = cc h in ap (λ a. a.name) (sym same)
+radio_request_named row false request h = cc h
 
-pub radio_named_as : (row : RadioRow) (ask : RadioAsk) → radio_need row ≡ Some ask → ask.name ≡ row.name
-radio_named_as row ask h = radio_ask_named row (not row.disabled && list_any (λ r. not r.disabled) row.rows) ask h
+pub radio_named_as : (row : RadioRow) (request : RadioRequest) → radio_need row ≡ Some request → request.name ≡ row.name
+radio_named_as row request h = radio_request_named row (not row.disabled && list_any (λ r. not r.disabled) row.rows) request h
 
-named_by_interface : (facts : Facts) (name : List ℕ) (row : Option InterfaceRow) → interface_named facts.conf name ≡ row → (ask : InterfaceAsk) → option_and_then (interface_need facts) row ≡ Some ask → ask.name ≡ name
-named_by_interface facts name None is ask h = cc h
-named_by_interface facts name (Some row) is ask h = interface_named_as facts row ask h ∙ (found_member (λ r. r.name) facts.conf.interfaces name row is).same
+named_by_interface : (facts : Facts) (name : List ℕ) (row : Option InterfaceRow) → interface_named facts.conf name ≡ row → (request : InterfaceRequest) → option_and_then (interface_need facts) row ≡ Some request → request.name ≡ name
+named_by_interface facts name None is request h = cc h
+named_by_interface facts name (Some row) is request h = interface_named_as facts row request h ∙ (found_member (λ r. r.name) facts.conf.interfaces name row is).same
 
-pub interface_need_named : (facts : Facts) (name : List ℕ) (ask : InterfaceAsk) → interface_need_of facts name ≡ Some ask → ask.name ≡ name
-interface_need_named facts name ask h = named_by_interface facts name (interface_named facts.conf name) refl ask h
+pub interface_need_named : (facts : Facts) (name : List ℕ) (request : InterfaceRequest) → interface_need_of facts name ≡ Some request → request.name ≡ name
+interface_need_named facts name request h = named_by_interface facts name (interface_named facts.conf name) refl request h
 
-named_by_radio : (conf : Conf) (name : List ℕ) (row : Option RadioRow) → radio_named conf name ≡ row → (ask : RadioAsk) → option_and_then radio_need row ≡ Some ask → ask.name ≡ name
-named_by_radio conf name None is ask h = cc h
-named_by_radio conf name (Some row) is ask h = radio_named_as row ask h ∙ (found_member (λ r. r.name) conf.radios name row is).same
+named_by_radio : (conf : Conf) (name : List ℕ) (row : Option RadioRow) → radio_named conf name ≡ row → (request : RadioRequest) → option_and_then radio_need row ≡ Some request → request.name ≡ name
+named_by_radio conf name None is request h = cc h
+named_by_radio conf name (Some row) is request h = radio_named_as row request h ∙ (found_member (λ r. r.name) conf.radios name row is).same
 
-pub radio_need_named : (conf : Conf) (name : List ℕ) (ask : RadioAsk) → radio_need_of conf name ≡ Some ask → ask.name ≡ name
-radio_need_named conf name ask h = named_by_radio conf name (radio_named conf name) refl ask h
+pub radio_need_named : (conf : Conf) (name : List ℕ) (request : RadioRequest) → radio_need_of conf name ≡ Some request → request.name ≡ name
+radio_need_named conf name request h = named_by_radio conf name (radio_named conf name) refl request h
 
 -- the listed needs are those by name
 pub interface_needs_found : (facts : Facts) (name : List ℕ) → found_in (λ a. a.name) (filter_map (interface_need facts) (interfaces_of facts.conf)) name ≡ interface_need_of facts name

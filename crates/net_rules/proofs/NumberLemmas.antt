@@ -5,8 +5,8 @@ use Rattle.std.specs.List.{filter_map, cons_option}
 use Rattle.std.proofs.lemmas.List.Elements.{Contains-append_cases}
 use Rattle.kern_model.proofs.MemberLemmas.{here, there, first_or_later, none_in_nil}
 use Rattle.net_rules.specs.declared.answer.Answer.{Answer}
-use Rattle.net_rules.specs.declared.ask.InterfaceAsk.{InterfaceAsk}
-use Rattle.net_rules.specs.declared.ask.RadioAsk.{RadioAsk}
+use Rattle.net_rules.specs.declared.request.InterfaceRequest.{InterfaceRequest}
+use Rattle.net_rules.specs.declared.request.RadioRequest.{RadioRequest}
 use Rattle.net_rules.specs.declared.inputs.Inputs.{Inputs}
 use Rattle.net_rules.specs.declared.inputs.OpenInterface.{OpenInterface}
 use Rattle.net_rules.specs.declared.inputs.OpenRadio.{OpenRadio}
@@ -16,7 +16,7 @@ use Rattle.net_rules.specs.Firsts.{firsts}
 use Rattle.net_rules.specs.Rows.{interfaces_of, radios_of}
 use Rattle.net_rules.specs.Inputs.{facts_of, open_interface, open_radio}
 use Rattle.net_rules.specs.Need.{interface_need, radio_need}
-use Rattle.net_rules.specs.After.{answered_interface, answered_radio, changed, radios_dropped, interfaces_dropped, new_interface_asks, new_radio_asks, opened_interfaces, opened_radios, asked, after}
+use Rattle.net_rules.specs.After.{answered_interface, answered_radio, changed, radios_dropped, interfaces_dropped, new_interface_requests, new_radio_requests, opened_interfaces, opened_radios, asked, after}
 use Rattle.net_rules.specs.Fresh.{IsReached}
 use Rattle.net_rules.specs.Numbers.{AreRising, interface_numbers, radio_numbers, AreNumbered}
 
@@ -60,11 +60,11 @@ filtered_member number p (o ∷ os) n h = elim (first_kept number (p o) o (filte
 ]
 
 -- the opened ones
-interfaces_rise : (next : ℕ) (asks : List InterfaceAsk) (bound : ℕ) → next + length asks ≡ bound → AreRising next bound (map (λ o. o.number) (opened_interfaces next asks))
+interfaces_rise : (next : ℕ) (requests : List InterfaceRequest) (bound : ℕ) → next + length requests ≡ bound → AreRising next bound (map (λ o. o.number) (opened_interfaces next requests))
 interfaces_rise next [] bound e = tt
 interfaces_rise next (a ∷ others) bound e = (omega arith, omega arith, interfaces_rise (next + 1) others bound (omega arith))
 
-radios_rise : (next : ℕ) (asks : List RadioAsk) (bound : ℕ) → next + length asks ≡ bound → AreRising next bound (map (λ o. o.number) (opened_radios next asks))
+radios_rise : (next : ℕ) (requests : List RadioRequest) (bound : ℕ) → next + length requests ≡ bound → AreRising next bound (map (λ o. o.number) (opened_radios next requests))
 radios_rise next [] bound e = tt
 radios_rise next (a ∷ others) bound e = (omega arith, omega arith, radios_rise (next + 1) others bound (omega arith))
 
@@ -77,16 +77,16 @@ module _ (inputs : Inputs) (least_next : 1 ≤ inputs.next) (numbered : AreNumbe
   dropped = interfaces_dropped (radios_dropped inputs)
 
   abbrev new_interfaces : List OpenInterface
-  new_interfaces = opened_interfaces inputs.next (new_interface_asks dropped)
+  new_interfaces = opened_interfaces inputs.next (new_interface_requests dropped)
 
   abbrev middle : ℕ
-  middle = inputs.next + length (new_interface_asks dropped)
+  middle = inputs.next + length (new_interface_requests dropped)
 
   abbrev new_radios : List OpenRadio
-  new_radios = opened_radios middle (new_radio_asks dropped)
+  new_radios = opened_radios middle (new_radio_requests dropped)
 
   abbrev last : ℕ
-  last = middle + length (new_radio_asks dropped)
+  last = middle + length (new_radio_requests dropped)
 
   interfaces_left : AreRising 1 inputs.next (map (λ o. o.number) dropped.interfaces)
   interfaces_left = filtered (λ o. o.number) _ inputs.interfaces 1 inputs.next numbered.interfaces
@@ -95,10 +95,10 @@ module _ (inputs : Inputs) (least_next : 1 ≤ inputs.next) (numbered : AreNumbe
   radios_left = filtered (λ o. o.number) _ inputs.radios 1 inputs.next numbered.radios
 
   interfaces_new : AreRising inputs.next middle (map (λ o. o.number) new_interfaces)
-  interfaces_new = interfaces_rise inputs.next (new_interface_asks dropped) middle refl
+  interfaces_new = interfaces_rise inputs.next (new_interface_requests dropped) middle refl
 
   radios_new : AreRising middle last (map (λ o. o.number) new_radios)
-  radios_new = radios_rise middle (new_radio_asks dropped) last refl
+  radios_new = radios_rise middle (new_radio_requests dropped) last refl
 
   all_interfaces : AreRising 1 last (map (λ o. o.number) (dropped.interfaces ++ new_interfaces))
   all_interfaces = subst (AreRising 1 last) (sym (map_behind (λ o. o.number) dropped.interfaces new_interfaces))
@@ -139,14 +139,14 @@ same_numbers number f same [] = refl
 same_numbers number f same (o ∷ os) = ap (λ n. n ∷ map number (map f os)) (same o) ∙ ap (λ ns. number o ∷ ns) (same_numbers number f same os)
 
 interface_number : (interface : List ℕ) (number : ℕ) (answer : Answer) (o : OpenInterface) → (answered_interface interface number answer o).number ≡ o.number
-interface_number interface number answer o = by_test (bytes_eq o.ask.name interface && (o.number == number))
+interface_number interface number answer o = by_test (bytes_eq o.request.name interface && (o.number == number))
   where
     by_test : (b : Bool) → (cond b (record o { answer = Some answer }) o).number ≡ o.number
     by_test true = refl
     by_test false = refl
 
 radio_number : (radio : List ℕ) (number : ℕ) (ports : List (Option (List ℕ))) (o : OpenRadio) → (answered_radio radio number ports o).number ≡ o.number
-radio_number radio number ports o = by_test (bytes_eq o.ask.name radio && (o.number == number))
+radio_number radio number ports o = by_test (bytes_eq o.request.name radio && (o.number == number))
   where
     by_test : (b : Bool) → (cond b (record o { ports = Some ports }) o).number ≡ o.number
     by_test true = refl
@@ -203,18 +203,18 @@ few_firsts key (x ∷ xs) =
     let few = few_filtered (λ y. not (bytes_eq (key y) (key x))) (firsts key xs) in
     omega arith
 
-few_interfaces : (inputs : Inputs) → length (new_interface_asks inputs) ≤ length inputs.conf.interfaces
+few_interfaces : (inputs : Inputs) → length (new_interface_requests inputs) ≤ length inputs.conf.interfaces
 few_interfaces inputs =
     let needs = filter_map (interface_need (facts_of inputs)) (interfaces_of inputs.conf) in
-    let new = few_filtered (λ ask. is_none (open_interface inputs.interfaces ask.name)) needs in
+    let new = few_filtered (λ request. is_none (open_interface inputs.interfaces request.name)) needs in
     let given = few_given (interface_need (facts_of inputs)) (interfaces_of inputs.conf) in
     let rows = few_firsts (λ row. row.name) inputs.conf.interfaces in
     omega arith
 
-few_radios : (inputs : Inputs) → length (new_radio_asks inputs) ≤ length inputs.conf.radios
+few_radios : (inputs : Inputs) → length (new_radio_requests inputs) ≤ length inputs.conf.radios
 few_radios inputs =
     let needs = filter_map radio_need (radios_of inputs.conf) in
-    let new = few_filtered (λ ask. is_none (open_radio inputs.radios ask.name)) needs in
+    let new = few_filtered (λ request. is_none (open_radio inputs.radios request.name)) needs in
     let given = few_given radio_need (radios_of inputs.conf) in
     let rows = few_firsts (λ row. row.name) inputs.conf.radios in
     omega arith

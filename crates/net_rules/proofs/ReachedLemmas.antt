@@ -11,7 +11,7 @@ use Rattle.kern_model.proofs.MemberLemmas.{here, there}
 use Rattle.kern_model.proofs.TestLemmas.{both, bytes_same}
 use Rattle.net_rules.specs.declared.answer.Answer.{Answer}
 use Rattle.net_rules.specs.declared.inputs.Inputs.{Inputs}
-use Rattle.net_rules.specs.declared.inputs.Command.{Command}
+use Rattle.net_rules.specs.declared.inputs.OperatorState.{OperatorState}
 use Rattle.net_rules.specs.declared.inputs.OpenInterface.{OpenInterface}
 use Rattle.net_rules.specs.declared.inputs.OpenRadio.{OpenRadio}
 use Rattle.net_rules.specs.declared.event.Event.{Event}
@@ -22,43 +22,43 @@ use Rattle.net_rules.specs.Fresh.{IsReached, AreAsked}
 use Rattle.net_rules.proofs.TableLemmas.{found_in, found_without, found_mapped}
 use Rattle.net_rules.proofs.OnceLemmas.{AreOnce, once_filter, once_map, once_behind, found_once}
 use Rattle.net_rules.proofs.NeedLemmas.{same_need_of}
-use Rattle.net_rules.proofs.AfterLemmas.{AreSingle, asked_single, asked_asks, idle}
+use Rattle.net_rules.proofs.AfterLemmas.{AreSingle, asked_single, asked_requests, idle}
 
 -- answers keep what they answer
-answered_keeps : (interface : List ℕ) (number : ℕ) (answer : Answer) (o : OpenInterface) → (answered_interface interface number answer o).ask ≡ o.ask
-answered_keeps interface number answer o = by_test (bytes_eq o.ask.name interface && (o.number == number))
+answered_keeps : (interface : List ℕ) (number : ℕ) (answer : Answer) (o : OpenInterface) → (answered_interface interface number answer o).request ≡ o.request
+answered_keeps interface number answer o = by_test (bytes_eq o.request.name interface && (o.number == number))
   where
-    by_test : (b : Bool) → (cond b (record o { answer = Some answer }) o).ask ≡ o.ask
+    by_test : (b : Bool) → (cond b (record o { answer = Some answer }) o).request ≡ o.request
     by_test true = refl
     by_test false = refl
 
-pub radio_keeps : (radio : List ℕ) (number : ℕ) (ports : List (Option (List ℕ))) (o : OpenRadio) → (answered_radio radio number ports o).ask ≡ o.ask
-radio_keeps radio number ports o = by_test (bytes_eq o.ask.name radio && (o.number == number))
+pub radio_keeps : (radio : List ℕ) (number : ℕ) (ports : List (Option (List ℕ))) (o : OpenRadio) → (answered_radio radio number ports o).request ≡ o.request
+radio_keeps radio number ports o = by_test (bytes_eq o.request.name radio && (o.number == number))
   where
-    by_test : (b : Bool) → (cond b (record o { ports = Some ports }) o).ask ≡ o.ask
+    by_test : (b : Bool) → (cond b (record o { ports = Some ports }) o).request ≡ o.request
     by_test true = refl
     by_test false = refl
 
 pub interface_found : (interface : List ℕ) (number : ℕ) (answer : Answer) (xs : List OpenInterface) (q : List ℕ) → open_interface (map (answered_interface interface number answer) xs) q
     ≡ option_map (answered_interface interface number answer) (open_interface xs q)
-interface_found interface number answer xs q = found_mapped (λ o. o.ask.name) (answered_interface interface number answer) (λ o. ap (λ a. a.name) (answered_keeps interface number answer o)) xs q
+interface_found interface number answer xs q = found_mapped (λ o. o.request.name) (answered_interface interface number answer) (λ o. ap (λ a. a.name) (answered_keeps interface number answer o)) xs q
 
 pub radio_found : (radio : List ℕ) (number : ℕ) (ports : List (Option (List ℕ))) (xs : List OpenRadio) (q : List ℕ) → open_radio (map (answered_radio radio number ports) xs) q
     ≡ option_map (answered_radio radio number ports) (open_radio xs q)
-radio_found radio number ports xs q = found_mapped (λ o. o.ask.name) (answered_radio radio number ports) (λ o. ap (λ a. a.name) (radio_keeps radio number ports o)) xs q
+radio_found radio number ports xs q = found_mapped (λ o. o.request.name) (answered_radio radio number ports) (λ o. ap (λ a. a.name) (radio_keeps radio number ports o)) xs q
 
--- the first step keeps the asks single
+-- the first step keeps the requests single
 pub changed_single : (inputs : Inputs) (event : Event) → AreSingle inputs → AreSingle (changed inputs event)
 changed_single inputs (event.Load conf) single = record { interfaces = single.interfaces; radios = single.radios }
 changed_single inputs (event.Device what) single = record { interfaces = single.interfaces; radios = single.radios }
 changed_single inputs (event.Operator interface up) single = record { interfaces = single.interfaces; radios = single.radios }
 changed_single inputs (event.Answer interface number answer) single = record {
-  interfaces = once_map (λ o. o.ask.name) (answered_interface interface number answer) (λ o. ap (λ a. a.name) (answered_keeps interface number answer o)) (interface_found interface number answer) inputs.interfaces single.interfaces;
+  interfaces = once_map (λ o. o.request.name) (answered_interface interface number answer) (λ o. ap (λ a. a.name) (answered_keeps interface number answer o)) (interface_found interface number answer) inputs.interfaces single.interfaces;
   radios = single.radios;
 }
 changed_single inputs (event.Radio radio number ports) single = record {
   interfaces = single.interfaces;
-  radios = once_map (λ o. o.ask.name) (answered_radio radio number ports) (λ o. ap (λ a. a.name) (radio_keeps radio number ports o)) (radio_found radio number ports) inputs.radios single.radios;
+  radios = once_map (λ o. o.request.name) (answered_radio radio number ports) (λ o. ap (λ a. a.name) (radio_keeps radio number ports o)) (radio_found radio number ports) inputs.radios single.radios;
 }
 
 -- a list without a key, and with one value of it more, has each key once
@@ -87,7 +87,7 @@ pub record IsKept (inputs : Inputs) : Type 0 where
   pub single : AreSingle inputs
   pub are : AreAsked inputs
   pub devices : AreOnce (λ e. e.0) inputs.devices
-  pub commands : AreOnce (λ c. c.interface) inputs.commands
+  pub operator_states : AreOnce (λ c. c.interface) inputs.operator_states
 
 devices_kept : (inputs : Inputs) (event : Event) → AreOnce (λ e. e.0) inputs.devices → AreOnce (λ e. e.0) (changed inputs event).devices
 devices_kept inputs (event.Load conf) once = once
@@ -96,12 +96,12 @@ devices_kept inputs (event.Operator interface up) once = once
 devices_kept inputs (event.Answer interface number answer) once = once
 devices_kept inputs (event.Radio radio number ports) once = once
 
-commands_kept : (inputs : Inputs) (event : Event) → AreOnce (λ c. c.interface) inputs.commands → AreOnce (λ c. c.interface) (changed inputs event).commands
-commands_kept inputs (event.Load conf) once = once_filter (λ c. c.interface) _ inputs.commands once
-commands_kept inputs (event.Device what) once = once
-commands_kept inputs (event.Operator interface up) once = one_more (λ (c : Command). c.interface) (record { interface = interface; up = up }) inputs.commands once
-commands_kept inputs (event.Answer interface number answer) once = once
-commands_kept inputs (event.Radio radio number ports) once = once
+operator_states_kept : (inputs : Inputs) (event : Event) → AreOnce (λ c. c.interface) inputs.operator_states → AreOnce (λ c. c.interface) (changed inputs event).operator_states
+operator_states_kept inputs (event.Load conf) once = once_filter (λ c. c.interface) _ inputs.operator_states once
+operator_states_kept inputs (event.Device what) once = once
+operator_states_kept inputs (event.Operator interface up) once = one_more (λ (c : OperatorState). c.interface) (record { interface = interface; up = up }) inputs.operator_states once
+operator_states_kept inputs (event.Answer interface number answer) once = once
+operator_states_kept inputs (event.Radio radio number ports) once = once
 
 pub kept_after : (inputs : Inputs) (event : Event) → IsKept inputs → IsKept (after inputs event)
 unfolding after
@@ -109,23 +109,23 @@ kept_after inputs event kept =
     let single = changed_single inputs event kept.single in
     record {
       single = asked_single (changed inputs event) single;
-      are = asked_asks (changed inputs event) single;
+      are = asked_requests (changed inputs event) single;
       devices = devices_kept inputs event kept.devices;
-      commands = commands_kept inputs event kept.commands;
+      operator_states = operator_states_kept inputs event kept.operator_states;
     }
 
 pub reached_kept : (inputs : Inputs) → IsReached inputs → IsKept inputs
-reached_kept inputs IsReached.nothing = record { single = record { interfaces = tt; radios = tt }; are = record { interfaces = λ name. refl; radios = λ name. refl }; devices = tt; commands = tt }
+reached_kept inputs IsReached.nothing = record { single = record { interfaces = tt; radios = tt }; are = record { interfaces = λ name. refl; radios = λ name. refl }; devices = tt; operator_states = tt }
 reached_kept inputs (IsReached.behind before event reached) = kept_after before event (reached_kept before reached)
 
--- an answer changes no ask of an interface
-answered_asks : (interface : List ℕ) (number : ℕ) (answer : Answer) (o : Option OpenInterface) → option_map (λ x. x.ask) (option_map (answered_interface interface number answer) o) ≡ option_map (λ x. x.ask) o
-answered_asks interface number answer None = refl
-answered_asks interface number answer (Some o) = ap Some (answered_keeps interface number answer o)
+-- an answer changes no request of an interface
+answered_requests : (interface : List ℕ) (number : ℕ) (answer : Answer) (o : Option OpenInterface) → option_map (λ x. x.request) (option_map (answered_interface interface number answer) o) ≡ option_map (λ x. x.request) o
+answered_requests interface number answer None = refl
+answered_requests interface number answer (Some o) = ap Some (answered_keeps interface number answer o)
 
 pub answered_are : (inputs : Inputs) (interface : List ℕ) (number : ℕ) (answer : Answer) → AreAsked inputs → AreAsked (changed inputs (event.Answer interface number answer))
 answered_are inputs interface number answer are = record {
-  interfaces = λ q. ap (option_map (λ o. o.ask)) (interface_found interface number answer inputs.interfaces q) ∙ answered_asks interface number answer (open_interface inputs.interfaces q) ∙ are.interfaces q
+  interfaces = λ q. ap (option_map (λ o. o.request)) (interface_found interface number answer inputs.interfaces q) ∙ answered_requests interface number answer (open_interface inputs.interfaces q) ∙ are.interfaces q
       ∙ sym (same_need_of (facts_of inputs) (facts_of (changed inputs (event.Answer interface number answer))).answer q);
   radios = are.radios;
 }
@@ -153,8 +153,8 @@ pub stale_interface : (inputs : Inputs) → IsReached inputs → (interface : Li
 stale_interface inputs reached interface number answer stale =
     let kept = reached_kept inputs reached in
     let alike : map (answered_interface interface number answer) inputs.interfaces ≡ inputs.interfaces = mapped_alike (answered_interface interface number answer) inputs.interfaces (λ o member.
-    left_alone (bytes_eq o.ask.name interface && (o.number == number)) (record o { answer = Some answer }) o (other_number o.ask.name interface o.number number (λ named same.
-    stale o (subst (λ n. open_interface inputs.interfaces n ≡ Some o) named (found_once (λ x. x.ask.name) inputs.interfaces kept.single.interfaces o member)) same))) in
+    left_alone (bytes_eq o.request.name interface && (o.number == number)) (record o { answer = Some answer }) o (other_number o.request.name interface o.number number (λ named same.
+    stale o (subst (λ n. open_interface inputs.interfaces n ≡ Some o) named (found_once (λ x. x.request.name) inputs.interfaces kept.single.interfaces o member)) same))) in
     after_answer inputs interface number answer kept.single kept.are ∙ ap (λ xs. record inputs { interfaces = xs }) alike
 
 pub stale_radio : (inputs : Inputs) → IsReached inputs → (radio : List ℕ) (number : ℕ) (ports : List (Option (List ℕ))) → ((o : OpenRadio) → open_radio inputs.radios radio ≡ Some o → o.number ≡ number → ⊥)
@@ -163,7 +163,7 @@ unfolding after
 stale_radio inputs reached radio number ports stale =
     let kept = reached_kept inputs reached in
     let alike : map (answered_radio radio number ports) inputs.radios ≡ inputs.radios = mapped_alike (answered_radio radio number ports) inputs.radios (λ o member.
-    left_alone (bytes_eq o.ask.name radio && (o.number == number)) (record o { ports = Some ports }) o (other_number o.ask.name radio o.number number (λ named same.
-    stale o (subst (λ n. open_radio inputs.radios n ≡ Some o) named (found_once (λ x. x.ask.name) inputs.radios kept.single.radios o member)) same))) in
+    left_alone (bytes_eq o.request.name radio && (o.number == number)) (record o { ports = Some ports }) o (other_number o.request.name radio o.number number (λ named same.
+    stale o (subst (λ n. open_radio inputs.radios n ≡ Some o) named (found_once (λ x. x.request.name) inputs.radios kept.single.radios o member)) same))) in
     let now : changed inputs (event.Radio radio number ports) ≡ inputs = ap (λ xs. record inputs { radios = xs }) alike in
     ap asked now ∙ idle inputs kept.single kept.are.radios kept.are.interfaces

@@ -8,10 +8,10 @@ use Rattle.kern_model.proofs.TestLemmas.{both, of_both}
 use Rattle.uci_tree.specs.declared.package.Opt.{Opt}
 use Rattle.uci_tree.specs.declared.package.Value.{Value}
 use Rattle.uci_tree.specs.declared.package.Value.TheVariants.{One, Many}
-use Rattle.net_rules.specs.declared.ask.InterfaceAsk.{InterfaceAsk}
-use Rattle.net_rules.specs.declared.ask.RadioAsk.{RadioAsk}
-use Rattle.net_rules.specs.declared.ask.WifiAsk.{WifiAsk}
-use Rattle.net_rules.specs.Need.{same_value, same_option, same_options, same_device, same_interface_ask, same_radio_ask}
+use Rattle.net_rules.specs.declared.request.InterfaceRequest.{InterfaceRequest}
+use Rattle.net_rules.specs.declared.request.RadioRequest.{RadioRequest}
+use Rattle.net_rules.specs.declared.request.WifiRequest.{WifiRequest}
+use Rattle.net_rules.specs.Need.{same_value, same_option, same_options, same_device, same_interface_request, same_radio_request}
 
 values : (a b : Value) → Decides (same_value a b) (a ≡ b)
 values (One a) (One b) = (λ h. ap One ((bytes_eq-Decides a b).0 h), λ h. (bytes_eq-Decides a b).1 (cc h))
@@ -33,7 +33,7 @@ option a b = (
 options : (xs ys : List Opt) → Decides (same_options xs ys) (xs ≡ ys)
 options xs ys = slice_eq-Decides option xs ys (same_options xs ys) refl
 
-wifi : (a b : WifiAsk) → Decides (same_options a.options b.options) (a ≡ b)
+wifi : (a b : WifiRequest) → Decides (same_options a.options b.options) (a ≡ b)
 wifi a b = (λ h. let same = (options a.options b.options).0 h in λ i. record { options = same i }, λ h. (options a.options b.options).1 (ap (λ w. w.options) h))
 
 device : (a b : Option (List ℕ)) → Decides (same_device a b) (a ≡ b)
@@ -42,8 +42,8 @@ device None (Some b) = (λ h. cc h, λ h. cc h)
 device (Some a) None = (λ h. cc h, λ h. cc h)
 device (Some a) (Some b) = (λ h. ap Some ((bytes_eq-Decides a b).0 h), λ h. (bytes_eq-Decides a b).1 (cc h))
 
-pub interface_asks : (a b : InterfaceAsk) → Decides (same_interface_ask a b) (a ≡ b)
-interface_asks a b = (
+pub interface_requests : (a b : InterfaceRequest) → Decides (same_interface_request a b) (a ≡ b)
+interface_requests a b = (
   λ h.
       let first = both (bytes_eq a.name b.name) (bytes_eq a.proto b.proto && (same_options a.options b.options && same_device a.device b.device)) h in
       let second = both (bytes_eq a.proto b.proto) (same_options a.options b.options && same_device a.device b.device) first.1 in
@@ -59,11 +59,11 @@ interface_asks a b = (
       (of_both (same_options a.options b.options) (same_device a.device b.device) ((options a.options b.options).1 (ap (λ x. x.options) h)) ((device a.device b.device).1 (ap (λ x. x.device) h)))),
 )
 
-wifi_rows : (xs ys : List WifiAsk) → Decides (pointwise (λ x y. same_options x.options y.options) xs ys) (xs ≡ ys)
+wifi_rows : (xs ys : List WifiRequest) → Decides (pointwise (λ x y. same_options x.options y.options) xs ys) (xs ≡ ys)
 wifi_rows xs ys = slice_eq-Decides wifi xs ys (pointwise (λ x y. same_options x.options y.options) xs ys) refl
 
-pub radio_asks : (a b : RadioAsk) → Decides (same_radio_ask a b) (a ≡ b)
-radio_asks a b = (
+pub radio_requests : (a b : RadioRequest) → Decides (same_radio_request a b) (a ≡ b)
+radio_requests a b = (
   λ h.
       let first = both (bytes_eq a.name b.name) (same_options a.options b.options && pointwise (λ x y. same_options x.options y.options) a.rows b.rows) h in
       let second = both (same_options a.options b.options) (pointwise (λ x y. same_options x.options y.options) a.rows b.rows) first.1 in

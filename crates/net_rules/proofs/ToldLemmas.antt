@@ -1,4 +1,4 @@
--- What is told of the asks of touched interfaces.
+-- What is told of the requests of touched interfaces.
 use Rattle.std.proofs.Common.{arith, ◌≡◌, ◌≤◌, ◌<◌, inl, inr, ℕ, ◌+◌, List, [], ◌∷◌, ◌++◌, map, Bool, true, false, cond, Contains, None, refl, ap, sym, subst, ◌∙◌, append-nil}
 use Rattle.std.specs.Prelude.{filter, not, ◌&&◌, ◌||◌, nat_le, ◌==◌}
 use Rattle.std.specs.List.{list_any}
@@ -8,7 +8,7 @@ use Rattle.plane_words.specs.InOrder.{ordered}
 use Rattle.kern_model.proofs.MemberLemmas.{first_or_later, none_in_nil, map_member, member_of_map}
 use Rattle.kern_model.proofs.TestLemmas.{true_of_both_ways}
 use Rattle.kern_calls.proofs.FilterLemmas.{from_filter, in_filter}
-use Rattle.net_rules.specs.declared.ask.InterfaceAsk.{InterfaceAsk}
+use Rattle.net_rules.specs.declared.request.InterfaceRequest.{InterfaceRequest}
 use Rattle.net_rules.specs.declared.inputs.Inputs.{Inputs}
 use Rattle.net_rules.specs.declared.inputs.OpenInterface.{OpenInterface}
 use Rattle.net_rules.specs.declared.inputs.OpenRadio.{OpenRadio}
@@ -20,7 +20,7 @@ use Rattle.net_rules.specs.Notices.{numbers_of, interface_notice, radio_notice, 
 use Rattle.net_rules.specs.Fresh.{IsReached}
 use Rattle.net_rules.proofs.ListLemmas.{within_filter}
 use Rattle.net_rules.proofs.NumberLemmas.{reached_numbered}
-use Rattle.net_rules.specs.Touched.{HasSameAsks, is_needed, left_asks, lost_numbers, touched_asks, asked_of}
+use Rattle.net_rules.specs.Touched.{HasSameRequests, is_needed, left_requests, lost_numbers, touched_requests, asked_of}
 use Rattle.net_rules.proofs.TouchNumberLemmas.{between, rising_kept, in_order, one_of_number, any_number, number_of_any, none_lost, none_new, all_new}
 use Rattle.net_rules.proofs.AskedLemmas.{filter_alike}
 
@@ -41,10 +41,10 @@ negated : (b c : Bool) → not (not b || c) ≡ (b && not c)
 negated true c = refl
 negated false c = refl
 
--- opened asks have numbers from the next on
-opened_above : (next : ℕ) (asks : List InterfaceAsk) (o : OpenInterface) → Contains (opened_interfaces next asks) o → next ≤ o.number
+-- opened requests have numbers from the next on
+opened_above : (next : ℕ) (requests : List InterfaceRequest) (o : OpenInterface) → Contains (opened_interfaces next requests) o → next ≤ o.number
 opened_above next [] o h = absurd (none_in_nil o h)
-opened_above next (a ∷ others) o h = elim (first_or_later (record { number = next; ask = a; answer = None }) (opened_interfaces (next + 1) others) o h) as (λ _. next ≤ o.number) [
+opened_above next (a ∷ others) o h = elim (first_or_later (record { number = next; request = a; answer = None }) (opened_interfaces (next + 1) others) o h) as (λ _. next ≤ o.number) [
   | inl same ↦ subst (λ (x : OpenInterface). next ≤ x.number) same (omega arith)
   | inr later ↦ let above = opened_above (next + 1) others o later in omega (arith, above)
 ]
@@ -52,7 +52,7 @@ opened_above next (a ∷ others) o h = elim (first_or_later (record { number = n
 abbrev number : OpenInterface → ℕ
 number o = o.number
 
--- asks of which some are left, and others opened
+-- requests of which some are left, and others opened
 module _ (os new : List OpenInterface) (rs : List ℕ) (next : ℕ) (p : OpenInterface → Bool) (rising : AreRising 1 next (map number os)) (apart : (n : ℕ) → Contains (map number os) n → Contains rs n → ⊥)
     (above : (o : OpenInterface) → Contains new o → next ≤ o.number) where
   abbrev current : List ℕ
@@ -72,8 +72,8 @@ module _ (os new : List OpenInterface) (rs : List ℕ) (next : ℕ) (p : OpenInt
       let within = between 1 next (map number os) o.number rising (map_member number os o member) in
       let below : o.number < next = within.1 in
       elim (Contains-append_cases (map number (filter p os ++ new)) rs o.number (number_of_any current o.number h)) as (λ _. p o ≡ true) [
-        | inl asks ↦
-            let from = member_of_map number (filter p os ++ new) o.number asks in
+        | inl requests ↦
+            let from = member_of_map number (filter p os ++ new) o.number requests in
             elim (Contains-append_cases (filter p os) new from.source from.member) as (λ _. p o ≡ true) [
               | inl old ↦
                   let is : from.source ≡ o = one_of_number number os 1 next rising from.source o (within_filter p os from.source old) member from.same in
@@ -104,7 +104,7 @@ module _ (os new : List OpenInterface) (rs : List ℕ) (next : ℕ) (p : OpenInt
       ∙ ap (λ xs. xs ++ filter (λ (o : OpenInterface). nat_le next o.number) new) (none_new number next 1 (filter p os) (rising_kept number p os 1 next rising))
       ∙ all_new number next new above
 
-module _ (before now : Inputs) (touched : List ℕ → Bool) (reached : IsReached before) (same : HasSameAsks before now) where
+module _ (before now : Inputs) (touched : List ℕ → Bool) (reached : IsReached before) (same : HasSameRequests before now) where
   numbered : AreNumbered before
   numbered = reached_numbered before reached
 
@@ -125,23 +125,23 @@ module _ (before now : Inputs) (touched : List ℕ → Bool) (reached : IsReache
       sym back
 
   abbrev is_left : OpenInterface → Bool
-  is_left o = not (touched o.ask.name) || is_needed (facts_of now) o
+  is_left o = not (touched o.request.name) || is_needed (facts_of now) o
 
   abbrev left : List OpenInterface
-  left = left_asks (facts_of now) touched now.interfaces
+  left = left_requests (facts_of now) touched now.interfaces
 
   abbrev opened : List OpenInterface
-  opened = opened_interfaces now.next (touched_asks now touched left)
+  opened = opened_interfaces now.next (touched_requests now touched left)
 
   abbrev asked_now : Inputs
   asked_now = asked_of touched now
 
   opened_new : (o : OpenInterface) → Contains opened o → now.next ≤ o.number
-  opened_new = opened_above now.next (touched_asks now touched left)
+  opened_new = opened_above now.next (touched_requests now touched left)
 
   lost_named : map (λ o. o.number) (filter (λ o. not (is_left o)) now.interfaces) ≡ lost_numbers (facts_of now) touched now.interfaces
-  lost_named = ap (map (λ o. o.number)) (filter_alike (λ (o : OpenInterface). not (is_left o)) (λ (o : OpenInterface). touched o.ask.name && not (is_needed (facts_of now) o)) now.interfaces
-      (λ o h. negated (touched o.ask.name) (is_needed (facts_of now) o)))
+  lost_named = ap (map (λ o. o.number)) (filter_alike (λ (o : OpenInterface). not (is_left o)) (λ (o : OpenInterface). touched o.request.name && not (is_needed (facts_of now) o)) now.interfaces
+      (λ o h. negated (touched o.request.name) (is_needed (facts_of now) o)))
 
   lost_told : ordered nat_cmp (filter (λ n. not (list_any (λ m. m == n) (numbers_of asked_now))) (numbers_of before)) ≡ lost_numbers (facts_of now) touched now.interfaces
   lost_told =

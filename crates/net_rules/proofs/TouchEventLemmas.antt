@@ -13,7 +13,7 @@ use Rattle.kern_model.proofs.TestLemmas.{bytes_same, same_bytes, false_of_not}
 use Rattle.net_rows.specs.declared.rows.InterfaceRow.{InterfaceRow}
 use Rattle.net_rules.specs.declared.answer.Answer.{Answer}
 use Rattle.net_rules.specs.declared.inputs.Inputs.{Inputs}
-use Rattle.net_rules.specs.declared.inputs.Command.{Command}
+use Rattle.net_rules.specs.declared.inputs.OperatorState.{OperatorState}
 use Rattle.net_rules.specs.declared.inputs.OpenInterface.{OpenInterface}
 use Rattle.net_rules.specs.declared.event.Notice.TheVariants as notice
 use Rattle.net_rules.specs.declared.event.Event.TheVariants as event
@@ -21,8 +21,8 @@ use Rattle.net_rules.specs.Rows.{is_faultless, interface_named, asks_nothing}
 use Rattle.net_rules.specs.RadioPorts.{device_of}
 use Rattle.net_rules.specs.Available.{available, link}
 use Rattle.net_rules.specs.Interfaces.{has_device, has_link}
-use Rattle.net_rules.specs.Inputs.{command_in, facts_of}
-use Rattle.net_rules.specs.Need.{interface_ask, interface_need}
+use Rattle.net_rules.specs.Inputs.{operator_state_in, facts_of}
+use Rattle.net_rules.specs.Need.{interface_request, interface_need}
 use Rattle.net_rules.specs.Numbers.{AreRising, interface_numbers}
 use Rattle.net_rules.specs.After.{carrier_set, devices_after, answered_interface, changed, after}
 use Rattle.net_rules.specs.Notices.{numbers_of, interface_notice, radio_notice, notices_between, notices}
@@ -83,27 +83,27 @@ pub device_differs : (inputs : Inputs) (what : DevEvent) → DiffersAt (name_of 
 device_differs inputs what = record {
   conf = refl;
   device = λ q other. ap (option_map (λ (e : List ℕ × Device). e.1)) (device_found inputs.devices what q other);
-  command = λ q. refl;
+  operator_state = λ q. refl;
   answer = λ q. refl;
   ports = λ q. refl;
 }
 
--- commands
+-- operator states
 module _ (inputs : Inputs) (interface : List ℕ) (up : Bool) where
   abbrev commanded : Inputs
   commanded = changed inputs (event.Operator interface up)
 
-  command_found : (q : List ℕ) → (q ≡ interface → ⊥) → command_in commanded.commands q ≡ command_in inputs.commands q
-  command_found q other = ap (option_map (λ (c : Command). c.up)) (replaced_found (λ (c : Command). c.interface) (record { interface = interface; up = up }) inputs.commands q other)
+  operator_state_found : (q : List ℕ) → (q ≡ interface → ⊥) → operator_state_in commanded.operator_states q ≡ operator_state_in inputs.operator_states q
+  operator_state_found q other = ap (option_map (λ (c : OperatorState). c.up)) (replaced_found (λ (c : OperatorState). c.interface) (record { interface = interface; up = up }) inputs.operator_states q other)
 
   abbrev need_by : InterfaceRow → Option Bool → Bool
-  need_by row command =
-      ((is_faultless row.faults && (not row.anonymous && (not row.disabled && unwrap_or command row.autostart))) && has_device (facts_of inputs) row.proto (device_of (facts_of inputs) row))
+  need_by row operator_state =
+      ((is_faultless row.faults && (not row.anonymous && (not row.disabled && unwrap_or operator_state row.autostart))) && has_device (facts_of inputs) row.proto (device_of (facts_of inputs) row))
       && (row.force_link || has_link (facts_of inputs) (device_of (facts_of inputs) row))
 
   row_need : (row : InterfaceRow) → (row.name ≡ interface → ⊥) → interface_need (facts_of commanded) row ≡ interface_need (facts_of inputs) row
   unfolding available link
-  row_need row other = ap (λ (command : Option Bool). cond (need_by row command && not (asks_nothing row.proto)) (Some (interface_ask (facts_of inputs) row)) None) (command_found row.name other)
+  row_need row other = ap (λ (operator_state : Option Bool). cond (need_by row operator_state && not (asks_nothing row.proto)) (Some (interface_request (facts_of inputs) row)) None) (operator_state_found row.name other)
 
   found_need : (name : List ℕ) → bytes_eq name interface ≡ false → (found : Option InterfaceRow) → interface_named inputs.conf name ≡ found → option_and_then (interface_need (facts_of commanded)) found
       ≡ option_and_then (interface_need (facts_of inputs)) found
@@ -112,12 +112,12 @@ module _ (inputs : Inputs) (interface : List ℕ) (up : Bool) where
       let at = (found_member (λ (r : InterfaceRow). r.name) inputs.conf.interfaces name row is).same in
       cc (off, same_bytes name interface (sym at ∙ same)))
 
-  pub command_stays : NeedsStay (facts_of inputs) (facts_of commanded) (λ name. bytes_eq name interface)
-  command_stays name off = found_need name off (interface_named inputs.conf name) refl
+  pub operator_state_stays : NeedsStay (facts_of inputs) (facts_of commanded) (λ name. bytes_eq name interface)
+  operator_state_stays name off = found_need name off (interface_named inputs.conf name) refl
 
 -- answers
 answered_number : (interface : List ℕ) (number : ℕ) (answer : Answer) (o : OpenInterface) → (answered_interface interface number answer o).number ≡ o.number
-answered_number interface number answer o = by_test (bytes_eq o.ask.name interface && (o.number == number))
+answered_number interface number answer o = by_test (bytes_eq o.request.name interface && (o.number == number))
   where
     by_test : (b : Bool) → (cond b (record o { answer = Some answer }) o).number ≡ o.number
     by_test true = refl

@@ -24,7 +24,7 @@ use Rattle.net_rules.specs.Wanted.{IsUsedBridge, IsWantedMaster, IsWantedPortVla
 use Rattle.net_rules.proofs.ListLemmas.{within_filter, of_cond, to_cond, in_join, from_join}
 use Rattle.net_rules.proofs.StandingLemmas.{only}
 use Rattle.net_rules.proofs.DeviceLemmas.{not_broken, used_available, used_known}
-use Rattle.net_rules.proofs.GivenLemmas.{on_layer, IsOn}
+use Rattle.net_rules.proofs.GivenLemmas.{on_l3_device, IsOn}
 
 entry_object : List ℕ → VlanRow → VlanEntry → Object
 entry_object bridge row e = object.Vlan bridge e.port row.id e.pvid e.untagged
@@ -200,15 +200,15 @@ module _ (facts : Facts) (sound : IsSound facts.conf) where
   mtu_wanted name None is serves o h = absurd (none_in_nil o h)
   mtu_wanted name (Some mtu) is serves o h = subst (IsWanted facts) (only (object.Mtu name mtu) o h) (record { configured = is; used = serves })
 
-  given_wanted : (o : Object) (layer : List ℕ) → IsOn layer o → IsGiven facts o → IsWanted facts o
-  given_wanted (object.Link name kind) layer on w = absurd on
-  given_wanted (object.Mtu name mtu) layer on w = absurd on
-  given_wanted (object.Mac name mac) layer on w = absurd on
-  given_wanted (object.Master port bridge) layer on w = absurd on
-  given_wanted (object.Vlan bridge port id pvid untagged) layer on w = absurd on
-  given_wanted (object.Up name) layer on w = absurd on
-  given_wanted (object.Address dev cidr) layer on w = w
-  given_wanted (object.Route r) layer on w = w
+  given_wanted : (o : Object) (l3_device : List ℕ) → IsOn l3_device o → IsGiven facts o → IsWanted facts o
+  given_wanted (object.Link name kind) l3_device on w = absurd on
+  given_wanted (object.Mtu name mtu) l3_device on w = absurd on
+  given_wanted (object.Mac name mac) l3_device on w = absurd on
+  given_wanted (object.Master port bridge) l3_device on w = absurd on
+  given_wanted (object.Vlan bridge port id pvid untagged) l3_device on w = absurd on
+  given_wanted (object.Up name) l3_device on w = absurd on
+  given_wanted (object.Address dev cidr) l3_device on w = w
+  given_wanted (object.Route r) l3_device on w = w
 
   pub of_wanted : (o : Object) → Has (want facts) o → IsWanted facts o
   of_wanted o h = elim (Contains-append_cases of_names of_interfaces o (listed_of o h)) as (λ _. IsWanted facts o) [
@@ -223,6 +223,6 @@ module _ (facts : Facts) (sound : IsSound facts.conf) where
     | inr of_interface ↦
         let from = from_join (given facts) (interfaces_of facts.conf) o of_interface in
         let w : IsGiven facts o = record { row = from.source; member = from.member; among = from.among } in
-        let on = on_layer facts from.source o from.among in
-        given_wanted o on.layer on.on w
+        let on = on_l3_device facts from.source o from.among in
+        given_wanted o on.l3_device on.on w
   ]

@@ -19,6 +19,6 @@ IsOffBase facts base (Some name) = IsAbove facts base name → ⊥
 pub record DiffersAt (base : List ℕ) (before now : Facts) : Type 0 where
   pub conf : now.conf ≡ before.conf
   pub device : (name : List ℕ) → (name ≡ base → ⊥) → now.device name ≡ before.device name
-  pub command : (name : List ℕ) → now.command name ≡ before.command name
+  pub operator_state : (name : List ℕ) → now.operator_state name ≡ before.operator_state name
   pub answer : (name : List ℕ) → now.answer name ≡ before.answer name
   pub ports : (name : List ℕ) → now.ports name ≡ before.ports name

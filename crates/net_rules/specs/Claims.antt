@@ -5,7 +5,7 @@ use Rattle.net_rules.specs.declared.state.InterfaceState.{InterfaceState}
 
 -- an interface uses its device where it claims it, and its layer-3 device where it is up
 abbrev pub uses_by : List ℕ → InterfaceState → Bool
-uses_by name st = (st.is_claimed && is_name st.device name) || (st.is_up && is_name st.layer name)
+uses_by name st = (st.is_claimed && is_name st.device name) || (st.is_up && is_name st.l3_device name)
 
 -- one claim where it uses the name
 abbrev pub claim_of : List ℕ → InterfaceState → ℕ

@@ -9,7 +9,7 @@ use Rattle.net_rows.specs.declared.rows.InterfaceRow.{InterfaceRow}
 use Rattle.net_rules.specs.Facts.{Facts}
 use Rattle.net_rules.specs.RadioPorts.{device_of}
 use Rattle.net_rules.specs.Down.{LeadsDown, leads_down}
-use Rattle.net_rules.specs.Interfaces.{layer_of}
+use Rattle.net_rules.specs.Interfaces.{l3_device_of}
 use Rattle.net_rules.specs.Want.{given, want}
 
 -- VLANs lead from a name, where there is one, down to the base
@@ -21,7 +21,7 @@ is_down_from facts (Some name) base = leads_down facts.conf.names name base
 -- all the way down, broken or not
 abbrev pub is_below : Facts → InterfaceRow → List ℕ → Bool
 is_below facts row name =
-    is_down_from facts (device_of facts row) name || is_down_from facts (layer_of facts row) name
+    is_down_from facts (device_of facts row) name || is_down_from facts (l3_device_of facts row) name
 
 -- links, MTUs, hardware addresses and names that are up, of these names; VLANs of bridges that are
 -- set on these names themselves; and the addresses and routes of the interface
@@ -44,7 +44,7 @@ footprint facts row = set.retain (want facts) (is_of facts row)
 pub data IsBelow (facts : Facts) (row : InterfaceRow) (name : List ℕ) : Type 0 where
   own : (device : List ℕ) → device_of facts row ≡ Some device
       → LeadsDown facts.conf.names name device → IsBelow facts row name
-  layer : (device : List ℕ) → layer_of facts row ≡ Some device
+  l3_device : (device : List ℕ) → l3_device_of facts row ≡ Some device
       → LeadsDown facts.conf.names name device → IsBelow facts row name
 
 abbrev pub IsOf : Facts → InterfaceRow → Object → Type 0

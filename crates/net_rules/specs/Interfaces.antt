@@ -8,13 +8,13 @@ use Rattle.net_rules.specs.Rows.{is_name, is_plain, is_faultless, asks_nothing, 
 use Rattle.net_rules.specs.RadioPorts.{device_of}
 use Rattle.net_rules.specs.Available.{available, link}
 
--- no fault, a name of its own, not disabled, and the last command is up; without a command `auto`
+-- no fault, a name of its own, not disabled, and the last operator state is up; without an operator state `auto`
 -- counts
 abbrev pub is_enabled : Facts → InterfaceRow → Bool
 is_enabled facts row =
     is_faultless row.faults
     && (not row.anonymous
-    && (not row.disabled && unwrap_or (facts.command row.name) row.autostart))
+    && (not row.disabled && unwrap_or (facts.operator_state row.name) row.autostart))
 
 -- the device is available; without any, the protocol needs none
 abbrev pub has_device : Facts → List ℕ → Option (List ℕ) → Bool
@@ -33,7 +33,7 @@ abbrev pub is_ready : Facts → InterfaceRow → Bool
 is_ready facts row =
     is_claimed facts row && (row.force_link || has_link facts (device_of facts row))
 
--- the latest answer to the open ask of an interface
+-- the latest answer to the open request of an interface
 abbrev pub answer_of : Facts → InterfaceRow → Option Answer
 answer_of facts row = if asks_nothing row.proto then None else facts.answer row.name
 
@@ -42,16 +42,16 @@ abbrev pub device_or_own : Option (List ℕ) → Option (List ℕ) → Option (L
 device_or_own None own = own
 device_or_own (Some device) own = Some device
 
-abbrev pub layer_of : Facts → InterfaceRow → Option (List ℕ)
-layer_of facts row =
+abbrev pub l3_device_of : Facts → InterfaceRow → Option (List ℕ)
+l3_device_of facts row =
     device_or_own (option_and_then (λ answer. answer.device) (answer_of facts row))
     (device_of facts row)
 
 -- a layer-3 device serves where it is available, and plain or the own device
-abbrev pub serves_layer : Facts → Option (List ℕ) → Option (List ℕ) → Bool
-serves_layer facts own None = false
-serves_layer facts own (Some layer) =
-    available facts layer && (is_plain facts.conf layer || is_name own layer)
+abbrev pub serves_l3_device : Facts → Option (List ℕ) → Option (List ℕ) → Bool
+serves_l3_device facts own None = false
+serves_l3_device facts own (Some l3_device) =
+    available facts l3_device && (is_plain facts.conf l3_device || is_name own l3_device)
 
 abbrev pub is_answered_up : Option Answer → Bool
 is_answered_up None = false
@@ -64,4 +64,4 @@ is_up facts row =
     is_ready facts row
     && (asks_nothing row.proto
     || (is_answered_up (answer_of facts row)
-    && serves_layer facts (device_of facts row) (layer_of facts row)))
+    && serves_l3_device facts (device_of facts row) (l3_device_of facts row)))

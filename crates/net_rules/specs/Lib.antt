@@ -34,7 +34,7 @@ pub mod Footprint
 pub mod Inputs
 -- what an event makes of the inputs
 pub mod After
--- what is told of asks after an event
+-- what is told of requests after an event
 pub mod Notices
 -- a moment of a network and its kernel
 pub mod Moment
@@ -42,13 +42,13 @@ pub mod Moment
 pub mod Fresh
 -- which events are refused
 pub mod Refusal
--- the numbers of open asks
+-- the numbers of open requests
 pub mod Numbers
 -- which names rows reach
 pub mod Reach
 -- what stands on a name, and facts that differ at a device
 pub mod Above
--- the asks of touched interfaces
+-- the requests of touched interfaces
 pub mod Touched
 -- names that interfaces use, counted
 pub mod Claims

@@ -11,9 +11,9 @@ use Rattle.uci_tree.specs.declared.package.Value.TheVariants.{One, Many}
 use Rattle.net_rows.specs.declared.rows.InterfaceRow.{InterfaceRow}
 use Rattle.net_rows.specs.declared.rows.RadioRow.{RadioRow}
 use Rattle.net_rows.specs.declared.rows.WifiRow.{WifiRow}
-use Rattle.net_rules.specs.declared.ask.InterfaceAsk.{InterfaceAsk}
-use Rattle.net_rules.specs.declared.ask.RadioAsk.{RadioAsk}
-use Rattle.net_rules.specs.declared.ask.WifiAsk.{WifiAsk}
+use Rattle.net_rules.specs.declared.request.InterfaceRequest.{InterfaceRequest}
+use Rattle.net_rules.specs.declared.request.RadioRequest.{RadioRequest}
+use Rattle.net_rules.specs.declared.request.WifiRequest.{WifiRequest}
 use Rattle.net_rules.specs.Facts.{Facts}
 use Rattle.net_rules.specs.Rows.{asks_nothing, enabled_rows}
 use Rattle.net_rules.specs.RadioPorts.{device_of}
@@ -28,36 +28,36 @@ abbrev pub in_order : List Opt → List Opt
 in_order options = ordered option_cmp options
 
 -- what the handler of an interface is asked
-abbrev pub interface_ask : Facts → InterfaceRow → InterfaceAsk
-interface_ask facts row = record {
+abbrev pub interface_request : Facts → InterfaceRow → InterfaceRequest
+interface_request facts row = record {
   name = row.name;
   proto = row.proto;
   options = in_order row.options;
   device = device_of facts row;
 }
 
--- an interface that is ready has an ask, unless the configuration says all of it
-abbrev pub interface_need : Facts → InterfaceRow → Option InterfaceAsk
+-- an interface that is ready has a request, unless the configuration says all of it
+abbrev pub interface_need : Facts → InterfaceRow → Option InterfaceRequest
 interface_need facts row =
     if is_ready facts row && not (asks_nothing row.proto)
-    then Some (interface_ask facts row) else None
+    then Some (interface_request facts row) else None
 
-abbrev pub wifi_ask : WifiRow → WifiAsk
-wifi_ask row = record { options = in_order row.options }
+abbrev pub wifi_request : WifiRow → WifiRequest
+wifi_request row = record { options = in_order row.options }
 
 -- what the handler of a radio is asked
-abbrev pub radio_ask : RadioRow → RadioAsk
-radio_ask radio = record {
+abbrev pub radio_request : RadioRow → RadioRequest
+radio_request radio = record {
   name = radio.name;
   options = in_order radio.options;
-  rows = map wifi_ask (enabled_rows radio);
+  rows = map wifi_request (enabled_rows radio);
 }
 
--- a radio that is not disabled and has a row that is not has an ask
-abbrev pub radio_need : RadioRow → Option RadioAsk
+-- a radio that is not disabled and has a row that is not has a request
+abbrev pub radio_need : RadioRow → Option RadioRequest
 radio_need radio =
     if not radio.disabled && list_any (λ row. not row.disabled) radio.rows
-    then Some (radio_ask radio) else None
+    then Some (radio_request radio) else None
 
 -- tests of equal options and asks
 abbrev pub same_value : Value → Value → Bool
@@ -78,14 +78,14 @@ same_device None (Some b) = false
 same_device (Some a) None = false
 same_device (Some a) (Some b) = bytes_eq a b
 
-abbrev pub same_interface_ask : InterfaceAsk → InterfaceAsk → Bool
-same_interface_ask a b =
+abbrev pub same_interface_request : InterfaceRequest → InterfaceRequest → Bool
+same_interface_request a b =
     bytes_eq a.name b.name
     && (bytes_eq a.proto b.proto
     && (same_options a.options b.options && same_device a.device b.device))
 
-abbrev pub same_radio_ask : RadioAsk → RadioAsk → Bool
-same_radio_ask a b =
+abbrev pub same_radio_request : RadioRequest → RadioRequest → Bool
+same_radio_request a b =
     bytes_eq a.name b.name
     && (same_options a.options b.options
     && pointwise (λ x y. same_options x.options y.options) a.rows b.rows)

@@ -1,4 +1,4 @@
--- What is told of asks after an event: the numbers of those that were lost, rising, then the new
+-- What is told of requests after an event: the numbers of those that were lost, rising, then the new
 -- ones, interfaces in file order and then radios.
 use Rattle.std.specs.Prelude.{ℕ, List, ◌++◌, map, filter, not, nat_le, unwrap_or, bytes_eq, ◌==◌}
 use Rattle.std.specs.List.{list_any, position}
@@ -13,7 +13,7 @@ use Rattle.net_rules.specs.declared.event.Notice.{Notice}
 use Rattle.net_rules.specs.declared.event.Notice.TheVariants as notice
 use Rattle.net_rules.specs.After.{after}
 
--- the numbers of the open asks
+-- the numbers of the open requests
 abbrev pub numbers_of : Inputs → List ℕ
 numbers_of inputs = map (λ o. o.number) inputs.interfaces ++ map (λ o. o.number) inputs.radios
 
@@ -25,10 +25,10 @@ abbrev pub radio_place : Conf → List ℕ → ℕ
 radio_place conf name = unwrap_or (position (λ row. bytes_eq row.name name) conf.radios) 0
 
 abbrev pub interface_notice : Conf → OpenInterface → Notice
-interface_notice conf o = notice.Interface o.number (interface_place conf o.ask.name) o.ask.device
+interface_notice conf o = notice.Interface o.number (interface_place conf o.request.name) o.request.device
 
 abbrev pub radio_notice : Conf → OpenRadio → Notice
-radio_notice conf o = notice.Radio o.number (radio_place conf o.ask.name)
+radio_notice conf o = notice.Radio o.number (radio_place conf o.request.name)
 
 -- between two moments: what was open and is not, and what is open and has a number that was not
 -- given before

@@ -1,4 +1,4 @@
--- The numbers of open asks.
+-- The numbers of open requests.
 use Rattle.std.specs.Prelude.{ℕ, ◌+◌, ◌^◌, ◌<◌, ◌≤◌, List, [], ◌∷◌, map, Contains, ⊤}
 use Rattle.net_rules.specs.declared.inputs.Inputs.{Inputs}
 
@@ -13,7 +13,7 @@ interface_numbers inputs = map (λ o. o.number) inputs.interfaces
 abbrev pub radio_numbers : Inputs → List ℕ
 radio_numbers inputs = map (λ o. o.number) inputs.radios
 
--- Each open ask has a number of its own, from 1 and below the next. The asks of interfaces stand by
+-- Each open request has a number of its own, from 1 and below the next. The requests of interfaces stand by
 -- rising number, and so do those of radios.
 pub record AreNumbered (inputs : Inputs) : Type 0 where
   pub interfaces : AreRising 1 inputs.next (interface_numbers inputs)

@@ -22,7 +22,7 @@ answered_port facts (Some interface) None = None
 answered_port facts (Some interface) (Some port) =
     if is_plain facts.conf port then Some (record { interface = interface; port = port }) else None
 
--- the latest answer to the ask of a radio has a port or none for each of its enabled rows
+-- the latest answer to the request of a radio has a port or none for each of its enabled rows
 abbrev pub ports_of_radio : Facts → RadioRow → List AnsweredPort
 ports_of_radio facts radio =
     filter_map (λ pair. answered_port facts pair.0.network pair.1)

@@ -20,8 +20,8 @@ abbrev pub ports_of : OpenRadio → List (List ℕ)
 ports_of o = filter_map (λ port. port) (unwrap_or o.ports [])
 
 -- the device that the latest answer of an interface names
-abbrev pub layer_of : OpenInterface → Option (List ℕ)
-layer_of o = option_and_then (λ answer. answer.device) o.answer
+abbrev pub l3_device_of : OpenInterface → Option (List ℕ)
+l3_device_of o = option_and_then (λ answer. answer.device) o.answer
 
 -- The names that rows reach: those that have a row, the devices of interfaces, the ports that radios
 -- answered, and the devices that handlers of interfaces answered.
@@ -29,7 +29,7 @@ abbrev pub reached_names : Inputs → List (List ℕ)
 reached_names inputs =
     names_of inputs.conf
     ++ (filter_map (λ row. row.device) inputs.conf.interfaces
-    ++ (flat_map ports_of inputs.radios ++ filter_map layer_of inputs.interfaces))
+    ++ (flat_map ports_of inputs.radios ++ filter_map l3_device_of inputs.interfaces))
 
 -- a row reaches the name
 abbrev pub is_reached : Inputs → List ℕ → Bool

@@ -50,7 +50,7 @@ device_refusal moment (device.Remove name) =
 device_refusal moment (device.Carrier name on) =
     refused_if (is_none (device_in moment.inputs.devices name)) refused.NoDevice
 
--- a number is stale that is not that of the open ask; without an open ask every number is
+-- a number is stale that is not that of the open request; without an open request every number is
 abbrev pub stale_number : ℕ → Option ℕ → Option Refusal
 stale_number given None = Some (refused.Stale given 0)
 stale_number given (Some current) =
@@ -68,20 +68,20 @@ abbrev pub is_too_long : Answer → Bool
 is_too_long answer =
     nat_lt MOST_IN_ANSWER (length answer.addresses) || nat_lt MOST_IN_ANSWER (length answer.routes)
 
--- an answer of a radio has a port, or none, for each row of its ask
+-- an answer of a radio has a port, or none, for each row of its request
 abbrev pub wrong_ports : ℕ → Option OpenRadio → Option Refusal
 wrong_ports given None = None
 wrong_ports given (Some o) =
-    refused_if (not (given == length o.ask.rows)) (refused.WrongPorts (length o.ask.rows))
+    refused_if (not (given == length o.request.rows)) (refused.WrongPorts (length o.request.rows))
 
--- an answer to the ask of an interface is refused for its length, its name, or its number
+-- an answer to the request of an interface is refused for its length, its name, or its number
 abbrev pub answer_refusal : Inputs → List ℕ → ℕ → Answer → Option Refusal
 answer_refusal inputs interface number answer =
     or_else (refused_if (is_too_long answer) (refused.Limit MOST_IN_ANSWER))
     (or_else (refused_if (is_none (interface_named inputs.conf interface)) refused.NoInterface)
     (stale_number number (number_of_interface (open_interface inputs.interfaces interface))))
 
--- an answer to the ask of a radio is refused for its name, its number, or the number of its ports
+-- an answer to the request of a radio is refused for its name, its number, or the number of its ports
 abbrev pub radio_refusal : Inputs → List ℕ → ℕ → List (Option (List ℕ)) → Option Refusal
 radio_refusal inputs radio number ports =
     or_else (refused_if (is_none (radio_named inputs.conf radio)) refused.NoRadio)

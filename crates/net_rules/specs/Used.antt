@@ -8,13 +8,13 @@ use Rattle.net_rules.specs.Rows.{is_name, names_of, interfaces_of}
 use Rattle.net_rules.specs.RadioPorts.{device_of}
 use Rattle.net_rules.specs.Standing.{stands}
 use Rattle.net_rules.specs.Available.{available}
-use Rattle.net_rules.specs.Interfaces.{is_claimed, is_up, layer_of}
+use Rattle.net_rules.specs.Interfaces.{is_claimed, is_up, l3_device_of}
 
 -- an interface uses its device where it claims it, and its layer-3 device where it is up
 abbrev pub uses : Facts → List ℕ → InterfaceRow → Bool
 uses facts name row =
     (is_claimed facts row && is_name (device_of facts row) name)
-    || (is_up facts row && is_name (layer_of facts row) name)
+    || (is_up facts row && is_name (l3_device_of facts row) name)
 
 -- By what is above, whether a name is used: it is available, and an interface uses it, or it is an
 -- own port of a used bridge or the lower of a used VLAN.

@@ -21,7 +21,7 @@ use Rattle.net_rules.specs.Rows.{row_at, names_of, interfaces_of, vlans_of, is_f
 use Rattle.net_rules.specs.Rows.{is_place_of}
 use Rattle.net_rules.specs.RadioPorts.{device_of, radio_ports}
 use Rattle.net_rules.specs.Standing.{Standing, Broken, Alone, Over, Ports, standing_at}
-use Rattle.net_rules.specs.Interfaces.{is_up, layer_of, answer_of}
+use Rattle.net_rules.specs.Interfaces.{is_up, l3_device_of, answer_of}
 use Rattle.net_rules.specs.Used.{used}
 
 -- the MTU of a used name, where one is configured
@@ -140,7 +140,7 @@ given_by facts row (Some dev) = given_on facts row dev
 
 -- the addresses and routes of an interface, on its layer-3 device, where it is up
 abbrev pub given : Facts → InterfaceRow → List Object
-given facts row = if is_up facts row then given_by facts row (layer_of facts row) else []
+given facts row = if is_up facts row then given_by facts row (l3_device_of facts row) else []
 
 -- the names that can be used, each once: those with a row, the ports of radios, and the devices of
 -- interfaces
@@ -149,7 +149,7 @@ known_names facts =
     firsts (λ name. name) (names_of facts.conf
     ++ (map (λ joins. joins.port) (radio_ports facts)
     ++ (filter_map (device_of facts) (interfaces_of facts.conf)
-    ++ filter_map (layer_of facts) (interfaces_of facts.conf))))
+    ++ filter_map (l3_device_of facts) (interfaces_of facts.conf))))
 
 -- what is wanted, as a list
 abbrev pub wanted_list : Facts → List Object

@@ -11,7 +11,7 @@ ghost use Rattle.net_rules.specs.Facts.{Facts};
 ghost use Rattle.net_rules.specs.Rows.{interfaces_of};
 ghost use Rattle.net_rules.specs.RadioPorts.{device_of};
 ghost use Rattle.net_rules.specs.Available.{available, link};
-ghost use Rattle.net_rules.specs.Interfaces.{is_claimed, is_up, layer_of};
+ghost use Rattle.net_rules.specs.Interfaces.{is_claimed, is_up, l3_device_of};
 ghost use Rattle.net_rules.specs.Need.{interface_need};
 ghost use Rattle.net_rules.specs.Want.{given};
 ghost use Rattle.net_rules.specs.Inputs.{facts_of, open_interface};
@@ -20,21 +20,21 @@ ghost use Rattle.net_rules.specs.Notices.{interface_notice, notices_between, not
 ghost use Rattle.net_rules.specs.Fresh.{IsReached};
 ghost use Rattle.net_rules.specs.Reach.{name_of};
 ghost use Rattle.net_rules.specs.Above.{IsAbove, IsOffBase, DiffersAt};
-ghost use Rattle.net_rules.specs.Touched.{HasSameAsks, NeedsStay, left_asks, lost_numbers};
-ghost use Rattle.net_rules.specs.Touched.{touched_asks, asked_of};
+ghost use Rattle.net_rules.specs.Touched.{HasSameRequests, NeedsStay, left_requests, lost_numbers};
+ghost use Rattle.net_rules.specs.Touched.{touched_requests, asked_of};
 
-/// Where rows, open asks and the needs of interfaces that are not touched stay, the asks of touched
-/// interfaces alone follow their needs. What is told then is which of them were lost and which were
-/// opened, and the asks of all other interfaces stay with their answers.
-pub fn asks_follow_touched_needs()
+/// Where rows, open requests and the needs of interfaces that are not touched stay, the requests of
+/// touched interfaces alone follow their needs. What is told then is which of them were lost and
+/// which were opened, and the requests of all other interfaces stay with their answers.
+pub fn requests_follow_touched_needs()
     ensures asked { (before now : Inputs) (touched : List ℕ → Bool) → IsReached before
-        → HasSameAsks before now → NeedsStay (facts_of before) (facts_of now) touched
+        → HasSameRequests before now → NeedsStay (facts_of before) (facts_of now) touched
         → asked now ≡ asked_of touched now }
     ensures told { (before now : Inputs) (touched : List ℕ → Bool) → IsReached before
-        → HasSameAsks before now → notices_between before (asked_of touched now)
+        → HasSameRequests before now → notices_between before (asked_of touched now)
         ≡ map notice.Dropped (lost_numbers (facts_of now) touched now.interfaces)
         ++ map (interface_notice now.conf) (opened_interfaces now.next
-        (touched_asks now touched (left_asks (facts_of now) touched now.interfaces))) }
+        (touched_requests now touched (left_requests (facts_of now) touched now.interfaces))) }
     ensures others { (inputs : Inputs) (touched : List ℕ → Bool) (name : List ℕ)
         → touched name ≡ false → open_interface (asked_of touched inputs).interfaces name
         ≡ open_interface inputs.interfaces name }
@@ -53,14 +53,14 @@ pub fn devices_touch_what_is_above()
         × (link now name ≡ link before name) }
     ensures places { (before now : Facts) (base : List ℕ) (row : InterfaceRow)
         → DiffersAt base before now → (device_of now row ≡ device_of before row)
-        × (layer_of now row ≡ layer_of before row) }
+        × (l3_device_of now row ≡ l3_device_of before row) }
     ensures needs { (before now : Facts) (base : List ℕ) (row : InterfaceRow)
         → DiffersAt base before now → IsOffBase before base (device_of before row)
         → (is_claimed now row ≡ is_claimed before row)
         × (interface_need now row ≡ interface_need before row) }
     ensures uses { (before now : Facts) (base : List ℕ) (row : InterfaceRow)
         → DiffersAt base before now → IsOffBase before base (device_of before row)
-        → IsOffBase before base (layer_of before row) → (is_up now row ≡ is_up before row)
+        → IsOffBase before base (l3_device_of before row) → (is_up now row ≡ is_up before row)
         × (given now row ≡ given before row) }
     ensures stay { (before now : Facts) (base : List ℕ) (touched : List ℕ → Bool)
         → DiffersAt base before now → ((row : InterfaceRow)
@@ -68,10 +68,10 @@ pub fn devices_touch_what_is_above()
         → IsOffBase before base (device_of before row)) → NeedsStay before now touched }
 {}
 
-/// A command touches the interface that it names. An answer touches no ask, and nothing is told of
-/// it.
-pub fn commands_and_answers_touch_one()
-    ensures command { (inputs : Inputs) (interface : List ℕ) (up : Bool) → NeedsStay
+/// An operator state touches the interface that it names. An answer touches no request, and nothing
+/// is told of it.
+pub fn operator_states_and_answers_touch_one()
+    ensures operator_state { (inputs : Inputs) (interface : List ℕ) (up : Bool) → NeedsStay
         (facts_of inputs) (facts_of (changed inputs (event.Operator interface up)))
         (λ name. bytes_eq name interface) }
     ensures answer { (inputs : Inputs) (interface : List ℕ) (number : ℕ) (answer : Answer)

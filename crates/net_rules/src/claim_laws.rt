@@ -7,7 +7,7 @@ ghost use Rattle.net_rules.specs.Facts.{Facts};
 ghost use Rattle.net_rules.specs.Rows.{interfaces_of};
 ghost use Rattle.net_rules.specs.RadioPorts.{device_of};
 ghost use Rattle.net_rules.specs.Available.{available};
-ghost use Rattle.net_rules.specs.Interfaces.{is_claimed, is_ready, is_up, layer_of};
+ghost use Rattle.net_rules.specs.Interfaces.{is_claimed, is_ready, is_up, l3_device_of};
 ghost use Rattle.net_rules.specs.Used.{uses};
 ghost use Rattle.net_rules.specs.declared.state.InterfaceState.{InterfaceState};
 ghost use Rattle.net_rules.specs.Claims.{uses_by, claim_of, claims_of};
@@ -51,6 +51,6 @@ pub fn answers_touch_one()
         → IsStateOf (record facts { answer = answer }) row st }
     ensures up { (facts : Facts) (answer : List ℕ → Option Answer) (row : InterfaceRow)
         → answer row.name ≡ facts.answer row.name
-        → (layer_of (record facts { answer = answer }) row ≡ layer_of facts row)
+        → (l3_device_of (record facts { answer = answer }) row ≡ l3_device_of facts row)
         × (is_up (record facts { answer = answer }) row ≡ is_up facts row) }
 {}

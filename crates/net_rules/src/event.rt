@@ -13,13 +13,13 @@ pub enum Event {
         interface: Text,
         up: bool,
     },
-    /// An answer to the ask of an interface that has this number.
+    /// An answer to the request of an interface that has this number.
     Answer {
         interface: Text,
         number: u64,
         answer: Answer,
     },
-    /// An answer to the ask of a radio that has this number.
+    /// An answer to the request of a radio that has this number.
     Radio {
         radio: Text,
         number: u64,
@@ -27,7 +27,7 @@ pub enum Event {
     },
 }
 
-/// What is told of asks after an event.
+/// What is told of requests after an event.
 #[derive(Clone, Copy)]
 pub enum Notice {
     /// The ask of this number is no longer open.

@@ -76,8 +76,8 @@ pub fn objects_are_wanted()
         → (o : Object) → Has (want facts) o ↔ IsWanted facts o }
 {}
 
-/// What sound rows want is allowed by the kernel beside the present devices, whatever commands and
-/// answers there are.
+/// What sound rows want is allowed by the kernel beside the present devices, whatever operator
+/// states and answers there are.
 pub fn want_is_allowed()
     ensures { (facts : Facts) (devices : Devices) → IsSound facts.conf
         → ((name : List ℕ) → facts.device name ≡ map.get devices name)
@@ -174,14 +174,14 @@ pub fn no_call_names_what_stayed()
         → Contains calls call → Has (footprint_named moment.inputs name) (object_of call) → ⊥ }
 {}
 
-/// Whatever events come, behind each one every interface and every radio has an open ask exactly
-/// where it has a need, and that ask is its need.
-pub fn asks_are_the_needs()
+/// Whatever events come, behind each one every interface and every radio has an open request
+/// exactly where it has a need, and that request is its need.
+pub fn requests_are_the_needs()
     ensures { (inputs : Inputs) → IsReached inputs → AreAsked inputs }
 {}
 
-/// Each open ask has a number of its own below the next one, which never falls: no number is given
-/// twice. An event raises it by one at most for each interface and each radio of the rows.
+/// Each open request has a number of its own below the next one, which never falls: no number is
+/// given twice. An event raises it by one at most for each interface and each radio of the rows.
 pub fn no_number_is_given_twice()
     ensures numbered { (inputs : Inputs) → IsReached inputs → AreNumbered inputs }
     ensures rises { (inputs : Inputs) (event : Event) → inputs.next ≤ (after inputs event).next }
@@ -190,7 +190,7 @@ pub fn no_number_is_given_twice()
         + length (after inputs event).conf.radios) }
 {}
 
-/// An answer to a number that is not that of the open ask changes nothing.
+/// An answer to a number that is not that of the open request changes nothing.
 pub fn stale_answers_change_nothing()
     ensures interface { (inputs : Inputs) → IsReached inputs → (interface : List ℕ) (number : ℕ)
         (answer : Answer) → ((o : OpenInterface)
@@ -203,8 +203,8 @@ pub fn stale_answers_change_nothing()
 {}
 
 /// A fresh start comes to the same facts, and so wants the same: from nothing each present device
-/// comes, the rows are loaded, each last command is given, then the latest answers of radios, and
-/// then those of interfaces, to the asks that are open by then.
+/// comes, the rows are loaded, each last operator state is given, then the latest answers of
+/// radios, and then those of interfaces, to the requests that are open by then.
 pub fn a_fresh_start_wants_the_same()
     ensures facts { (inputs : Inputs) → IsReached inputs
         → facts_of (fresh_start inputs) ≡ facts_of inputs }

@@ -11,13 +11,13 @@ pub enum Refusal {
     NoInterface,
     /// No radio has that name.
     NoRadio,
-    /// The number is not that of the open ask, which is `current`, and 0 where there is none.
+    /// The number is not that of the open request, which is `current`, and 0 where there is none.
     Stale { given: u64, current: u64 },
     /// No device of that name is present.
     NoDevice,
     /// The name of a device that comes is taken.
     Known,
-    /// An answer of a radio has another number of ports than its ask has rows.
+    /// An answer of a radio has another number of ports than its request has rows.
     WrongPorts { wanted: u64 },
     /// A list is longer than this number allows.
     Limit { number: u64 },

@@ -12,10 +12,10 @@ pub struct InterfaceState {
     pub is_first: bool,
     pub device: Option<DevName>,
     /// Its layer-3 device.
-    pub layer: Option<DevName>,
+    pub l3_device: Option<DevName>,
     pub is_claimed: bool,
     pub is_up: bool,
-    /// The number of its open ask.
+    /// The number of its open request.
     pub number: Option<u64>,
 }
 
@@ -25,7 +25,7 @@ impl InterfaceState {
         ensures { result ≡ uses_by name.now self.now }
     {
         let claims = self.is_claimed & is_name(&self.device, name);
-        claims | (self.is_up & is_name(&self.layer, name))
+        claims | (self.is_up & is_name(&self.l3_device, name))
     }
 }
 

@@ -9,7 +9,7 @@ use Rattle.uci_tree.specs.declared.package.Package.{Package}
 use Rattle.net_settle.specs.Outside.{Outside}
 use Rattle.net_start.specs.declared.start_error.StartError.{StartError}
 use Rattle.net_start.specs.declared.start_error.StartError.TheVariants as error
-use Rattle.net_start.specs.Inputs.{present_of, start_wants, start_calls, start_asks}
+use Rattle.net_start.specs.Inputs.{present_of, start_wants, start_calls, start_requests}
 use Rattle.net_start.specs.Devices.{AreAdded, CameInFront}
 use Rattle.net_start.specs.Settling.{Finished, StoppedAtCall, StoppedAtLine}
 
@@ -24,23 +24,23 @@ pub record Started (Settled : List Call → List ℕ → Objects → Outside →
   pub added : AreAdded names before between
   pub settled : Settled
       (start_calls network (present_of between.devices names))
-      (start_asks network (present_of between.devices names))
+      (start_requests network (present_of between.devices names))
       (start_wants network (present_of between.devices names))
       between after
 
--- it is up: all calls were made and all asks told, and the kernel holds what is wanted
+-- it is up: all calls were made and all requests told, and the kernel holds what is wanted
 abbrev pub IsUp : List (List ℕ) → Package → Outside → Outside → Type 0
 IsUp names network before after = Started Finished names network before after
 
 -- a call failed, and so many objects are due
 abbrev pub IsStoppedAtCall : ℕ → List (List ℕ) → Package → Outside → Outside → Type 0
 IsStoppedAtCall due names network before after =
-    Started (λ all asks wanted. StoppedAtCall all asks wanted due) names network before after
+    Started (λ all requests wanted. StoppedAtCall all requests wanted due) names network before after
 
 -- a line was not written, or not wholly
 abbrev pub IsCutShort : List (List ℕ) → Package → Outside → Outside → Type 0
 IsCutShort names network before after =
-    Started (λ all asks wanted. StoppedAtLine all asks) names network before after
+    Started (λ all requests wanted. StoppedAtLine all requests) names network before after
 
 -- memory was lacking: the output is as it was, and so is the kernel, but for a front of the named devices
 pub record LackedMemory (names : List (List ℕ)) (before after : Outside) : Type 0 where

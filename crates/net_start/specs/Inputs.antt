@@ -19,7 +19,7 @@ use Rattle.net_rules.specs.Inputs.{no_inputs}
 use Rattle.net_rules.specs.After.{after}
 use Rattle.net_rules.specs.Moment.{devices_of, want_of}
 use Rattle.net_rules.specs.Notices.{notices}
-use Rattle.ask_lines.specs.AskLine.{ask_line}
+use Rattle.request_lines.specs.RequestLine.{request_line}
 use Rattle.net_start.specs.declared.devices.TheConstants.{ETHERNET_MTU}
 
 -- a `wireless` package that says nothing
@@ -62,10 +62,10 @@ abbrev pub start_calls : Package → List (List ℕ) → List Call
 start_calls network names =
     calls (devices_of (start_inputs network names)) set.empty (start_wants network names)
 
--- the lines of what is told of asks
-abbrev pub lines_of_asks : Conf → List Notice → List ℕ
-lines_of_asks conf told = flat_map (ask_line conf) told
+-- the lines of what is told of requests
+abbrev pub lines_of_requests : Conf → List Notice → List ℕ
+lines_of_requests conf told = flat_map (request_line conf) told
 
-abbrev pub start_asks : Package → List (List ℕ) → List ℕ
-start_asks network names =
-    lines_of_asks (rows_of network) (notices (inputs_with names) (loading network))
+abbrev pub start_requests : Package → List (List ℕ) → List ℕ
+start_requests network names =
+    lines_of_requests (rows_of network) (notices (inputs_with names) (loading network))

@@ -1,4 +1,4 @@
--- How a settling from nothing ends that tells of asks behind its calls.
+-- How a settling from nothing ends that tells of requests behind its calls.
 use Rattle.std.specs.Prelude.{ℕ, ◌≡◌, List, [], ◌∷◌, ◌++◌, map, length, Result, Ok, Err}
 use Rattle.plane_words.specs.Causes.{Rose, RoseBy}
 use Rattle.plane_words.specs.Growth.{Grows}
@@ -25,19 +25,19 @@ pub record Reached (all made left : List Call) (failed : List Asked) (shown : Li
   pub devices : after.devices ≡ before.devices
 
 -- all calls were made, and the kernel holds what is wanted
-pub record Finished (all : List Call) (asks : List ℕ) (wanted : Objects) (before after : Outside)
+pub record Finished (all : List Call) (requests : List ℕ) (wanted : Objects) (before after : Outside)
     : Type 0 where
-  pub reached : Reached all all [] [] (lines_of all ++ asks) before after
+  pub reached : Reached all all [] [] (lines_of all ++ requests) before after
   pub held : after.objects ≡ wanted
 
 -- A call failed, and it and the others are what leads to what is wanted. So many objects are due.
-pub record StoppedAtCall (all : List Call) (asks : List ℕ) (wanted : Objects) (due : ℕ)
+pub record StoppedAtCall (all : List Call) (requests : List ℕ) (wanted : Objects) (due : ℕ)
     (before after : Outside) : Type 0 where
   pub made : List Call
   pub failed : Call
   pub others : List Call
   pub reached : Reached all made (failed ∷ others) (failed_call failed ∷ [])
-      (lines_of made ++ asks) before after
+      (lines_of made ++ requests) before after
   pub left : calls after.devices after.objects wanted ≡ failed ∷ others
   pub count : due_count after.objects wanted ≡ due
 
@@ -47,27 +47,27 @@ pub data IsFailed : List Call → List Asked → Type 0 where
   at_first : (failed : Call) (others : List Call)
       → IsFailed (failed ∷ others) (failed_call failed ∷ [])
 
--- a line was not written, or not wholly: that of a call, or one of the asks
-pub data CutShort (all : List Call) (asks : List ℕ) (before after : Outside) : Type 0 where
+-- a line was not written, or not wholly: that of a call, or one of the requests
+pub data CutShort (all : List Call) (requests : List ℕ) (before after : Outside) : Type 0 where
   at_line : (earlier : List Call) (last : Call) (left : List Call) (front back : List ℕ)
       → whole_line last ≡ front ++ back
       → Reached all (earlier ++ last ∷ []) left [] (lines_of earlier ++ front) before after
-      → CutShort all asks before after
-  at_asks : (made left : List Call) (failed : List Asked) (front back : List ℕ)
-      → asks ≡ front ++ back → IsFailed left failed
+      → CutShort all requests before after
+  at_requests : (made left : List Call) (failed : List Asked) (front back : List ℕ)
+      → requests ≡ front ++ back → IsFailed left failed
       → Reached all made left failed (lines_of made ++ front) before after
-      → CutShort all asks before after
+      → CutShort all requests before after
 
-pub record StoppedAtLine (all : List Call) (asks : List ℕ) (before after : Outside) : Type 0 where
-  pub cut : CutShort all asks before after
+pub record StoppedAtLine (all : List Call) (requests : List ℕ) (before after : Outside) : Type 0 where
+  pub cut : CutShort all requests before after
   pub cause : Rose before.out_faults after.out_faults
 
 -- how it ends
 abbrev pub SettlingEnds : {X : Type 0} → List Call → List ℕ → Objects → Outside → Outside
     → Result X StartError → Type 0
-SettlingEnds all asks wanted before after (Ok _) = Finished all asks wanted before after
-SettlingEnds all asks wanted before after (Err (error.KernelFailed due)) =
-    StoppedAtCall all asks wanted due before after
-SettlingEnds all asks wanted before after (Err error.WriteFailed) =
-    StoppedAtLine all asks before after
-SettlingEnds all asks wanted before after (Err error.Memory) = ⊥
+SettlingEnds all requests wanted before after (Ok _) = Finished all requests wanted before after
+SettlingEnds all requests wanted before after (Err (error.KernelFailed due)) =
+    StoppedAtCall all requests wanted due before after
+SettlingEnds all requests wanted before after (Err error.WriteFailed) =
+    StoppedAtLine all requests before after
+SettlingEnds all requests wanted before after (Err error.Memory) = ⊥

@@ -12,8 +12,8 @@ ghost use Rattle.net_start.specs.Inputs as spec;
 ghost use Rattle.net_start.specs.Settling.{SettlingEnds};
 ghost use Rattle.net_start.specs.BringUp.{IsBare, BringUpEnds};
 
-use crate::asks::lines_of_asks;
 use crate::devices::add_devices;
+use crate::requests::lines_of_requests;
 use crate::rows::no_wireless;
 use crate::start_error::StartError;
 use kern_model::{DevName, Kernel};
@@ -24,13 +24,13 @@ use uci_tree::Package;
 
 /// Adds the named devices to a kernel that has none, in their order, and brings the network of the
 /// package up on those that it took: each call is made and its line written, and then the lines of
-/// the asks. A device that the kernel does not take is absent.
+/// the requests. A device that the kernel does not take is absent.
 ///
 /// # Errors
 ///
-/// `KernelFailed` at the first call that fails: the lines of the calls before and of the asks are
-/// written. `WriteFailed` at the first line that is not written, or not wholly. `Memory`: then no
-/// call was made and nothing was written, but devices may have been added.
+/// `KernelFailed` at the first call that fails: the lines of the calls before and of the requests
+/// are written. `WriteFailed` at the first line that is not written, or not wholly. `Memory`: then
+/// no call was made and nothing was written, but devices may have been added.
 pub fn bring_network_up<K: Kernel, O: Sink>(
     alloc: Global,
     names: &[DevName],
@@ -50,44 +50,45 @@ pub fn bring_network_up<K: Kernel, O: Sink>(
     let Ok(()) = add_devices(alloc, names, &mut net, kernel) else {
         return Err(StartError::Memory);
     };
-    let Ok(asks) = load(alloc, network, &mut net) else {
+    let Ok(requests) = load(alloc, network, &mut net) else {
         return Err(StartError::Memory);
     };
-    settle(&mut net, asks.as_slice(), kernel, out)
+    settle(&mut net, requests.as_slice(), kernel, out)
 }
 
-// Loads the rows of the package, and gives the lines of the asks that are opened.
+// Loads the rows of the package, and gives the lines of the requests that are opened.
 fn load(alloc: Global, network: &Package, net: &mut Net) -> Result<Vec<u8>, Memory>
     requires told { net.old.notices ≡ [] }
     ensures moment { OnOk result
         (moment_of net.new ≡ moment_after (moment_of net.old) (loading network.now)) }
     ensures kernel { HasSameKernel net.old net.new }
-    ensures asks { IfOk result (λ asks. asks.items ≡ spec.lines_of_asks (rows_of network.now)
+    ensures requests { IfOk result
+        (λ requests. requests.items ≡ spec.lines_of_requests (rows_of network.now)
         (notices net.old.inputs (loading network.now))) }
 {
     let Ok(()) = net.load(alloc, network, &no_wireless(alloc)) else {
         return Err(Memory);
     };
-    lines_of_asks(alloc, net)
+    lines_of_requests(alloc, net)
 }
 
-// Settles, and tells of the asks behind it.
+// Settles, and tells of the requests behind it.
 fn settle<K: Kernel, O: Sink>(
     net: &mut Net,
-    asks: &[u8],
+    requests: &[u8],
     kernel: &mut K,
     out: &mut O,
 ) -> Result<(), StartError>
     requires { IsOf K.Kernel kernel.old net.old }
-    ensures { SettlingEnds (calls_of net.old) asks.now (want_of net.old.inputs)
+    ensures { SettlingEnds (calls_of net.old) requests.now (want_of net.old.inputs)
         (outside_of O.Sink K.Kernel out.old kernel.old)
         (outside_of O.Sink K.Kernel out.new kernel.new) result }
 {
     match net.settle(kernel, out) {
-        Ok(()) => tell(asks, out),
+        Ok(()) => tell(requests, out),
         Err(error) => match error {
             NetError::WriteFailed => Err(StartError::WriteFailed),
-            _ => match tell(asks, out) {
+            _ => match tell(requests, out) {
                 Ok(()) => Err(StartError::KernelFailed { due: net.due() }),
                 Err(error) => Err(error),
             },

@@ -2,9 +2,9 @@
 //! settling makes the kernel hold what they want.
 #![tactic(auto)]
 
-mod asks;
 mod bring_up;
 mod devices;
+mod requests;
 mod rows;
 mod start_error;
 

@@ -12,11 +12,11 @@ use Rattle.net_rules.specs.Inputs.{facts_of}
 use Rattle.net_rules.specs.Rows.{asks_nothing}
 use Rattle.net_rules.specs.RadioPorts.{device_of}
 use Rattle.net_rules.specs.Available.{available}
-use Rattle.net_rules.specs.Interfaces.{is_ready, answer_of, layer_of, serves_layer, is_answered_up, is_up}
+use Rattle.net_rules.specs.Interfaces.{is_ready, answer_of, l3_device_of, serves_l3_device, is_answered_up, is_up}
 use Rattle.net_rules.specs.Want.{given_by}
 use Rattle.graph_rules.specs.State.{Known, place_among}
 use Rattle.graph_laws.proofs.BelowLemmas.{unknown_below}
-use Rattle.graph_settle.specs.Course.{Course}
+use Rattle.graph_settle.specs.SettlingState.{SettlingState}
 use Rattle.given_objects.specs.Gifts.{Gifts}
 use Rattle.net_reach.specs.Reach.{IsReachOf}
 use Rattle.net_rules.specs.declared.state.InterfaceState.{InterfaceState}
@@ -72,12 +72,12 @@ module _ (inputs : Inputs) where
 
     at_hand_at : AreNoted inputs states → (q : ℕ) (r : InterfaceRow) (st : InterfaceState) → slice_get inputs.conf.interfaces q ≡ Some r → slice_get now.list.items q ≡ Some st → st.is_first ≡ true → asks_nothing r.proto ≡ false → st.number
         ≡ None → IsAtHand r (slice_get states.spare.items q)
-    at_hand_at noted q r st at here is_it asks none = elim (stood q st here) as (λ _. IsAtHand r (slice_get states.spare.items q)) [
+    at_hand_at noted q r st at here is_it requests none = elim (stood q st here) as (λ _. IsAtHand r (slice_get states.spare.items q)) [
       | inl it ↦
           noted.at_hand q r old at (ap (slice_get states.list.items) it.0 ∙ is)
-          (sym first ∙ ap (λ (s : InterfaceState). s.is_first) (sym it.1) ∙ is_it) asks
+          (sym first ∙ ap (λ (s : InterfaceState). s.is_first) (sym it.1) ∙ is_it) requests
           (sym number ∙ ap (λ (s : InterfaceState). s.number) (sym it.1) ∙ none)
-      | inr other ↦ noted.at_hand q r st at other.1 is_it asks none
+      | inr other ↦ noted.at_hand q r st at other.1 is_it requests none
     ]
 
     noted_still : AreNoted inputs states → AreNoted inputs now
@@ -86,7 +86,7 @@ module _ (inputs : Inputs) where
       spare_size = ap (λ (s : States). length s.spare.items) kept ∙ noted.spare_size;
       first = first_at noted;
       each = each_at noted;
-      at_hand = λ q r st at here is_it asks none. subst (λ (s : States). IsAtHand r (slice_get s.spare.items q)) (sym kept) (at_hand_at noted q r st at here is_it asks none);
+      at_hand = λ q r st at here is_it requests none. subst (λ (s : States). IsAtHand r (slice_get s.spare.items q)) (sym kept) (at_hand_at noted q r st at here is_it requests none);
     }
 
     pub tied_still : IsTied inputs states → IsTied inputs now
@@ -104,7 +104,7 @@ module _ (inputs : Inputs) where
   -- ---- what an interface may become
 
   -- it is idle
-  pub can_idle : (c : Course) (row : InterfaceRow) (old : InterfaceState) → CanBecome inputs c row old (idle old)
+  pub can_idle : (c : SettlingState) (row : InterfaceRow) (old : InterfaceState) → CanBecome inputs c row old (idle old)
   can_idle c row old = record {
     first = refl;
     device = refl;
@@ -130,23 +130,23 @@ module _ (inputs : Inputs) where
   up_needs_none : (row : InterfaceRow) → is_up (facts_of inputs) row ≡ true → needs_no_answer (facts_of inputs) row ≡ true
   up_needs_none row up =
       let facts : Facts = facts_of inputs in
-      let served : Bool = is_answered_up (answer_of facts row) && serves_layer facts (device_of facts row) (layer_of facts row) in
+      let served : Bool = is_answered_up (answer_of facts row) && serves_l3_device facts (device_of facts row) (l3_device_of facts row) in
       let told = (both (is_ready facts row) (asks_nothing row.proto || served) up).1 in
       elim (either (asks_nothing row.proto) served told) as (λ _. needs_no_answer facts row ≡ true) [
         | inl own ↦ of_left (asks_nothing row.proto) (is_some (answer_of facts row)) own
         | inr by_answer ↦ of_right (asks_nothing row.proto) (is_some (answer_of facts row))
-            (answered (answer_of facts row) (both (is_answered_up (answer_of facts row)) (serves_layer facts (device_of facts row) (layer_of facts row)) by_answer).0)
+            (answered (answer_of facts row) (both (is_answered_up (answer_of facts row)) (serves_l3_device facts (device_of facts row) (l3_device_of facts row)) by_answer).0)
       ]
 
-  places_by : (gs : Gifts) (row : InterfaceRow) (up : Bool) (layer : Option (List ℕ)) → (up ≡ true → HavePlaces gs (given_by (facts_of inputs) row layer)) → HavePlaces gs (if up then given_by (facts_of inputs) row layer else [])
-  places_by gs row true layer has = has refl
-  places_by gs row false layer has = λ o member. absurd (none_in_nil o member)
+  places_by : (gs : Gifts) (row : InterfaceRow) (up : Bool) (l3_device : Option (List ℕ)) → (up ≡ true → HavePlaces gs (given_by (facts_of inputs) row l3_device)) → HavePlaces gs (if up then given_by (facts_of inputs) row l3_device else [])
+  places_by gs row true l3_device has = has refl
+  places_by gs row false l3_device has = λ o member. absurd (none_in_nil o member)
 
   has_places : (gs : Gifts) → HasGiftRoom inputs gs → (place : ℕ) (row : InterfaceRow) (new : InterfaceState) → slice_get inputs.conf.interfaces place ≡ Some row → is_first inputs.conf.interfaces place row.name ≡ true
       → IsStateOf (facts_of inputs) row new → HavePlaces gs (gives (facts_of inputs) row new)
   has_places gs room place row new at first is =
-      places_by gs row new.is_up new.layer
-      (λ up. subst (λ (layer : Option (List ℕ)). HavePlaces gs (given_by (facts_of inputs) row layer)) (sym is.layer)
+      places_by gs row new.is_up new.l3_device
+      (λ up. subst (λ (l3_device : Option (List ℕ)). HavePlaces gs (given_by (facts_of inputs) row l3_device)) (sym is.l3_device)
       (room.places place row at first (up_needs_none row (sym is.up ∙ up))))
 
   device_as : (first : Bool) (row : InterfaceRow) (st : InterfaceState) → first ≡ true → IsNotedAs first inputs row st → IsNoted inputs row st
@@ -158,7 +158,7 @@ module _ (inputs : Inputs) where
   device_noted states tied place row st at is first = (device_as st.is_first row st first (tied.noted.each place row st at is)).device
 
   -- it is what it is by the inputs
-  pub can_next : (states : States) (c : Course) → IsTied inputs states → IsCountedBy inputs states.list.items c → (place : ℕ) (row : InterfaceRow) (old new : InterfaceState) → slice_get inputs.conf.interfaces place ≡ Some row
+  pub can_next : (states : States) (c : SettlingState) → IsTied inputs states → IsCountedBy inputs states.list.items c → (place : ℕ) (row : InterfaceRow) (old new : InterfaceState) → slice_get inputs.conf.interfaces place ≡ Some row
       → slice_get states.list.items place ≡ Some old → old.is_first ≡ true → IsNext inputs row old new → CanBecome inputs c row old new
   can_next states c tied counted place row old new at is first next = record {
     first = next.first;

@@ -23,7 +23,7 @@ use Rattle.net_gifts.proofs.TimesLemmas.{times_move, times_part, times_most}
 use Rattle.net_gifts.proofs.FoldLemmas.{given_list, withdrawn_list}
 use Rattle.net_gifts.proofs.BareLemmas.{more_bare, less_bare, places_stay}
 use Rattle.claim_moves.proofs.NamedLemmas.{claims_same, claims_twice}
-use Rattle.graph_settle.specs.Course.{Course}
+use Rattle.graph_settle.specs.SettlingState.{SettlingState}
 use Rattle.claim_moves.specs.Claiming.{HasClaims, CanMove, Moves, DiffersInClaims}
 use Rattle.net_states.specs.Counted.{AgreesWith, HasGiftRoom, IsCountedBy, DiffersInCounts}
 
@@ -74,12 +74,12 @@ module _ (inputs : Inputs) where
   abbrev pub given_as : InterfaceRow → InterfaceState → List Object
   given_as row st = gives (facts_of inputs) row st
 
-  few_by : (row : InterfaceRow) (b : Bool) (layer : Option (List ℕ)) → length (given_by facts row layer) ≤ 2 ^ 50 → length (if b then given_by facts row layer else []) ≤ 2 ^ 50
-  few_by row true layer few = few
-  few_by row false layer few = omega arith
+  few_by : (row : InterfaceRow) (b : Bool) (l3_device : Option (List ℕ)) → length (given_by facts row l3_device) ≤ 2 ^ 50 → length (if b then given_by facts row l3_device else []) ≤ 2 ^ 50
+  few_by row true l3_device few = few
+  few_by row false l3_device few = omega arith
 
   pub gives_few : (gs : Gifts) → HasGiftRoom inputs gs → (row : InterfaceRow) (st : InterfaceState) → Contains inputs.conf.interfaces row → length (given_as row st) ≤ 2 ^ 50
-  gives_few gs room row st member = few_by row st.is_up st.layer (room.few row st.layer member)
+  gives_few gs room row st member = few_by row st.is_up st.l3_device (room.few row st.l3_device member)
 
   thousand : (n most : ℕ) → n ≤ 1024 → n * most ≤ 1024 * most
   thousand n most few = mul-le n most 1024 most few (omega arith)
@@ -133,8 +133,8 @@ module _ (inputs : Inputs) where
       omega (arith, most, less, few)
 
 -- what is given where one is up on a device
-pub gives_up : (inputs : Inputs) (row : InterfaceRow) (st : InterfaceState) (layer : List ℕ) → st.is_up ≡ true → st.layer ≡ Some layer → gives (facts_of inputs) row st ≡ given_on (facts_of inputs) row layer
-gives_up inputs row st layer up is = ap (λ b. if b then given_by (facts_of inputs) row st.layer else []) up ∙ ap (given_by (facts_of inputs) row) is
+pub gives_up : (inputs : Inputs) (row : InterfaceRow) (st : InterfaceState) (l3_device : List ℕ) → st.is_up ≡ true → st.l3_device ≡ Some l3_device → gives (facts_of inputs) row st ≡ given_on (facts_of inputs) row l3_device
+gives_up inputs row st l3_device up is = ap (λ b. if b then given_by (facts_of inputs) row st.l3_device else []) up ∙ ap (given_by (facts_of inputs) row) is
 
 -- places are there once something was withdrawn
 pub places_after : (before now : Gifts) (gone os : List Object) → now ≡ fold given_once_less before gone → HavePlaces before os → HavePlaces now os
@@ -144,27 +144,27 @@ places_after before now gone os is has =
 
 -- ---- both
 
-pub same_counts : (c : Course) → DiffersInCounts c c
-same_counts c = record { graph = claims_same c.graph; gifts = refl; may_fall = refl }
+pub same_counts : (c : SettlingState) → DiffersInCounts c c
+same_counts c = record { graph = claims_same c.graph; gifts = refl; may_lose_link = refl }
 
-pub counts_twice : (a b c : Course) → DiffersInCounts a b → DiffersInCounts b c → DiffersInCounts a c
+pub counts_twice : (a b c : SettlingState) → DiffersInCounts a b → DiffersInCounts b c → DiffersInCounts a c
 counts_twice a b c first second = record {
   graph = claims_twice a.graph b.graph c.graph first.graph second.graph;
   gifts = second.gifts ∙ first.gifts;
-  may_fall = second.may_fall ∙ first.may_fall;
+  may_lose_link = second.may_lose_link ∙ first.may_lose_link;
 }
 
 -- What an interface gave is withdrawn, its claims move, and what it gives now is given.
 module _ (inputs : Inputs) (states : List InterfaceState) (place : ℕ) (row : InterfaceRow) (old new : InterfaceState) (at : slice_get inputs.conf.interfaces place ≡ Some row) (is : slice_get states place ≡ Some old)
-    (before less now : Course) (graph : State)
+    (before less now : SettlingState) (graph : State)
     (less_gifts : less.gifts ≡ fold given_once_less before.gifts (gives (facts_of inputs) row old)) (less_kept : less ≡ record before { gifts = less.gifts })
     (moves : Moves old new less.graph.known graph.known) (claims : DiffersInClaims less.graph graph)
     (gifts : now.gifts ≡ fold given_once_more less.gifts (gives (facts_of inputs) row new)) (kept : now ≡ record less { graph = graph; gifts = now.gifts }) where
   less_graph : less.graph ≡ before.graph
-  less_graph = ap (λ (c : Course). c.graph) less_kept
+  less_graph = ap (λ (c : SettlingState). c.graph) less_kept
 
   now_graph : now.graph ≡ graph
-  now_graph = ap (λ (c : Course). c.graph) kept
+  now_graph = ap (λ (c : SettlingState). c.graph) kept
 
   pub counts_alone : DiffersInCounts before now
   counts_alone = record {
@@ -174,7 +174,7 @@ module _ (inputs : Inputs) (states : List InterfaceState) (place : ℕ) (row : I
         ∙ more_bare less.gifts (gives (facts_of inputs) row new)
         ∙ ap (λ (gs : Gifts). map without_givers gs) less_gifts
         ∙ less_bare before.gifts (gives (facts_of inputs) row old);
-    may_fall = ap (λ (c : Course). c.may_fall) kept ∙ ap (λ (c : Course). c.may_fall) less_kept;
+    may_lose_link = ap (λ (c : SettlingState). c.may_lose_link) kept ∙ ap (λ (c : SettlingState). c.may_lose_link) less_kept;
   }
 
   moves_now : Moves old new before.graph.known now.graph.known

@@ -6,7 +6,7 @@ use Rattle.std.proofs.lemmas.List.{length_push, length-take-le}
 use Rattle.std.proofs.lemmas.Option.{slice_get_within, slice_get-get_or, slice_get_read, slice_get_cases, same_Some}
 use Rattle.std.proofs.lemmas.Bool.Decides.{Decides-eqb}
 use Rattle.net_rows.specs.declared.rows.InterfaceRow.{InterfaceRow}
-use Rattle.net_rules.specs.declared.ask.InterfaceAsk.{InterfaceAsk}
+use Rattle.net_rules.specs.declared.request.InterfaceRequest.{InterfaceRequest}
 use Rattle.net_rules.specs.declared.inputs.Inputs.{Inputs}
 use Rattle.net_rules.specs.Rows.{asks_nothing}
 use Rattle.net_rules.specs.Need.{in_order}
@@ -20,8 +20,8 @@ use Rattle.net_rules.specs.States.{is_first, IsIdle}
 use Rattle.asked_places.specs.Touched.{names_of_rows}
 use Rattle.asked_places.proofs.PlaceLemmas.{place_of_first, first_at_place}
 use Rattle.net_states.specs.declared.states.States.{States}
-use Rattle.net_states.specs.Kept.{number_of, IsNotedAs, IsAtHand, AreOwnAsks, IsTied}
-use Rattle.net_states.specs.Load.{IsNotedIdle, spare_ask, IsSpare, AreBeside, AreIdle}
+use Rattle.net_states.specs.Kept.{number_of, IsNotedAs, IsAtHand, AreOwnRequests, IsTied}
+use Rattle.net_states.specs.Load.{IsNotedIdle, spare_request, IsSpare, AreBeside, AreIdle}
 
 -- ---- one item more beside one more
 
@@ -104,26 +104,28 @@ noted_idle inputs place row st first device number claimed up = record {
     by true number = record { device = device; number = number }
     by false number = record { idle = record { claimed = claimed; up = up }; number = number }
 
-pub is_at_hand : (row : InterfaceRow) (st : InterfaceState) (kept : Option (Option InterfaceAsk)) (ask : Option InterfaceAsk) → kept ≡ Some ask → ask ≡ spare_ask row st → st.is_first ≡ true → asks_nothing row.proto ≡ false → st.number
+pub is_at_hand : (row : InterfaceRow) (st : InterfaceState) (kept : Option (Option InterfaceRequest)) (request : Option InterfaceRequest) → kept ≡ Some request → request ≡ spare_request row st → st.is_first ≡ true → asks_nothing row.proto
+    ≡ false → st.number
     ≡ None → IsAtHand row kept
-is_at_hand row st kept ask here is first asks none =
+is_at_hand row st kept request here is first requests none =
     let all : (st.is_first && (is_none st.number && not (asks_nothing row.proto))) ≡ true =
     ap (λ b. b && (is_none st.number && not (asks_nothing row.proto))) first
     ∙ ap (λ (n : Option ℕ). is_none n && not (asks_nothing row.proto)) none
-    ∙ ap not asks in
-    let made : InterfaceAsk = record { name = row.name; proto = row.proto; options = in_order row.options; device = st.device } in
-    let found : kept ≡ Some (Some made) = here ∙ ap (λ (a : Option InterfaceAsk). Some a) (is ∙ ap (λ b. cond {A = Option InterfaceAsk} b (Some made) None) all) in
+    ∙ ap not requests in
+    let made : InterfaceRequest = record { name = row.name; proto = row.proto; options = in_order row.options; device = st.device } in
+    let found : kept ≡ Some (Some made) = here ∙ ap (λ (a : Option InterfaceRequest). Some a) (is ∙ ap (λ b. cond {A = Option InterfaceRequest} b (Some made) None) all) in
     (made, found, record { name = refl; proto = refl; options = refl })
 
--- the ask for what stands at a place is that for each that does
-pub spare_of : (states : List InterfaceState) (place : ℕ) (row : InterfaceRow) (st : InterfaceState) (ask : Option InterfaceAsk) → place < length states → st ≡ get_or states place st → ask ≡ spare_ask row st → IsSpare states place row ask
-spare_of states place row st ask within read is other here =
+-- the request for what stands at a place is that for each that does
+pub spare_of : (states : List InterfaceState) (place : ℕ) (row : InterfaceRow) (st : InterfaceState) (request : Option InterfaceRequest) → place < length states → st ≡ get_or states place st → request ≡ spare_request row st
+    → IsSpare states place row request
+spare_of states place row st request within read is other here =
     let at = slice_get_read states (length states) place st refl within read in
-    is ∙ ap (spare_ask row) (same_Some st other (sym at ∙ here))
+    is ∙ ap (spare_request row) (same_Some st other (sym at ∙ here))
 
 -- ---- all is kept
 
-pub tied : (inputs : Inputs) (states : States) → IsReachOf inputs states.reach → AreOwnAsks inputs → AreBeside (IsNotedIdle inputs) inputs.conf.interfaces states.list.items
+pub tied : (inputs : Inputs) (states : States) → IsReachOf inputs states.reach → AreOwnRequests inputs → AreBeside (IsNotedIdle inputs) inputs.conf.interfaces states.list.items
     → AreBeside (IsSpare states.list.items) inputs.conf.interfaces states.spare.items → length inputs.conf.interfaces ≤ vec_capacity states.lost → IsTied inputs states
 tied inputs states reach own noted spare room = record {
   reach = reach;
@@ -133,16 +135,16 @@ tied inputs states reach own noted spare room = record {
     spare_size = spare.size;
     first = λ place row st at here. (noted.each place row st at here).first;
     each = λ place row st at here. (noted.each place row st at here).noted;
-    at_hand = λ place row st at here first asks none.
+    at_hand = λ place row st at here first requests none.
         let size = spare.size in
         let within = slice_get_within inputs.conf.interfaces place row at in
         let found : slice_get states.spare.items place ≡ Some (get_or states.spare.items place None) = slice_get-get_or states.spare.items place None (omega arith) in
-        is_at_hand row st (slice_get states.spare.items place) (get_or states.spare.items place None) found (spare.each place row (get_or states.spare.items place None) at found st here) first asks none;
+        is_at_hand row st (slice_get states.spare.items place) (get_or states.spare.items place None) found (spare.each place row (get_or states.spare.items place None) at found st here) first requests none;
   };
   room = room;
 }
 
-pub tied_by : (inputs : Inputs) (states : States) (rows : List InterfaceRow) (seen : List InterfaceState) → rows ≡ inputs.conf.interfaces → seen ≡ states.list.items → IsReachOf inputs states.reach → AreOwnAsks inputs
+pub tied_by : (inputs : Inputs) (states : States) (rows : List InterfaceRow) (seen : List InterfaceState) → rows ≡ inputs.conf.interfaces → seen ≡ states.list.items → IsReachOf inputs states.reach → AreOwnRequests inputs
     → AreBeside (IsNotedIdle inputs) rows states.list.items → AreBeside (IsSpare seen) rows states.spare.items → length rows ≤ vec_capacity states.lost → IsTied inputs states
 tied_by inputs states rows seen all same reach own noted spare room =
     tied inputs states reach own

@@ -3,12 +3,12 @@ use Rattle.std.specs.Prelude.{ℕ, ◌≡◌, ◌≤◌, List, length, Contains,
 use Rattle.std.specs.Prelude.{vec_capacity}
 use Rattle.std.specs.Option.{option_map}
 use Rattle.net_rows.specs.declared.rows.InterfaceRow.{InterfaceRow}
-use Rattle.net_rules.specs.declared.ask.InterfaceAsk.{InterfaceAsk}
+use Rattle.net_rules.specs.declared.request.InterfaceRequest.{InterfaceRequest}
 use Rattle.net_rules.specs.declared.inputs.Inputs.{Inputs}
 use Rattle.net_rules.specs.declared.inputs.OpenInterface.{OpenInterface}
 use Rattle.net_rules.specs.Rows.{interface_named, asks_nothing}
 use Rattle.net_rules.specs.RadioPorts.{device_of}
-use Rattle.net_rules.specs.Need.{interface_ask, in_order}
+use Rattle.net_rules.specs.Need.{interface_request, in_order}
 use Rattle.net_rules.specs.Inputs.{facts_of, open_interface}
 use Rattle.net_reach.specs.Reach.{IsReachOf}
 use Rattle.net_rules.specs.declared.state.InterfaceState.{InterfaceState}
@@ -16,16 +16,16 @@ use Rattle.net_rules.specs.States.{is_first, IsIdle, IsStateAs, AreStates}
 use Rattle.asked_places.specs.Touched.{has}
 use Rattle.net_states.specs.declared.states.States.{States}
 
--- the number of the open ask of an interface
+-- the number of the open request of an interface
 abbrev pub number_of : Inputs → List ℕ → Option ℕ
 number_of inputs name = option_map (λ o. o.number) (open_interface inputs.interfaces name)
 
--- the first row of a name has its device and the number of its open ask
+-- the first row of a name has its device and the number of its open request
 pub record IsNoted (inputs : Inputs) (row : InterfaceRow) (st : InterfaceState) : Type 0 where
   pub device : st.device ≡ device_of (facts_of inputs) row
   pub number : st.number ≡ number_of inputs row.name
 
--- another row is idle, and has no ask
+-- another row is idle, and has no request
 pub record IsUnused (st : InterfaceState) : Type 0 where
   pub idle : IsIdle st
   pub number : st.number ≡ None
@@ -34,24 +34,24 @@ abbrev pub IsNotedAs : Bool → Inputs → InterfaceRow → InterfaceState → T
 IsNotedAs true inputs row st = IsNoted inputs row st
 IsNotedAs false inputs row st = IsUnused st
 
--- the ask of a row, whatever its device is
-pub record IsAskOf (row : InterfaceRow) (ask : InterfaceAsk) : Type 0 where
-  pub name : ask.name ≡ row.name
-  pub proto : ask.proto ≡ row.proto
-  pub options : ask.options ≡ in_order row.options
+-- the request of a row, whatever its device is
+pub record IsRequestOf (row : InterfaceRow) (request : InterfaceRequest) : Type 0 where
+  pub name : request.name ≡ row.name
+  pub proto : request.proto ≡ row.proto
+  pub options : request.options ≡ in_order row.options
 
--- the ask of a row is at hand
-abbrev pub IsAtHand : InterfaceRow → Option (Option InterfaceAsk) → Type 0
-IsAtHand row kept = (ask : InterfaceAsk) × (kept ≡ Some (Some ask)) × IsAskOf row ask
+-- the request of a row is at hand
+abbrev pub IsAtHand : InterfaceRow → Option (Option InterfaceRequest) → Type 0
+IsAtHand row kept = (request : InterfaceRequest) × (kept ≡ Some (Some request)) × IsRequestOf row request
 
--- Each open ask is what the handler of its row is asked.
-abbrev pub AreOwnAsks : Inputs → Type 0
-AreOwnAsks inputs =
+-- Each open request is what the handler of its row is asked.
+abbrev pub AreOwnRequests : Inputs → Type 0
+AreOwnRequests inputs =
     (o : OpenInterface) (row : InterfaceRow) → Contains inputs.interfaces o
-    → interface_named inputs.conf o.ask.name ≡ Some row → o.ask ≡ interface_ask (facts_of inputs) row
+    → interface_named inputs.conf o.request.name ≡ Some row → o.request ≡ interface_request (facts_of inputs) row
 
--- At each place there is what is kept of its row. A first row that a handler serves has its ask at hand while none is
--- open.
+-- At each place there is what is kept of its row. A first row that a handler serves has its request at hand while none
+-- is open.
 pub record AreNoted (inputs : Inputs) (states : States) : Type 0 where
   pub size : length states.list.items ≡ length inputs.conf.interfaces
   pub spare_size : length states.spare.items ≡ length inputs.conf.interfaces
@@ -67,10 +67,10 @@ pub record AreNoted (inputs : Inputs) (states : States) : Type 0 where
       → IsAtHand row (slice_get states.spare.items place)
 
 -- What reaches what is that of the inputs, what is kept at each place is that of its row, and there is room for the
--- number of an ask of each interface. Nothing is said of what interfaces are.
+-- number of a request of each interface. Nothing is said of what interfaces are.
 pub record IsTied (inputs : Inputs) (states : States) : Type 0 where
   pub reach : IsReachOf inputs states.reach
-  pub own : AreOwnAsks inputs
+  pub own : AreOwnRequests inputs
   pub noted : AreNoted inputs states
   pub room : length inputs.conf.interfaces ≤ vec_capacity states.lost
 

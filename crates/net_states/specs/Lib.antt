@@ -9,7 +9,7 @@ pub mod Becoming
 -- what is kept before any interface claims or gives something
 pub mod Load
 -- the course of a settling
-pub use Rattle.graph_settle.specs.Course
+pub use Rattle.graph_settle.specs.SettlingState
 pub use Rattle.graph_settle.specs.Leaving
 -- which places claim, as its crate tells it
 pub use Rattle.claim_moves.specs.Claiming

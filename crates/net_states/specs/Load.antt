@@ -1,7 +1,7 @@
 -- What is kept of interfaces before any of them claims or gives something.
 use Rattle.std.specs.Prelude.{ℕ, ◌≡◌, List, length, not, ◌&&◌, Option, Some, None, is_none, if◌then◌else◌, slice_get}
 use Rattle.net_rows.specs.declared.rows.InterfaceRow.{InterfaceRow}
-use Rattle.net_rules.specs.declared.ask.InterfaceAsk.{InterfaceAsk}
+use Rattle.net_rules.specs.declared.request.InterfaceRequest.{InterfaceRequest}
 use Rattle.net_rules.specs.declared.inputs.Inputs.{Inputs}
 use Rattle.net_rules.specs.Rows.{asks_nothing}
 use Rattle.net_rules.specs.Need.{in_order}
@@ -20,9 +20,9 @@ pub record IsNotedIdle (inputs : Inputs) (place : ℕ) (row : InterfaceRow) (st 
   pub noted : IsNotedAs st.is_first inputs row st
   pub idle : IsIdle st
 
--- the ask of the first row of a name that a handler serves, while none is open
-abbrev pub spare_ask : InterfaceRow → InterfaceState → Option InterfaceAsk
-spare_ask row st =
+-- the request of the first row of a name that a handler serves, while none is open
+abbrev pub spare_request : InterfaceRow → InterfaceState → Option InterfaceRequest
+spare_request row st =
     if st.is_first && (is_none st.number && not (asks_nothing row.proto))
     then Some (record {
       name = row.name;
@@ -33,9 +33,9 @@ spare_ask row st =
     else None
 
 -- what is at hand for the row at a place, beside what its interface is
-abbrev pub IsSpare : List InterfaceState → ℕ → InterfaceRow → Option InterfaceAsk → Type 0
-IsSpare states place row ask =
-    (st : InterfaceState) → slice_get states place ≡ Some st → ask ≡ spare_ask row st
+abbrev pub IsSpare : List InterfaceState → ℕ → InterfaceRow → Option InterfaceRequest → Type 0
+IsSpare states place row request =
+    (st : InterfaceState) → slice_get states place ≡ Some st → request ≡ spare_request row st
 
 -- a list has for each item of another, at its place, what a relation tells
 pub record AreBeside {X Y : Type 0} (is : ℕ → X → Y → Type 0) (xs : List X) (ys : List Y)

@@ -159,7 +159,7 @@ impl States {
         };
         let row = &inputs.conf().interfaces.as_slice()[place];
         InterfaceState {
-            layer: look.layer_of(row),
+            l3_device: look.l3_device_of(row),
             is_claimed: look.is_claimed(row),
             is_up: look.is_up(row),
             ..self.list[place]
@@ -218,7 +218,7 @@ impl States {
         if !state.is_up {
             return;
         }
-        let Some(layer) = state.layer else {
+        let Some(l3_device) = state.l3_device else {
             return;
         };
         let look = Look {
@@ -227,7 +227,7 @@ impl States {
             graph: &settling.graph,
         };
         let row = &inputs.conf().interfaces.as_slice()[place];
-        look.withdraw_all(&mut settling.gifts, row, &layer);
+        look.withdraw_all(&mut settling.gifts, row, &l3_device);
     }
 
     // What the interface at a place gives, as it is, is given once more.
@@ -256,7 +256,7 @@ impl States {
         if !state.is_up {
             return;
         }
-        let Some(layer) = state.layer else {
+        let Some(l3_device) = state.l3_device else {
             return;
         };
         let look = Look {
@@ -265,7 +265,7 @@ impl States {
             graph: &settling.graph,
         };
         let row = &inputs.conf().interfaces.as_slice()[place];
-        look.give_all(&mut settling.gifts, row, &layer);
+        look.give_all(&mut settling.gifts, row, &l3_device);
     }
 }
 

@@ -1,6 +1,6 @@
-//! What each interface is, kept beside the inputs of a network: its state, its open ask, and the
-//! ask that waits to be opened. The claims of the graph of devices and the givers of addresses and
-//! routes are counted over it.
+//! What each interface is, kept beside the inputs of a network: its state, its open request, and
+//! the ask that waits to be opened. The claims of the graph of devices and the givers of addresses
+//! and routes are counted over it.
 #![tactic(auto)]
 
 mod becoming;

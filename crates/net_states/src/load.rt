@@ -4,7 +4,7 @@ ghost use Rattle.net_rules.specs.Inputs.{facts_of, no_inputs};
 ghost use Rattle.net_rules.specs.RadioPorts as radio_ports;
 ghost use Rattle.net_view.specs.RadioPorts.{ArePortsOf};
 ghost use Rattle.net_states.specs.Kept as kept;
-ghost use Rattle.net_states.specs.Kept.{AreOwnAsks, IsTied, AreStatesOf};
+ghost use Rattle.net_states.specs.Kept.{AreOwnRequests, IsTied, AreStatesOf};
 ghost use Rattle.net_states.specs.Load as spec;
 ghost use Rattle.net_states.specs.Load.{AreIdle, IsNotedIdle, AreBeside};
 
@@ -13,7 +13,7 @@ use kern_model::DevName;
 use net_after::in_order;
 use net_reach::Reach;
 use net_rows::InterfaceRow;
-use net_rules::{Inputs, InterfaceAsk, InterfaceState};
+use net_rules::{Inputs, InterfaceRequest, InterfaceState};
 use net_view::{RadioPorts, asks_nothing, is_first};
 use plane_io::{Memory, Text};
 use std::alloc::Global;
@@ -37,7 +37,7 @@ impl States {
     ///
     /// `Memory` where there is not enough of it.
     pub fn of(alloc: Global, inputs: &Inputs, ports: &RadioPorts) -> Result<States, Memory>
-        requires own { AreOwnAsks inputs.now }
+        requires own { AreOwnRequests inputs.now }
         requires ports { ArePortsOf inputs.now ports.now }
         ensures tied { IfOk result (λ states. IsTied inputs.now states) }
         ensures idle { IfOk result (λ states. AreIdle states.list.items) }
@@ -45,7 +45,7 @@ impl States {
         let rows = inputs.conf.interfaces.as_slice();
         let reach = Reach::of(alloc, inputs)?;
         let list = idle_states(alloc, inputs, ports, rows)?;
-        let spare = spare_asks(alloc, rows, list.as_slice())?;
+        let spare = spare_requests(alloc, rows, list.as_slice())?;
         let lost = Vec::with_capacity(alloc, rows.len())?;
         Ok(States {
             reach,
@@ -88,7 +88,7 @@ fn idle_state(
     InterfaceState {
         is_first,
         device: device_of(inputs, ports, row),
-        layer: None,
+        l3_device: None,
         is_claimed: false,
         is_up: false,
         number: number_of(inputs, ports, &row.name, is_first),
@@ -105,7 +105,7 @@ fn device_of(inputs: &Inputs, ports: &RadioPorts, row: &InterfaceRow) -> Option<
     }
 }
 
-// The number of the open ask of a name, for the first row that has it.
+// The number of the open request of a name, for the first row that has it.
 fn number_of(inputs: &Inputs, ports: &RadioPorts, interface: &Text, is_first: bool) -> Option<u64>
     requires { ArePortsOf inputs.now ports.now }
     ensures { result ≡ (if is_first then kept.number_of inputs.now interface.now else None) }
@@ -113,41 +113,42 @@ fn number_of(inputs: &Inputs, ports: &RadioPorts, interface: &Text, is_first: bo
     if !is_first {
         return None;
     }
-    match ports.index.interface_ask(inputs, interface) {
+    match ports.index.interface_request(inputs, interface) {
         Some(open) => Some(open.number),
         None => None,
     }
 }
 
-fn spare_asks(
+fn spare_requests(
     alloc: Global,
     rows: &[InterfaceRow],
     states: &[InterfaceState],
-) -> Result<Vec<Option<InterfaceAsk>>, Memory>
+) -> Result<Vec<Option<InterfaceRequest>>, Memory>
     requires { length states.now ≡ length rows.now }
-    ensures { IfOk result (λ asks. AreBeside (spec.IsSpare states.now) rows.now asks.items) }
+    ensures { IfOk result (λ requests. AreBeside (spec.IsSpare states.now) rows.now
+        requests.items) }
 {
-    let mut asks = Vec::with_capacity(alloc, rows.len())?;
+    let mut requests = Vec::with_capacity(alloc, rows.len())?;
     for (place, row) in rows.iter().enumerate() {
-        asks.push(spare_ask(alloc, row, &states[place])?)?;
+        requests.push(spare_request(alloc, row, &states[place])?)?;
     }
-    Ok(asks)
+    Ok(requests)
 }
 
 // The ask of the first row of a name that a handler serves, while none is open.
-fn spare_ask(
+fn spare_request(
     alloc: Global,
     row: &InterfaceRow,
     state: &InterfaceState,
-) -> Result<Option<InterfaceAsk>, Memory>
-    ensures { IfOk result (λ ask. ask ≡ spec.spare_ask row.now state.now) }
+) -> Result<Option<InterfaceRequest>, Memory>
+    ensures { IfOk result (λ request. request ≡ spec.spare_request row.now state.now) }
 {
     let is_silent = asks_nothing(&row.proto);
     let is_closed = state.number.is_none();
     if !(state.is_first & (is_closed & !is_silent)) {
         return Ok(None);
     }
-    Ok(Some(InterfaceAsk {
+    Ok(Some(InterfaceRequest {
         name: row.name.copy()?,
         proto: row.proto.copy()?,
         options: in_order(alloc, row.options.as_slice())?,

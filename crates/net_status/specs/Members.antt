@@ -10,7 +10,7 @@ use Rattle.net_status.specs.declared.given.Family.TheVariants as family
 use Rattle.net_status.specs.Values.{text, text_or_null, list}
 use Rattle.net_status.specs.Faults.{fault_item}
 use Rattle.net_status.specs.Given.{addresses_of, address_list, routes_of, route_item}
-use Rattle.net_status.specs.Interfaces.{is_pending, layer_shown}
+use Rattle.net_status.specs.Interfaces.{is_pending, l3_device_shown}
 
 -- those in front of the addresses
 abbrev pub with_state : Inputs → InterfaceRow → Members → Members
@@ -26,7 +26,7 @@ with_state inputs row members =
 abbrev pub with_addresses : Inputs → InterfaceRow → Members → Members
 with_addresses inputs row members =
     let facts = facts_of inputs in
-    put (codes "l3_device") (text_or_null (layer_shown facts row))
+    put (codes "l3_device") (text_or_null (l3_device_shown facts row))
     (put (codes "ipv6-address") (address_list family.V6 (addresses_of facts row))
     (put (codes "ipv4-address") (address_list family.V4 (addresses_of facts row)) members))
 

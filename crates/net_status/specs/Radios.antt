@@ -10,12 +10,12 @@ use Rattle.net_rules.specs.Inputs.{open_radio}
 use Rattle.net_status.specs.Values.{text, text_or_null, list}
 use Rattle.net_status.specs.Faults.{fault_item}
 
--- an ask is open without an answer
+-- a request is open without an answer
 abbrev pub is_waiting : Option OpenRadio → Bool
 is_waiting None = false
 is_waiting (Some o) = is_none o.ports
 
--- the ports of the answer to an open ask
+-- the ports of the answer to an open request
 abbrev pub ports_told : Option OpenRadio → Option (List (Option (List ℕ)))
 ports_told None = None
 ports_told (Some o) = o.ports
@@ -24,7 +24,7 @@ abbrev pub port_items : Option (List (Option (List ℕ))) → List Data
 port_items None = []
 port_items (Some ports) = map text_or_null ports
 
--- a radio with its open ask; it is up where that has an answer
+-- a radio with its open request; it is up where that has an answer
 abbrev pub shown_with : Option OpenRadio → RadioRow → Data
 shown_with asked row =
     object (member (codes "errors") (list (map fault_item row.faults))

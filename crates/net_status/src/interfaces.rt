@@ -147,8 +147,8 @@ fn add_addresses(
     put(members, alloc, "ipv4-address", ipv4)?;
     let ipv6 = address_list(alloc, Family::V6, addresses)?;
     put(members, alloc, "ipv6-address", ipv6)?;
-    let layer = name_or_null(alloc, layer_shown(levels, inputs, row))?;
-    put(members, alloc, "l3_device", layer)?;
+    let l3_device = name_or_null(alloc, l3_device_shown(levels, inputs, row))?;
+    put(members, alloc, "l3_device", l3_device)?;
     Ok(())
 }
 
@@ -186,23 +186,23 @@ fn has_device(levels: &Levels, inputs: &Inputs, row: &InterfaceRow) -> bool
     }
 }
 
-fn layer_shown(levels: &Levels, inputs: &Inputs, row: &InterfaceRow) -> Option<DevName>
+fn l3_device_shown(levels: &Levels, inputs: &Inputs, row: &InterfaceRow) -> Option<DevName>
     requires { AreLevelsOf inputs.now levels.now }
-    ensures { result ≡ spec.layer_shown (facts_of inputs.now) row.now }
+    ensures { result ≡ spec.l3_device_shown (facts_of inputs.now) row.now }
 {
     if levels.is_up(inputs, row) {
-        return levels.layer_of(inputs, row);
+        return levels.l3_device_of(inputs, row);
     }
     None
 }
 
-// Whether an ask is open without an answer that is up.
+// Whether a request is open without an answer that is up.
 fn is_pending(levels: &Levels, inputs: &Inputs, row: &InterfaceRow) -> bool
     requires { AreLevelsOf inputs.now levels.now }
     ensures { result
         ≡ spec.is_pending (open_interface inputs.now.interfaces row.now.name) }
 {
-    match levels.ports.index.interface_ask(inputs, &row.name) {
+    match levels.ports.index.interface_request(inputs, &row.name) {
         Some(found) => lacks_up(found),
         None => false,
     }

@@ -35,7 +35,7 @@ fn radio_shown(
     requires { IsIndexOf inputs.now index.now }
     ensures { IfOk result (λ value. view value ≡ spec.radio_shown inputs.now row.now) }
 {
-    shown(alloc, row, index.radio_ask(inputs, &row.name))
+    shown(alloc, row, index.radio_request(inputs, &row.name))
 }
 
 fn shown(alloc: Global, row: &RadioRow, asked: Option<&OpenRadio>) -> Result<Value, Memory>
@@ -54,7 +54,7 @@ fn shown(alloc: Global, row: &RadioRow, asked: Option<&OpenRadio>) -> Result<Val
     Ok(Value::Object(members))
 }
 
-// Whether an ask is open without an answer.
+// Whether a request is open without an answer.
 fn is_waiting(asked: Option<&OpenRadio>) -> bool
     ensures { result ≡ spec.is_waiting (option_copied asked.entry) }
 {
@@ -73,7 +73,7 @@ fn is_answered(asked: Option<&OpenRadio>) -> bool
     }
 }
 
-// The ports of the answer to the open ask.
+// The ports of the answer to the open request.
 fn port_items(alloc: Global, asked: Option<&OpenRadio>) -> Result<Vec<Value>, Memory>
     ensures { IfOk result (λ items. map view items.items
         ≡ spec.port_items (spec.ports_told (option_copied asked.entry))) }

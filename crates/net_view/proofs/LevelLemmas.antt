@@ -162,15 +162,15 @@ level_up step level (row ∷ rows) = ap (λ (z : List Bool). step (by_levels lev
 -- answers that are made of those of one level less
 pub one_level_more : (facts : Facts) (question : Question) (level : ℕ) (below told : Told) (names : List NameRow) → IsToldBy facts question level below → names ≡ facts.conf.names → told.question ≡ question → told.levels ≡ level + 1
     → told.by_row.items ≡ map (λ (row : NameRow). step_of facts question (test_of facts below) row.name) names → IsToldBy facts question (level + 1) told
-one_level_more facts question level below told names is all asks levels made = record {
-  question = asks;
+one_level_more facts question level below told names is all requests levels made = record {
+  question = requests;
   levels = levels;
   right = made
       ∙ ap (map (λ (row : NameRow). step_of facts question (test_of facts below) row.name)) all
       ∙ ap (λ (t : List ℕ → Bool). map (λ (row : NameRow). step_of facts question t row.name) facts.conf.names) (test_is below level is.question is.levels)
       ∙ level_up (step_of facts question) level facts.conf.names
       ∙ ap (λ (n : ℕ). map (by_levels n (step_of facts question)) (names_of facts.conf)) (sym (add-one level))
-      ∙ ap (λ (t : List ℕ → Bool). map t (names_of facts.conf)) (sym (test_is told (level + 1) asks levels));
+      ∙ ap (λ (t : List ℕ → Bool). map t (names_of facts.conf)) (sym (test_is told (level + 1) requests levels));
 }
   where
     test_is : (t : Told) (n : ℕ) → t.question ≡ question → t.levels ≡ n → test_of facts t ≡ by_levels n (step_of facts question)

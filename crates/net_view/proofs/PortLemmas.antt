@@ -61,7 +61,7 @@ bridge_without_row (Some parts) = refl
 
 -- ---- what is told of a radio
 
-pub told_of_radio : (inputs : Inputs) (radio : RadioRow) (found : Option OpenRadio) → found ≡ named (λ (o : OpenRadio). o.ask.name) inputs.radios radio.name
+pub told_of_radio : (inputs : Inputs) (radio : RadioRow) (found : Option OpenRadio) → found ≡ named (λ (o : OpenRadio). o.request.name) inputs.radios radio.name
     → filter_map (port_of_pair (facts_of inputs)) (zip (enabled radio.rows) (unwrap_or (option_and_then (λ (o : OpenRadio). o.ports) found) [])) ≡ ports_of_radio (facts_of inputs) radio
 told_of_radio inputs radio found is = ap (λ (f : Option OpenRadio). filter_map (port_of_pair (facts_of inputs)) (zip (enabled radio.rows) (unwrap_or (option_and_then (λ (o : OpenRadio). o.ports) f) []))) is
 

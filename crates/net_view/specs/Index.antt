@@ -10,6 +10,7 @@ pub record IsIndexOf (inputs : Inputs) (index : Index) : Type 0 where
   pub devices : HasPlaces index.devices (map (λ e. e.0) inputs.devices)
   pub interfaces : HasPlaces index.interfaces (map (λ row. row.name) inputs.conf.interfaces)
   pub radios : HasPlaces index.radios (map (λ row. row.name) inputs.conf.radios)
-  pub commands : HasPlaces index.commands (map (λ command. command.interface) inputs.commands)
-  pub interface_asks : HasPlaces index.interface_asks (map (λ o. o.ask.name) inputs.interfaces)
-  pub radio_asks : HasPlaces index.radio_asks (map (λ o. o.ask.name) inputs.radios)
+  pub operator_states : HasPlaces index.operator_states
+      (map (λ operator_state. operator_state.interface) inputs.operator_states)
+  pub interface_requests : HasPlaces index.interface_requests (map (λ o. o.request.name) inputs.interfaces)
+  pub radio_requests : HasPlaces index.radio_requests (map (λ o. o.request.name) inputs.radios)

@@ -8,7 +8,7 @@ ghost use Rattle.net_view.specs.Index.{IsIndexOf};
 use crate::places::{note_name, note_text};
 use kern_model::{DevName, Device};
 use net_rows::{InterfaceRow, NameRow, RadioRow};
-use net_rules::{Command, Inputs, OpenInterface, OpenRadio};
+use net_rules::{Inputs, OpenInterface, OpenRadio, OperatorState};
 use plane_io::{Memory, Text};
 use std::alloc::Global;
 use std::collections::BTreeMap;
@@ -20,9 +20,9 @@ pub struct Index {
     pub devices: BTreeMap<DevName, usize>,
     pub interfaces: BTreeMap<Text, usize>,
     pub radios: BTreeMap<Text, usize>,
-    pub commands: BTreeMap<Text, usize>,
-    pub interface_asks: BTreeMap<Text, usize>,
-    pub radio_asks: BTreeMap<Text, usize>,
+    pub operator_states: BTreeMap<Text, usize>,
+    pub interface_requests: BTreeMap<Text, usize>,
+    pub radio_requests: BTreeMap<Text, usize>,
 }
 
 impl Index {
@@ -35,9 +35,9 @@ impl Index {
             devices: device_places(alloc, inputs.devices.as_slice())?,
             interfaces: interface_places(alloc, inputs.conf.interfaces.as_slice())?,
             radios: radio_places(alloc, inputs.conf.radios.as_slice())?,
-            commands: command_places(alloc, inputs.commands.as_slice())?,
-            interface_asks: interface_ask_places(alloc, inputs.interfaces.as_slice())?,
-            radio_asks: radio_ask_places(alloc, inputs.radios.as_slice())?,
+            operator_states: operator_state_places(alloc, inputs.operator_states.as_slice())?,
+            interface_requests: interface_request_places(alloc, inputs.interfaces.as_slice())?,
+            radio_requests: radio_request_places(alloc, inputs.radios.as_slice())?,
         })
     }
 
@@ -86,35 +86,41 @@ impl Index {
         }
     }
 
-    /// The last command for an interface.
-    pub fn command<'a>(&self, inputs: &'a Inputs, name: &Text) -> Option<&'a Command>
+    /// The last operator state for an interface.
+    pub fn operator_state<'a>(&self, inputs: &'a Inputs, name: &Text) -> Option<&'a OperatorState>
         requires { IsIndexOf inputs.now self.now }
         ensures { option_copied result
-            ≡ named (λ command. command.interface) inputs.now.commands name.now }
+            ≡ named (λ operator_state. operator_state.interface) inputs.now.operator_states
+            name.now }
     {
-        match self.commands.get(name) {
-            Some(place) => inputs.commands.as_slice().get(*place),
+        match self.operator_states.get(name) {
+            Some(place) => inputs.operator_states.as_slice().get(*place),
             None => None,
         }
     }
 
-    /// The open ask of an interface.
-    pub fn interface_ask<'a>(&self, inputs: &'a Inputs, name: &Text) -> Option<&'a OpenInterface>
+    /// The open request of an interface.
+    pub fn interface_request<'a>(
+        &self,
+        inputs: &'a Inputs,
+        name: &Text,
+    ) -> Option<&'a OpenInterface>
         requires { IsIndexOf inputs.now self.now }
-        ensures { option_copied result ≡ named (λ o. o.ask.name) inputs.now.interfaces name.now }
+        ensures { option_copied result
+            ≡ named (λ o. o.request.name) inputs.now.interfaces name.now }
     {
-        match self.interface_asks.get(name) {
+        match self.interface_requests.get(name) {
             Some(place) => inputs.interfaces.as_slice().get(*place),
             None => None,
         }
     }
 
-    /// The open ask of a radio.
-    pub fn radio_ask<'a>(&self, inputs: &'a Inputs, name: &Text) -> Option<&'a OpenRadio>
+    /// The open request of a radio.
+    pub fn radio_request<'a>(&self, inputs: &'a Inputs, name: &Text) -> Option<&'a OpenRadio>
         requires { IsIndexOf inputs.now self.now }
-        ensures { option_copied result ≡ named (λ o. o.ask.name) inputs.now.radios name.now }
+        ensures { option_copied result ≡ named (λ o. o.request.name) inputs.now.radios name.now }
     {
-        match self.radio_asks.get(name) {
+        match self.radio_requests.get(name) {
             Some(place) => inputs.radios.as_slice().get(*place),
             None => None,
         }
@@ -168,39 +174,44 @@ fn radio_places(alloc: Global, radios: &[RadioRow]) -> Result<BTreeMap<Text, usi
     Ok(places)
 }
 
-fn command_places(alloc: Global, commands: &[Command]) -> Result<BTreeMap<Text, usize>, Memory>
+fn operator_state_places(
+    alloc: Global,
+    operator_states: &[OperatorState],
+) -> Result<BTreeMap<Text, usize>, Memory>
     ensures { IfOk result (λ places. HasPlaces places
-        (map (λ command. command.interface) commands.now)) }
+        (map (λ operator_state. operator_state.interface) operator_states.now)) }
 {
     let mut places = BTreeMap::new(alloc);
-    for (place, command) in commands.iter().enumerate() {
-        note_text(&mut places, &command.interface, place)?;
+    for (place, operator_state) in operator_states.iter().enumerate() {
+        note_text(&mut places, &operator_state.interface, place)?;
     }
     Ok(places)
 }
 
-fn interface_ask_places(
+fn interface_request_places(
     alloc: Global,
-    interface_asks: &[OpenInterface],
+    interface_requests: &[OpenInterface],
 ) -> Result<BTreeMap<Text, usize>, Memory>
-    ensures { IfOk result (λ places. HasPlaces places (map (λ o. o.ask.name) interface_asks.now)) }
+    ensures { IfOk result (λ places. HasPlaces places
+        (map (λ o. o.request.name) interface_requests.now)) }
 {
     let mut places = BTreeMap::new(alloc);
-    for (place, open) in interface_asks.iter().enumerate() {
-        note_text(&mut places, &open.ask.name, place)?;
+    for (place, open) in interface_requests.iter().enumerate() {
+        note_text(&mut places, &open.request.name, place)?;
     }
     Ok(places)
 }
 
-fn radio_ask_places(
+fn radio_request_places(
     alloc: Global,
-    radio_asks: &[OpenRadio],
+    radio_requests: &[OpenRadio],
 ) -> Result<BTreeMap<Text, usize>, Memory>
-    ensures { IfOk result (λ places. HasPlaces places (map (λ o. o.ask.name) radio_asks.now)) }
+    ensures { IfOk result (λ places. HasPlaces places
+        (map (λ o. o.request.name) radio_requests.now)) }
 {
     let mut places = BTreeMap::new(alloc);
-    for (place, open) in radio_asks.iter().enumerate() {
-        note_text(&mut places, &open.ask.name, place)?;
+    for (place, open) in radio_requests.iter().enumerate() {
+        note_text(&mut places, &open.request.name, place)?;
     }
     Ok(places)
 }

@@ -44,8 +44,8 @@ impl Levels {
         requires { AreLevelsOf inputs.now self.now }
         ensures { result ≡ spec.is_enabled (facts_of inputs.now) row.now }
     {
-        let is_up = match self.ports.index.command(inputs, &row.name) {
-            Some(command) => command.up,
+        let is_up = match self.ports.index.operator_state(inputs, &row.name) {
+            Some(operator_state) => operator_state.up,
             None => row.autostart,
         };
         row.faults.as_slice().is_empty() & (!row.anonymous & (!row.disabled & is_up))
@@ -100,7 +100,7 @@ impl Levels {
         self.is_claimed(inputs, row) & (row.force_link | has_link)
     }
 
-    /// The latest answer to the open ask of the interface.
+    /// The latest answer to the open request of the interface.
     pub fn answer_of<'a>(&self, inputs: &'a Inputs, row: &InterfaceRow) -> Option<&'a Answer>
         requires { AreLevelsOf inputs.now self.now }
         ensures { option_copied result ≡ spec.answer_of (facts_of inputs.now) row.now }
@@ -108,29 +108,34 @@ impl Levels {
         if asks_nothing(&row.proto) {
             return None;
         }
-        match self.ports.index.interface_ask(inputs, &row.name) {
+        match self.ports.index.interface_request(inputs, &row.name) {
             Some(found) => answer_in(&found.answer),
             None => None,
         }
     }
 
     /// The layer-3 device of the interface.
-    pub fn layer_of(&self, inputs: &Inputs, row: &InterfaceRow) -> Option<DevName>
+    pub fn l3_device_of(&self, inputs: &Inputs, row: &InterfaceRow) -> Option<DevName>
         requires { AreLevelsOf inputs.now self.now }
-        ensures { result ≡ spec.layer_of (facts_of inputs.now) row.now }
+        ensures { result ≡ spec.l3_device_of (facts_of inputs.now) row.now }
     {
         let own = self.device_of(inputs, row);
         device_or_own(self.answer_of(inputs, row), own)
     }
 
-    fn serves_layer(&self, inputs: &Inputs, own: Option<DevName>, layer: Option<DevName>) -> bool
+    fn serves_l3_device(
+        &self,
+        inputs: &Inputs,
+        own: Option<DevName>,
+        l3_device: Option<DevName>,
+    ) -> bool
         requires { AreLevelsOf inputs.now self.now }
-        ensures { result ≡ spec.serves_layer (facts_of inputs.now) own layer }
+        ensures { result ≡ spec.serves_l3_device (facts_of inputs.now) own l3_device }
     {
-        match layer {
-            Some(layer) => {
-                let is_plain = is_plain(&self.ports.index, inputs, &layer);
-                self.is_available(inputs, &layer) & (is_plain | is_name(&own, &layer))
+        match l3_device {
+            Some(l3_device) => {
+                let is_plain = is_plain(&self.ports.index, inputs, &l3_device);
+                self.is_available(inputs, &l3_device) & (is_plain | is_name(&own, &l3_device))
             }
             None => false,
         }
@@ -142,7 +147,7 @@ impl Levels {
         ensures { result ≡ spec.is_up (facts_of inputs.now) row.now }
     {
         let own = self.device_of(inputs, row);
-        let serves = self.serves_layer(inputs, own, self.layer_of(inputs, row));
+        let serves = self.serves_l3_device(inputs, own, self.l3_device_of(inputs, row));
         let is_answered = is_answered_up(self.answer_of(inputs, row)) & serves;
         self.is_ready(inputs, row) & (asks_nothing(&row.proto) | is_answered)
     }

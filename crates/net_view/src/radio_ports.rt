@@ -199,7 +199,7 @@ pub fn has_name(names: &[DevName], name: &DevName) -> bool
     names.iter().any(|other| other.text() == name.text())
 }
 
-// The ports that the latest answers to the asks of radios tell.
+// The ports that the latest answers to the requests of radios tell.
 fn answered_ports(
     alloc: Global,
     index: &Index,
@@ -247,7 +247,7 @@ fn add_ports(
     ensures { OnOk result (map as_answered ports.new.items
         ≡ map as_answered ports.old.items ++ spec.ports_of_radio (facts_of inputs.now) radio.now) }
 {
-    match index.radio_ask(inputs, &radio.name) {
+    match index.radio_request(inputs, &radio.name) {
         Some(found) => add_latest(ports, index, inputs, radio.rows.as_slice(), &found.ports),
         None => Ok(()),
     }

@@ -22,7 +22,7 @@ use Rattle.net_rules.specs.Rows.{is_name, names_of}
 use Rattle.net_rules.specs.RadioPorts.{RadioPort, device_of, radio_ports_of}
 use Rattle.net_rules.specs.Standing.{standing_of, standing_of_row, lowers_of, stands}
 use Rattle.net_rules.specs.Available.{available}
-use Rattle.net_rules.specs.Interfaces.{is_claimed, is_up, layer_of}
+use Rattle.net_rules.specs.Interfaces.{is_claimed, is_up, l3_device_of}
 use Rattle.net_rules.specs.Used.{uses, serves_at, used}
 use Rattle.net_view.specs.Places.{HasPlaces, is_place, named}
 use Rattle.net_view.proofs.PortLemmas.{firsts_more, more_is, row_is, row_is_none}
@@ -45,9 +45,10 @@ any_names_more p rows i row within is =
 
 -- ---- what an interface uses
 
-pub uses_is : (facts : Facts) (row : InterfaceRow) (claimed up : Bool) (device layer : Option (List ℕ)) → claimed ≡ is_claimed facts row → device ≡ device_of facts row → up ≡ is_up facts row → layer ≡ layer_of facts row → (q : List ℕ)
-    → uses facts q row ≡ ((claimed && is_name device q) || (up && is_name layer q))
-uses_is facts row claimed up device layer p d u l q = sym (λ i. (p i && is_name (d i) q) || (u i && is_name (l i) q))
+pub uses_is : (facts : Facts) (row : InterfaceRow) (claimed up : Bool) (device l3_device : Option (List ℕ)) → claimed ≡ is_claimed facts row → device ≡ device_of facts row → up ≡ is_up facts row → l3_device ≡ l3_device_of facts row
+    → (q : List ℕ)
+    → uses facts q row ≡ ((claimed && is_name device q) || (up && is_name l3_device q))
+uses_is facts row claimed up device l3_device p d u l q = sym (λ i. (p i && is_name (d i) q) || (u i && is_name (l i) q))
 
 -- ---- what is under a used name
 

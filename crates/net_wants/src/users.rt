@@ -78,8 +78,8 @@ fn uses(levels: &Levels, inputs: &Inputs, name: &DevName, row: &InterfaceRow) ->
     ensures { result ≡ spec.uses (facts_of inputs.now) name.now row.now }
 {
     let is_device = is_name(&levels.device_of(inputs, row), name);
-    let is_layer = is_name(&levels.layer_of(inputs, row), name);
-    (levels.is_claimed(inputs, row) & is_device) | (levels.is_up(inputs, row) & is_layer)
+    let is_l3_device = is_name(&levels.l3_device_of(inputs, row), name);
+    (levels.is_claimed(inputs, row) & is_device) | (levels.is_up(inputs, row) & is_l3_device)
 }
 
 // How many used bridges and VLANs stand on the name.

@@ -114,7 +114,7 @@ fn add_uses(
     let is_claimed = levels.is_claimed(inputs, row);
     add_if(names, levels.device_of(inputs, row), is_claimed)?;
     let is_up = levels.is_up(inputs, row);
-    add_if(names, levels.layer_of(inputs, row), is_up)
+    add_if(names, levels.l3_device_of(inputs, row), is_up)
 }
 
 // Whether a name is used, by what interfaces use and what stands under used names.

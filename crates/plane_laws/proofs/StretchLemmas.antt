@@ -31,9 +31,9 @@ module _ (name : List ℕ) (some : Objects) (now : Network) where
     last = λ call member. Contains-append_left (calls_of now) [] call member;
   }
 
-  behind_settling : (before next : Network) (made : List Call) → HasMade made before next
+  after_settling : (before next : Network) (made : List Call) → HasMade made before next
       → Settles name some now next → Settles name some now before
-  behind_settling before next made has s = record {
+  after_settling before next made has s = record {
     calls = made ++ s.calls;
     stretch = IsStretch.settled (moment_of before) made (calls_of next) s.calls
         (subst (AreCalls (devices_of before.inputs) (set_of before.held) (want_of before.inputs)) has.parts
@@ -42,9 +42,9 @@ module _ (name : List ℕ) (some : Objects) (now : Network) where
     last = λ call member. Contains-append_right made s.calls call (s.last call member);
   }
 
-  behind_telling : (before next : Network) → HasTold before next → Settles name some now next
+  after_telling : (before next : Network) → HasTold before next → Settles name some now next
       → Settles name some now before
-  behind_telling before next told s = record {
+  after_telling before next told s = record {
     calls = s.calls;
     stretch = subst (λ m. IsStretch name some m s.calls) (same_moment told.inputs (ap set_of told.held)) s.stretch;
     last = s.last;
@@ -62,6 +62,6 @@ module _ (name : List ℕ) (some : Objects) (now : Network) where
         last = s.last;
       }
   settles before (StaysUntil.settled _ next made has stays) =
-      behind_settling before next made has (settles next stays)
+      after_settling before next made has (settles next stays)
   settles before (StaysUntil.told _ next told stays) =
-      behind_telling before next told (settles next stays)
+      after_telling before next told (settles next stays)

@@ -1,5 +1,5 @@
 -- How a run of the program ends, and when: by cases on its command. A command adds a case to `CommandEnds` and to
--- `CommandComes`, and in `Command` a case to the words that ask for it and to what it reads and calls.
+-- `CommandComes`, and in `Command` a case to the words that request for it and to what it reads and calls.
 use Rattle.std.specs.Prelude.{ℕ, ◌≡◌, List}
 use Rattle.plane_main.specs.declared.command.Command.{Command}
 use Rattle.plane_main.specs.declared.command.Command.TheVariants.{Start, Uci, Run, Gen, Show}

@@ -15,11 +15,11 @@ use Rattle.net_plane.specs.declared.net_error.NetError.{NetError}
 use Rattle.net_plane.specs.declared.net_error.NetError.TheVariants as error
 use Rattle.net_plane.specs.Network.{Network, IsNew, IsOf, HasSameKernel, moment_of}
 use Rattle.net_plane.specs.Taken.{IsAfter}
-use Rattle.step_net.specs.Acted.{lines_of_asks, asks_after}
+use Rattle.step_net.specs.Acted.{lines_of_requests, requests_after}
 use Rattle.step_net.specs.Finished.{IsOpened, IsOpenedInPart}
 use Rattle.plane_run.specs.declared.run_end.RunEnd.{RunEnd}
 use Rattle.plane_run.specs.declared.run_end.RunEnd.TheVariants as end
-use Rattle.plane_run.specs.Opening.{empty_net, loading, loaded_net, opening_asks}
+use Rattle.plane_run.specs.Opening.{empty_net, loading, loaded_net, opening_requests}
 use Rattle.plane_run.specs.Parts.{OpensNet, RowsPass}
 
 -- a new plane is that of a kernel that has nothing
@@ -44,13 +44,13 @@ empty_is net new =
     λ i. record { inputs = new.inputs i; held = held i }
 
 -- the lines of what is told of an event that was taken
-pub asks_are : (old mid : Network) (network wireless : Package) (lines : List ℕ)
-    → IsAfter old (loading network wireless) mid → lines ≡ lines_of_asks mid.inputs.conf mid.notices
-    → lines ≡ asks_after old.inputs (loading network wireless)
-asks_are old mid network wireless lines after is =
+pub requests_are : (old mid : Network) (network wireless : Package) (lines : List ℕ)
+    → IsAfter old (loading network wireless) mid → lines ≡ lines_of_requests mid.inputs.conf mid.notices
+    → lines ≡ requests_after old.inputs (loading network wireless)
+requests_are old mid network wireless lines after is =
     is
-    ∙ ap (λ (m : Moment). lines_of_asks m.inputs.conf mid.notices) after.moment
-    ∙ ap (λ told. lines_of_asks (moment_after (moment_of old) (loading network wireless)).inputs.conf told) after.notices
+    ∙ ap (λ (m : Moment). lines_of_requests m.inputs.conf mid.notices) after.moment
+    ∙ ap (λ told. lines_of_requests (moment_after (moment_of old) (loading network wireless)).inputs.conf told) after.notices
 
 -- an error of loading is a limit that the rows pass, or want of memory
 pub load_lacks : (network wireless : Package) (e : NetError) (all : RunEnd)
@@ -64,32 +64,32 @@ load_lacks network wireless e all (inr h) limit lacks =
     subst (RowsPass network wireless) (sym (limit h.0 h.1)) h.2
 
 -- the plane settles on the rows
-module _ (network wireless : Package) (old mid : Network) (asks : List ℕ) (before after : Outside)
+module _ (network wireless : Package) (old mid : Network) (requests : List ℕ) (before after : Outside)
     (fresh : IsNew old)
     (moment : moment_of mid ≡ moment_after (moment_of old) (loading network wireless))
-    (told : asks ≡ asks_after old.inputs (loading network wireless))
+    (told : requests ≡ requests_after old.inputs (loading network wireless))
     (within : passed_limit (conf network wireless) ≡ None) where
   loaded_is : moment_of mid ≡ loaded_net network wireless
   loaded_is = moment ∙ ap (λ m. moment_after m (loading network wireless)) (empty_is old fresh)
 
-  lines_are : asks ≡ opening_asks network wireless
-  lines_are = told ∙ ap (λ (inputs : Inputs). asks_after inputs (loading network wireless)) fresh.inputs
+  lines_are : requests ≡ opening_requests network wireless
+  lines_are = told ∙ ap (λ (inputs : Inputs). requests_after inputs (loading network wireless)) fresh.inputs
 
-  pub opens_whole : (now : Moment) → IsOpened (moment_of mid) now asks before after
+  pub opens_whole : (now : Moment) → IsOpened (moment_of mid) now requests before after
       → (passed_limit (conf network wireless) ≡ None)
-      × IsOpened (loaded_net network wireless) now (opening_asks network wireless) before after
+      × IsOpened (loaded_net network wireless) now (opening_requests network wireless) before after
   opens_whole now opens = (
     within,
-    subst (λ m. IsOpened m now (opening_asks network wireless) before after) loaded_is
+    subst (λ m. IsOpened m now (opening_requests network wireless) before after) loaded_is
         (subst (λ t. IsOpened (moment_of mid) now t before after) lines_are opens),
   )
 
-  pub opens_cut : IsOpenedInPart (moment_of mid) asks before after
+  pub opens_cut : IsOpenedInPart (moment_of mid) requests before after
       → (passed_limit (conf network wireless) ≡ None)
-      × IsOpenedInPart (loaded_net network wireless) (opening_asks network wireless) before after
+      × IsOpenedInPart (loaded_net network wireless) (opening_requests network wireless) before after
   opens_cut opens = (
     within,
-    subst (λ m. IsOpenedInPart m (opening_asks network wireless) before after) loaded_is
+    subst (λ m. IsOpenedInPart m (opening_requests network wireless) before after) loaded_is
         (subst (λ t. IsOpenedInPart (moment_of mid) t before after) lines_are opens),
   )
 

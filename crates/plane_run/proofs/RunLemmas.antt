@@ -125,7 +125,7 @@ module _ (over : Over) (Images : Supply → World → List Line → Type 0) (ses
       → RunsOver (record over { images = Images over.words }) ending
   went_over between network wireless net ending one two opens objects holds goes due =
       let is = opens.1 in
-      let there : world_at net ≡ world_in over network wireless is.failed_behind =
+      let there : world_at net ≡ world_in over network wireless is.failed_after =
       λ i. record {
         now = over.now;
         files = folder_in over;
@@ -136,21 +136,21 @@ module _ (over : Over) (Images : Supply → World → List Line → Type 0) (ses
       let on = subst (λ (supply : Supply). GoesOn (world_at net) (stage_at supply (world_at net) between) ending)
       same goes in
       parts.opened between network wireless (record { of_network = one; of_wireless = two; within = opens.0 })
-      is.failed_behind is.left (objects ∙ ap (λ (m : Moment). m.held) is.next)
+      is.failed_after is.left (objects ∙ ap (λ (m : Moment). m.held) is.next)
       (subst (λ (w : World). GoesOn w (stage_at over.words w between) ending) there on)
       (due_over (world_at net) (stage_at words (world_at net) between) ending _ over.before.kernel_faults
       between.objects (want_of net.inputs) is.left.cause holds due goes)
 
   -- what a stop leaves
-  pub stops_behind : {D : Type 0} (view : D → View) (old new : D) (before between : Outside)
+  pub stops_after : {D : Type 0} (view : D → View) (old new : D) (before between : Outside)
       (network wireless : Package) (net : Moment) → IsLoaded (folder_in over) network_name network
       → IsLoaded (folder_in over) wireless_name wireless
       → OpensNet {X = Unit {0}} network wireless net before between (Ok (tt {0}))
       → ScriptStops (world_at net) words over.store over.input view old new
       → StoreStops over.now over.acl over.words over.store over.input view old new
-  stops_behind view old new before between network wireless net one two opens stops =
+  stops_after view old new before between network wireless net one two opens stops =
       let is = opens.1 in
-      let there : world_at net ≡ world_in over network wireless is.failed_behind =
+      let there : world_at net ≡ world_in over network wireless is.failed_after =
       λ i. record {
         now = over.now;
         files = folder_in over;
@@ -164,7 +164,7 @@ module _ (over : Over) (Images : Supply → World → List Line → Type 0) (ses
         network,
         wireless,
         record { of_network = one; of_wireless = two; within = opens.0 },
-        is.failed_behind,
+        is.failed_after,
         subst (λ (w : World). ScriptStops w over.words over.store over.input view old new) there on,
       )
 
@@ -315,8 +315,8 @@ module _ (seen : Seen) (files_mid staged_mid : View) (store : Store)
       same (as_found still)
   over_ends ending (parts.cut is network wireless rows cut held) =
       run.cut_in_opening is (folder_of store) found network wireless rows cut held
-  over_ends ending (parts.opened between network wireless rows failed_behind left objects goes due) =
-      let start = world_in over network wireless failed_behind in
+  over_ends ending (parts.opened between network wireless rows failed_after left objects goes due) =
+      let start = world_in over network wireless failed_after in
       run.opened between
       (record {
         folder = folder_of store;
@@ -324,7 +324,7 @@ module _ (seen : Seen) (files_mid staged_mid : View) (store : Store)
         network = network;
         wireless = wireless;
         rows = rows;
-        failed_behind = failed_behind;
+        failed_after = failed_after;
         left = left;
         objects = objects;
       })
@@ -374,20 +374,20 @@ module _ {D : Type 0} (view : D → View) (now : ℕ) (acl : Acl) (words : Suppl
       → has_failed store ≡ false → IsFound (view old) staged now (folder_of store)
       → StoreStops now acl words store input view mid new → RunStops first input (view new)
   stops_over input same on ready found (inl e) = inl (stops_as_found e)
-  stops_over input same on ready found (inr (network, wireless, rows, failed_behind, inl e)) =
+  stops_over input same on ready found (inr (network, wireless, rows, failed_after, inl e)) =
       inl (stops_as_found e)
-  stops_over input same on ready found (inr (network, wireless, rows, failed_behind, inr h)) =
+  stops_over input same on ready found (inr (network, wireless, rows, failed_after, inr h)) =
       inr (record {
         folder = folder_of store;
         found = found;
         network = network;
         wireless = wireless;
         rows = rows;
-        failed_behind = failed_behind;
+        failed_after = failed_after;
         lines = h.0;
         read = h.1;
         images = images_over same on ready
-            (start_world now acl (folder_of store) network wireless failed_behind) h.0 (inr h.2);
+            (start_world now acl (folder_of store) network wireless failed_after) h.0 (inr h.2);
       })
 
 pub keeps_both : (a b c d e f : View) → SameDisk a b → ReadsOn d e → KeepsDisks b c e f

@@ -17,7 +17,7 @@ use Rattle.net_rules.specs.declared.event.Event.TheVariants as event
 use Rattle.net_rules.specs.Inputs.{no_inputs}
 use Rattle.net_rules.specs.Moment.{Moment, moment_after}
 use Rattle.net_settle.specs.Outside.{Outside}
-use Rattle.step_net.specs.Acted.{asks_after}
+use Rattle.step_net.specs.Acted.{requests_after}
 use Rattle.step_net.specs.Effects.{Leaves}
 use Rattle.step_net.specs.Moved as net
 use Rattle.step_net.specs.Moved.{once_if}
@@ -35,12 +35,12 @@ empty_net = record { inputs = no_inputs; held = set.empty }
 abbrev pub loading : Package → Package → Event
 loading network wireless = event.Load (conf network wireless)
 
--- the plane with these rows, before it settles, and the lines of its asks
+-- the plane with these rows, before it settles, and the lines of its requests
 abbrev pub loaded_net : Package → Package → Moment
 loaded_net network wireless = moment_after empty_net (loading network wireless)
 
-abbrev pub opening_asks : Package → Package → List ℕ
-opening_asks network wireless = asks_after no_inputs (loading network wireless)
+abbrev pub opening_requests : Package → Package → List ℕ
+opening_requests network wireless = requests_after no_inputs (loading network wireless)
 
 -- the packages of the folder, as they are committed, and their lists are within their limits
 pub record HasRows (folder : Folder) (network wireless : Package) : Type 0 where
@@ -50,17 +50,17 @@ pub record HasRows (folder : Folder) (network wireless : Package) : Type 0 where
 
 -- what the opening comes to, with its luck
 abbrev pub opened : Package → Package → Option ℕ → net.Moved
-opened network wireless failed_behind =
-    net.opening (loaded_net network wireless) (opening_asks network wireless) failed_behind
+opened network wireless failed_after =
+    net.opening (loaded_net network wireless) (opening_requests network wireless) failed_after
 
 -- the world behind it: the default session is alone, and the bus has this access list and no client
 abbrev pub start_world : ℕ → Acl → Folder → Package → Package → Option ℕ → World
-start_world now acl folder network wireless failed_behind = record {
+start_world now acl folder network wireless failed_after = record {
   now = now;
   files = folder;
   sessions = first_sessions;
   bus = begun acl;
-  net = (opened network wireless failed_behind).net;
+  net = (opened network wireless failed_after).net;
 }
 
 -- what a run finds: the moment, the access list of the bus, the random words to come, the disks of the packages and of
@@ -80,15 +80,15 @@ pub record HasOpened (first : First) (between : Outside) : Type 0 where
   pub network : Package
   pub wireless : Package
   pub rows : HasRows folder network wireless
-  pub failed_behind : Option ℕ
-  pub left : Leaves (opened network wireless failed_behind).effects (once_if (is_some failed_behind))
+  pub failed_after : Option ℕ
+  pub left : Leaves (opened network wireless failed_after).effects (once_if (is_some failed_after))
       first.before between
-  pub objects : between.objects ≡ (opened network wireless failed_behind).net.held
+  pub objects : between.objects ≡ (opened network wireless failed_after).net.held
 
 abbrev pub world_of : (first : First) → (between : Outside) → HasOpened first between → World
 world_of first between opening =
     start_world first.now first.acl opening.folder opening.network opening.wireless
-    opening.failed_behind
+    opening.failed_after
 
 -- one of the two packages does not read; where both do not, it is `network`
 pub data LacksRows (folder : Folder) (fault : Fault) : RowPackage → Type 0 where

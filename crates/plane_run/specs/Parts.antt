@@ -41,7 +41,8 @@ use Rattle.plane_run.specs.declared.script.Script.{Script}
 use Rattle.plane_run.specs.declared.script.Script.TheVariants.{Lines, Bad}
 use Rattle.plane_run.specs.declared.script.TheConstants.{SCRIPT_LIMIT}
 use Rattle.plane_run.specs.RunEnd.{name_of}
-use Rattle.plane_run.specs.Opening.{HasRows, LacksRows, loaded_net, opening_asks, start_world, opened as rows_opened}
+use Rattle.plane_run.specs.Opening.{HasRows, LacksRows, loaded_net, opening_requests, start_world}
+use Rattle.plane_run.specs.Opening.{opened as rows_opened}
 use Rattle.plane_run.specs.Script.{bad_answer}
 use Rattle.plane_run.specs.Run.{Stage, Holds, IsDone, IsRefused, IsDue, GoesOn, IsKernelFailed}
 
@@ -84,10 +85,10 @@ abbrev pub OpensNet : {X : Type 0} → Package → Package → Moment → Outsid
     → Result X RunEnd → Type 0
 OpensNet network wireless now before after (Ok done) =
     (passed_limit (conf network wireless) ≡ None)
-    × IsOpened (loaded_net network wireless) now (opening_asks network wireless) before after
+    × IsOpened (loaded_net network wireless) now (opening_requests network wireless) before after
 OpensNet network wireless now before after (Err end.WriteFailed) =
     (passed_limit (conf network wireless) ≡ None)
-    × IsOpenedInPart (loaded_net network wireless) (opening_asks network wireless) before after
+    × IsOpenedInPart (loaded_net network wireless) (opening_requests network wireless) before after
 OpensNet network wireless now before after (Err (end.TooLong limit)) =
     (passed_limit (conf network wireless) ≡ Some limit) × (after ≡ before)
 OpensNet network wireless now before after (Err end.OutOfMemory) = after ≡ before
@@ -217,15 +218,15 @@ pub data RunsOver (over : Over) (ending : RunEnd) : Type 0 where
       → over.after ≡ over.before → over.stays → StillHolds over → RunsOver over ending
   cut : ending ≡ end.WriteFailed → (network wireless : Package)
       → HasRows (folder_in over) network wireless
-      → IsOpenedInPart (loaded_net network wireless) (opening_asks network wireless) over.before
+      → IsOpenedInPart (loaded_net network wireless) (opening_requests network wireless) over.before
       over.after
       → StillHolds over → RunsOver over ending
   opened : (between : Outside) (network wireless : Package)
-      → HasRows (folder_in over) network wireless → (failed_behind : Option ℕ)
-      → Leaves (rows_opened network wireless failed_behind).effects (once_if (is_some failed_behind))
+      → HasRows (folder_in over) network wireless → (failed_after : Option ℕ)
+      → Leaves (rows_opened network wireless failed_after).effects (once_if (is_some failed_after))
       over.before between
-      → between.objects ≡ (rows_opened network wireless failed_behind).net.held
-      → GoesOn (world_in over network wireless failed_behind)
-      (stage_in over (world_in over network wireless failed_behind) between) ending
+      → between.objects ≡ (rows_opened network wireless failed_after).net.held
+      → GoesOn (world_in over network wireless failed_after)
+      (stage_in over (world_in over network wireless failed_after) between) ending
       → (IsKernelFailed ending → Rose over.before.kernel_faults over.after.kernel_faults)
       → RunsOver over ending

@@ -29,7 +29,7 @@ use Rattle.plane_run.specs.declared.run_end.RunEnd.TheVariants as end
 use Rattle.plane_run.specs.declared.script.Script.{Script}
 use Rattle.plane_run.specs.declared.script.Script.TheVariants.{Lines, Bad}
 use Rattle.plane_run.specs.declared.script.TheConstants.{SCRIPT_LIMIT}
-use Rattle.plane_run.specs.Opening.{First, HasRows, HasOpened, LacksRows, world_of, loaded_net, opening_asks}
+use Rattle.plane_run.specs.Opening.{First, HasRows, HasOpened, LacksRows, world_of, loaded_net, opening_requests}
 use Rattle.plane_run.specs.Script.{HasRead, Gives, answered}
 use Rattle.plane_run.specs.Stops.{ImagesOf}
 
@@ -195,7 +195,7 @@ pub data RunEnds (seen : Seen) (ending : RunEnd) : Type 0 where
       → StopsAsFound seen.first.now seen.first.files seen.files_now → RunEnds seen ending
   cut_in_opening : ending ≡ end.WriteFailed → (folder : Folder) → Finds seen folder
       → (network wireless : Package) → HasRows folder network wireless
-      → IsOpenedInPart (loaded_net network wireless) (opening_asks network wireless)
+      → IsOpenedInPart (loaded_net network wireless) (opening_requests network wireless)
       seen.first.before seen.after
       → StillHolds seen folder → RunEnds seen ending
   opened : (between : Outside) (opening : HasOpened seen.first between)

@@ -34,11 +34,11 @@ pub record StopsOver (first : First) (input : Stream) (files_now : View) : Type 
   pub network : Package
   pub wireless : Package
   pub rows : HasRows folder network wireless
-  pub failed_behind : Option ℕ
+  pub failed_after : Option ℕ
   pub lines : List Line
   pub read : HasRead input (Lines lines)
   pub images : ImagesOf first files_now
-      (start_world first.now first.acl folder network wireless failed_behind) lines
+      (start_world first.now first.acl folder network wireless failed_after) lines
 
 abbrev pub RunStops : First → Stream → View → Type 0
 RunStops first input files_now =
@@ -55,6 +55,6 @@ ScriptStops start words store input view old new = (new ≡ old) ⊎ ((lines : L
 abbrev pub StoreStops : {D : Type 0} → ℕ → Acl → Supply → Store → Stream → (D → View) → D → D → Type 0
 StoreStops now acl words store input view old new = (new ≡ old)
     ⊎ ((network : Package) × (wireless : Package) × HasRows (folder_of store) network wireless
-    × (failed_behind : Option ℕ)
-    × ScriptStops (start_world now acl (folder_of store) network wireless failed_behind) words
+    × (failed_after : Option ℕ)
+    × ScriptStops (start_world now acl (folder_of store) network wireless failed_after) words
     store input view old new)

@@ -5,7 +5,7 @@ ghost use Rattle.net_conf.specs.Limits.{passed_limit};
 ghost use Rattle.net_rules.specs.Moment.{want_of, moment_after};
 ghost use Rattle.net_settle.specs.Outside.{outside_of};
 ghost use Rattle.net_plane.specs.Network.{IsNew, IsOf, HasSameKernel, moment_of};
-ghost use Rattle.step_net.specs.Acted.{asks_after};
+ghost use Rattle.step_net.specs.Acted.{requests_after};
 ghost use Rattle.step_net.specs.Finished.{HoldsOrFailed};
 ghost use Rattle.plane_run.specs.Opening.{loading};
 ghost use Rattle.plane_run.specs.Parts.{OpensNet, RowsPass};
@@ -15,10 +15,10 @@ use kern_model::Kernel;
 use net_plane::{Net, NetError};
 use plane_io::Sink;
 use std::alloc::Global;
-use step_net::{lines_of_asks, settle_and_show};
+use step_net::{lines_of_requests, settle_and_show};
 use uci_tree::Package;
 
-/// Loads the rows of two packages into a new plane, settles, and tells the asks. All memory is
+/// Loads the rows of two packages into a new plane, settles, and tells the requests. All memory is
 /// taken before the first call.
 pub(crate) fn open_net<K: Kernel, O: Sink>(
     alloc: Global,
@@ -39,7 +39,7 @@ pub(crate) fn open_net<K: Kernel, O: Sink>(
     ensures told { OnOk result (net.new.notices ≡ []) }
 {
     match load(alloc, net, network, wireless) {
-        Ok(asks) => match settle_and_show(net, asks.as_slice(), kernel, out) {
+        Ok(requests) => match settle_and_show(net, requests.as_slice(), kernel, out) {
             Ok(()) => Ok(()),
             Err(_) => Err(RunEnd::WriteFailed),
         },
@@ -47,7 +47,7 @@ pub(crate) fn open_net<K: Kernel, O: Sink>(
     }
 }
 
-// Loads the rows, and gives the lines of the asks that are opened.
+// Loads the rows, and gives the lines of the requests that are opened.
 fn load(
     alloc: Global,
     net: &mut Net,
@@ -57,8 +57,8 @@ fn load(
     requires { net.old.notices ≡ [] }
     ensures moment { OnOk result (moment_of net.new
         ≡ moment_after (moment_of net.old) (loading network.now wireless.now)) }
-    ensures asks { IfOk result (λ asks.
-        asks.items ≡ asks_after net.old.inputs (loading network.now wireless.now)) }
+    ensures requests { IfOk result (λ requests.
+        requests.items ≡ requests_after net.old.inputs (loading network.now wireless.now)) }
     ensures within { OnOk result (passed_limit (conf network.now wireless.now) ≡ None) }
     ensures refused { IfErr result (RowsPass network.now wireless.now) }
     ensures kernel { HasSameKernel net.old net.new }
@@ -69,7 +69,7 @@ fn load(
         Err(NetError::Limit { number }) => return Err(RunEnd::TooLong { limit: number }),
         Err(_) => return Err(RunEnd::OutOfMemory),
     }
-    match lines_of_asks(alloc, net) {
+    match lines_of_requests(alloc, net) {
         Ok(lines) => Ok(lines),
         Err(_) => Err(RunEnd::OutOfMemory),
     }

@@ -23,7 +23,7 @@ pub tries_alone : {M : Type 0} (act : NetLine) (before now : Network) (kernel : 
 tries_alone act before now kernel (Ok told) none nothing takes = record {
   failed = false;
   is = takes;
-  asks = subst (λ what. Asks what false kernel) (sym none) nothing;
+  requests = subst (λ what. Asks what false kernel) (sym none) nothing;
 }
 tries_alone act before now kernel (Err lacks) none nothing (inl same) = IsLeft.in_front same nothing
 tries_alone act before now kernel (Err lacks) none nothing (inr net) =
@@ -37,7 +37,7 @@ pub tries_shown : {M : Type 0} (act : NetLine) (now : Network) (kernel : Telled)
 tries_shown act now kernel (Ok told) none stays silent nothing shows = record {
   failed = false;
   is = record { net = stays; telling = shows; silent = silent };
-  asks = subst (λ what. Asks what false kernel) (sym none) nothing;
+  requests = subst (λ what. Asks what false kernel) (sym none) nothing;
 }
 tries_shown act now kernel (Err lacks) none stays silent nothing shows = IsLeft.in_front refl nothing
 

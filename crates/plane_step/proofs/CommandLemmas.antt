@@ -18,8 +18,8 @@ use Rattle.step_net.specs.declared.told.Told.{Told}
 use Rattle.step_net.specs.Taken.{telling_in, Telled, Asks, IsTaken}
 use Rattle.plane_step.specs.declared.stop.Stop.{Stop}
 use Rattle.plane_step.specs.declared.stop.Stop.TheVariants as stop
-use Rattle.plane_step.specs.FilesMoved.{folder_behind}
-use Rattle.plane_step.specs.Means.{uci_asks}
+use Rattle.plane_step.specs.FilesMoved.{folder_after}
+use Rattle.plane_step.specs.Means.{uci_requests}
 use Rattle.plane_step.specs.Faults.{DiskFaults}
 use Rattle.plane_step.specs.StoreKept.{StaysOn}
 use Rattle.plane_step.specs.LineDone.{Front, Does, IsNetUndone, telling_of_uci, TellsReport, CarriesUci}
@@ -31,16 +31,16 @@ pub report_carries : (number : ℕ) (words : List (List ℕ)) (before after : Fo
     → CarriesUci number words before after disks result
 report_carries number words before after disks None (Ok told) reports tells = record {
   telling = tells ∙ sym (ap (telling_of_uci number) reports.0);
-  files = reports.1 ∙ sym (ap (folder_behind before) reports.0);
+  files = reports.1 ∙ sym (ap (folder_after before) reports.0);
 }
 report_carries number words before after disks (Some report) (Ok told) reports tells = record {
   telling = tells ∙ sym (ap (telling_of_uci number) reports);
-  files = sym (ap (folder_behind before) reports);
+  files = sym (ap (folder_after before) reports);
 }
 report_carries number words before after disks None (Err stop.Memory) reports tells =
-    inl (reports.1 ∙ sym (ap (folder_behind before) reports.0))
+    inl (reports.1 ∙ sym (ap (folder_after before) reports.0))
 report_carries number words before after disks (Some report) (Err stop.Memory) reports tells =
-    inl (sym (ap (folder_behind before) reports))
+    inl (sym (ap (folder_after before) reports))
 report_carries number words before after disks report (Err stop.WriteFailed) reports tells =
     absurd (cc tells)
 report_carries number words before after disks report (Err stop.DiskFailed) reports tells =
@@ -100,16 +100,16 @@ failed_stays old new a b c d writes = record {
 -- what is told of a command is what it asks
 uci_taken : (number : ℕ) (o : Option Carried) (net : Network) (kernel : Telled) (told : Told)
     → telling_in told ≡ telling_of_uci number o → net.notices ≡ [] → Asks [] false kernel
-    → IsTaken (uci_asks number o) net net kernel told
+    → IsTaken (uci_requests number o) net net kernel told
 uci_taken number None net kernel told tells silent nothing = record {
   failed = false;
   is = record { net = refl; telling = tells; silent = silent };
-  asks = nothing;
+  requests = nothing;
 }
 uci_taken number (Some done) net kernel told tells silent nothing = record {
   failed = false;
   is = record { net = refl; telling = tells; silent = silent };
-  asks = nothing;
+  requests = nothing;
 }
 
 pub uci_does : (front : Front) (number : ℕ) (words : List (List ℕ)) (store : Store)
@@ -119,7 +119,7 @@ pub uci_does : (front : Front) (number : ℕ) (words : List (List ℕ)) (store :
     → Does (record { front = front; number = number; line = Some (line.Uci words) })
     (record { now = front.now; store = store; net = front.net; kernel = kernel }) disks result
 uci_does front number words store kernel disks (Ok told) silent nothing carries = record {
-  act = uci_asks number (words_carried words (folder_of front.store));
+  act = uci_requests number (words_carried words (folder_of front.store));
   means = refl;
   moment = refl;
   files = carries.files;
@@ -129,6 +129,6 @@ uci_does front number words store kernel disks (Ok told) silent nothing carries 
 uci_does front number words store kernel disks (Err stop.WriteFailed) silent nothing carries =
     absurd carries
 uci_does front number words store kernel disks (Err stop.DiskFailed) silent nothing carries =
-    record { cause = carries; net = refl; asks = nothing }
+    record { cause = carries; net = refl; requests = nothing }
 uci_does front number words store kernel disks (Err stop.Memory) silent nothing carries =
     record { net = IsNetUndone.unasked refl nothing; files = carries }

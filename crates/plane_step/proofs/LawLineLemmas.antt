@@ -83,10 +83,10 @@ module _ (one : (ground : Ground) (number : ℕ) (read : Option ScriptLine) (act
       one_at world number moment events did other p q
   one_line world number (Some (line.Device what)) words events did other plain p q =
       one_plain world number (Some (line.Device what)) events did other p q
-  one_line world number (Some (line.Answer interface ask json)) words events did other plain p q =
-      one_plain world number (Some (line.Answer interface ask json)) events did other p q
-  one_line world number (Some (line.Radio radio ask json)) words events did other plain p q =
-      one_plain world number (Some (line.Radio radio ask json)) events did other p q
+  one_line world number (Some (line.Answer interface request json)) words events did other plain p q =
+      one_plain world number (Some (line.Answer interface request json)) events did other p q
+  one_line world number (Some (line.Radio radio request json)) words events did other plain p q =
+      one_plain world number (Some (line.Radio radio request json)) events did other p q
   one_line world number (Some (line.Operator interface up)) words events did other plain p q =
       one_plain world number (Some (line.Operator interface up)) events did other p q
   one_line world number (Some line.Reload) words events did other plain p q =

@@ -61,7 +61,7 @@ module _ (one : (world : World) (number : ℕ) (read : Option ScriptLine) (words
       (subst (λ (l : Line). Does to.world l.line (line_of l.words) k.words k.events s) last
       (subst (λ (so : Moved). Does so.world l.line (line_of l.words) k.words k.events s) before m)) in
       let did = one to.world j.line (line_of j.words) n.words n.events s t (plain_last js j plain) does o in
-      λ i. followed (before i) (moved (did i) (luck i).failed_behind)
+      λ i. followed (before i) (moved (did i) (luck i).failed_after)
 
   pub one_fold : (lines : List Line) (lucks : List Luck) (end other : Moved) → ArePlain lines
       → Folds start lines lucks end → Folds start lines lucks other → end ≡ other

@@ -21,8 +21,8 @@ pub other_stays : (now : ℕ) (folder : Folder) (read : ScriptLine) → IsOfNet 
 other_stays now folder (line.At moment) h = absurd h
 other_stays now folder (line.Uci words) h = absurd h
 other_stays now folder (line.Device what) h = refl
-other_stays now folder (line.Answer interface ask json) h = refl
-other_stays now folder (line.Radio radio ask json) h = refl
+other_stays now folder (line.Answer interface request json) h = refl
+other_stays now folder (line.Radio radio request json) h = refl
 other_stays now folder (line.Operator interface up) h = refl
 other_stays now folder line.Reload h = refl
 other_stays now folder (line.Call session object method json) h = refl
@@ -39,8 +39,8 @@ pub is_of_net : (read : ScriptLine) → ((moment : ℕ) → read ≡ line.At mom
 is_of_net (line.At moment) no_at no_uci = no_at moment refl
 is_of_net (line.Uci words) no_at no_uci = no_uci words refl
 is_of_net (line.Device what) no_at no_uci = tt
-is_of_net (line.Answer interface ask json) no_at no_uci = tt
-is_of_net (line.Radio radio ask json) no_at no_uci = tt
+is_of_net (line.Answer interface request json) no_at no_uci = tt
+is_of_net (line.Radio radio request json) no_at no_uci = tt
 is_of_net (line.Operator interface up) no_at no_uci = tt
 is_of_net line.Reload no_at no_uci = tt
 is_of_net (line.Call session object method json) no_at no_uci = tt
@@ -90,14 +90,14 @@ pub at_lifts : (front : Front) (number next now : ℕ) (store : Store) (net : Ne
     (record { now = now; store = store; net = net; kernel = kernel }) disks result
 at_lifts front number next now store net kernel disks (Ok told) nothing goes = record {
   act = goes.act;
-  means = goes.asks;
+  means = goes.requests;
   moment = goes.moment;
   files = goes.files;
   taken = tries_alone {M = Stop} goes.act front.net net kernel (Ok told) goes.taken.none nothing goes.taken.is;
 }
 at_lifts front number next now store net kernel disks (Err stop.WriteFailed) nothing goes = absurd goes
 at_lifts front number next now store net kernel disks (Err stop.DiskFailed) nothing goes =
-    record { cause = inl goes.0; net = goes.1; asks = nothing }
+    record { cause = inl goes.0; net = goes.1; requests = nothing }
 at_lifts front number next now store net kernel disks (Err stop.Memory) nothing goes = record {
   net = elim goes.net as (λ _. IsNetUndone (record { front = front; number = number; line = Some (line.At next) }) net kernel) [
     | inl same ↦ IsNetUndone.unasked same nothing

@@ -73,8 +73,8 @@ module _ (line : Line) (world mid : World) (seen : Seen) (told : Handled)
   did = done.did
 
   abbrev luck_with : Option ℕ → Luck
-  luck_with failed_behind =
-      record { words = done.words; events = done.failures; failed_behind = failed_behind }
+  luck_with failed_after =
+      record { words = done.words; events = done.failures; failed_after = failed_after }
 
   leaves_acted : Leaves (asking did.asked) (failed_events done.failures) before between
   leaves_acted = record {
@@ -94,11 +94,11 @@ module _ (line : Line) (world mid : World) (seen : Seen) (told : Handled)
   held_is : between.objects ≡ did.world.net.held
   held_is = held ∙ ap (λ (w : World). w.net.held) done.is.world
 
-  end_is : (failed_behind : Option ℕ) → finished mid.net (telling_in told.told) failed_behind
-      ≡ finished did.world.net (telling_of did) failed_behind
-  end_is failed_behind =
-      ap (λ (w : World). finished w.net (telling_in told.told) failed_behind) done.is.world
-      ∙ ap (λ (t : Telling). finished did.world.net t failed_behind) telling_is
+  end_is : (failed_after : Option ℕ) → finished mid.net (telling_in told.told) failed_after
+      ≡ finished did.world.net (telling_of did) failed_after
+  end_is failed_after =
+      ap (λ (w : World). finished w.net (telling_in told.told) failed_after) done.is.world
+      ∙ ap (λ (t : Telling). finished did.world.net t failed_after) telling_is
 
   -- behind its sends
   module _ (sent : Outside) (alone : IsWrittenTo between sent)
@@ -124,20 +124,20 @@ module _ (line : Line) (world mid : World) (seen : Seen) (told : Handled)
         → CarriedOut line world (with_net mid new) (words_of seen) before after is_ok
     unfolding moved
     carried_out new after is_ok f =
-        let end = end_is f.failed_behind in
-        let net : new ≡ (finished did.world.net (telling_of did) f.failed_behind).net =
+        let end = end_is f.failed_after in
+        let net : new ≡ (finished did.world.net (telling_of did) f.failed_after).net =
         f.next ∙ ap (λ (m : NetMoved). m.net) end in
-        let failures = once_if (is_some f.failed_behind) in
+        let failures = once_if (is_some f.failed_after) in
         record {
-          luck = luck_with f.failed_behind;
+          luck = luck_with f.failed_after;
           did = did;
           does = done.does;
           next = λ i. with_net (done.is.world i) (net i);
           answer = f.answer ∙ ap (λ (m : NetMoved). m.is_ok) end;
           used = done.is.used;
-          left = subst (λ n. Leaves (moved did f.failed_behind).effects n before after)
+          left = subst (λ n. Leaves (moved did f.failed_after).effects n before after)
               (counted (failed_events done.failures) failures)
-              (leaves_all (finished did.world.net (telling_of did) f.failed_behind).effects failures after
+              (leaves_all (finished did.world.net (telling_of did) f.failed_after).effects failures after
               (subst (λ (m : NetMoved). Leaves m.effects failures sent after) end f.left));
         }
 
@@ -147,15 +147,15 @@ module _ (line : Line) (world mid : World) (seen : Seen) (told : Handled)
         → CutShort line world (with_net mid new) before after
     unfolding moved
     cut_short new after f =
-        let end = end_is f.failed_behind in
-        let parts : (finished did.world.net (telling_of did) f.failed_behind).effects
+        let end = end_is f.failed_after in
+        let parts : (finished did.world.net (telling_of did) f.failed_after).effects
         ≡ joined f.left.front f.left.back =
         sym (ap (λ (m : NetMoved). m.effects) end) ∙ f.left.parts in
-        let failures = once_if (is_some f.failed_behind) in
+        let failures = once_if (is_some f.failed_after) in
         let front = f.left.front in
         let back = f.left.back in
         record {
-          luck = luck_with f.failed_behind;
+          luck = luck_with f.failed_after;
           did = did;
           does = done.does;
           left = record {

@@ -17,46 +17,46 @@ use Rattle.uci_tool.specs.Folder.{Folder}
 use Rattle.plane_step.specs.Ground.{Ground}
 use Rattle.plane_step.specs.FilesMoved.{folder_at}
 use Rattle.step_net.specs.Loaded.{network_name, wireless_name, IsLoaded, DoesNotLoad}
-use Rattle.plane_step.specs.Means.{Means, AnswerAsks, RadioAsks, AtAsks}
+use Rattle.plane_step.specs.Means.{Means, AnswerAsks, RadioRequests, AtAsks}
 use Rattle.step_net.specs.Reload.{ReloadAsks}
 use Rattle.plane_step.proofs.ReadingLemmas.{one_ports}
 
 module _ (one_answer : (value : Data) (a b : Answer) → IsAnswer value a → IsAnswer value b → a ≡ b)
     (one_package : (name text : List ℕ) (tree other : Package) → Reads name text tree → Reads name text other → other ≡ tree)
     (not_both : (name text : List ℕ) (error : TreeError) (tree : Package) → HasTreeFault text error → Reads name text tree → ⊥) where
-  one_answer_act : (number : ℕ) (interface : List ℕ) (ask : ℕ) (json : List ℕ) (a b : NetLine)
-      → AnswerAsks number interface ask json a → AnswerAsks number interface ask json b → a ≡ b
-  one_answer_act number interface ask json _ _ (AnswerAsks.answer v x e p) (AnswerAsks.answer w y f q) =
+  one_answer_act : (number : ℕ) (interface : List ℕ) (request : ℕ) (json : List ℕ) (a b : NetLine)
+      → AnswerAsks number interface request json a → AnswerAsks number interface request json b → a ≡ b
+  one_answer_act number interface request json _ _ (AnswerAsks.answer v x e p) (AnswerAsks.answer w y f q) =
       let same : v ≡ w = cc (e, f) in
-      ap (λ x. NetLine.happens (event.Answer interface ask x))
+      ap (λ x. NetLine.happens (event.Answer interface request x))
       (one_answer w x y (subst (λ v. IsAnswer v x) same p) q)
-  one_answer_act number interface ask json _ _ (AnswerAsks.answer v x e p) (AnswerAsks.no_json f) = absurd (cc (e, f))
-  one_answer_act number interface ask json _ _ (AnswerAsks.answer v x e p) (AnswerAsks.no_answer w f none) =
+  one_answer_act number interface request json _ _ (AnswerAsks.answer v x e p) (AnswerAsks.no_json f) = absurd (cc (e, f))
+  one_answer_act number interface request json _ _ (AnswerAsks.answer v x e p) (AnswerAsks.no_answer w f none) =
       let same : v ≡ w = cc (e, f) in absurd (none x (subst (λ v. IsAnswer v x) same p))
-  one_answer_act number interface ask json _ _ (AnswerAsks.no_json e) (AnswerAsks.answer w y f q) = absurd (cc (e, f))
-  one_answer_act number interface ask json _ _ (AnswerAsks.no_json e) (AnswerAsks.no_json f) = refl
-  one_answer_act number interface ask json _ _ (AnswerAsks.no_json e) (AnswerAsks.no_answer w f none) = refl
-  one_answer_act number interface ask json _ _ (AnswerAsks.no_answer v e none) (AnswerAsks.answer w y f q) =
+  one_answer_act number interface request json _ _ (AnswerAsks.no_json e) (AnswerAsks.answer w y f q) = absurd (cc (e, f))
+  one_answer_act number interface request json _ _ (AnswerAsks.no_json e) (AnswerAsks.no_json f) = refl
+  one_answer_act number interface request json _ _ (AnswerAsks.no_json e) (AnswerAsks.no_answer w f none) = refl
+  one_answer_act number interface request json _ _ (AnswerAsks.no_answer v e none) (AnswerAsks.answer w y f q) =
       let same : w ≡ v = cc (e, f) in absurd (none y (subst (λ w. IsAnswer w y) same q))
-  one_answer_act number interface ask json _ _ (AnswerAsks.no_answer v e none) (AnswerAsks.no_json f) = refl
-  one_answer_act number interface ask json _ _ (AnswerAsks.no_answer v e none) (AnswerAsks.no_answer w f never) = refl
+  one_answer_act number interface request json _ _ (AnswerAsks.no_answer v e none) (AnswerAsks.no_json f) = refl
+  one_answer_act number interface request json _ _ (AnswerAsks.no_answer v e none) (AnswerAsks.no_answer w f never) = refl
 
-  one_radio_act : (number : ℕ) (radio : List ℕ) (ask : ℕ) (json : List ℕ) (a b : NetLine)
-      → RadioAsks number radio ask json a → RadioAsks number radio ask json b → a ≡ b
-  one_radio_act number radio ask json _ _ (RadioAsks.answer v x e p) (RadioAsks.answer w y f q) =
+  one_radio_act : (number : ℕ) (radio : List ℕ) (request : ℕ) (json : List ℕ) (a b : NetLine)
+      → RadioRequests number radio request json a → RadioRequests number radio request json b → a ≡ b
+  one_radio_act number radio request json _ _ (RadioRequests.answer v x e p) (RadioRequests.answer w y f q) =
       let same : v ≡ w = cc (e, f) in
-      ap (λ x. NetLine.happens (event.Radio radio ask x))
+      ap (λ x. NetLine.happens (event.Radio radio request x))
       (one_ports w x y (subst (λ v. ArePorts v x) same p) q)
-  one_radio_act number radio ask json _ _ (RadioAsks.answer v x e p) (RadioAsks.no_json f) = absurd (cc (e, f))
-  one_radio_act number radio ask json _ _ (RadioAsks.answer v x e p) (RadioAsks.no_answer w f none) =
+  one_radio_act number radio request json _ _ (RadioRequests.answer v x e p) (RadioRequests.no_json f) = absurd (cc (e, f))
+  one_radio_act number radio request json _ _ (RadioRequests.answer v x e p) (RadioRequests.no_answer w f none) =
       let same : v ≡ w = cc (e, f) in absurd (none x (subst (λ v. ArePorts v x) same p))
-  one_radio_act number radio ask json _ _ (RadioAsks.no_json e) (RadioAsks.answer w y f q) = absurd (cc (e, f))
-  one_radio_act number radio ask json _ _ (RadioAsks.no_json e) (RadioAsks.no_json f) = refl
-  one_radio_act number radio ask json _ _ (RadioAsks.no_json e) (RadioAsks.no_answer w f none) = refl
-  one_radio_act number radio ask json _ _ (RadioAsks.no_answer v e none) (RadioAsks.answer w y f q) =
+  one_radio_act number radio request json _ _ (RadioRequests.no_json e) (RadioRequests.answer w y f q) = absurd (cc (e, f))
+  one_radio_act number radio request json _ _ (RadioRequests.no_json e) (RadioRequests.no_json f) = refl
+  one_radio_act number radio request json _ _ (RadioRequests.no_json e) (RadioRequests.no_answer w f none) = refl
+  one_radio_act number radio request json _ _ (RadioRequests.no_answer v e none) (RadioRequests.answer w y f q) =
       let same : w ≡ v = cc (e, f) in absurd (none y (subst (λ w. ArePorts w y) same q))
-  one_radio_act number radio ask json _ _ (RadioAsks.no_answer v e none) (RadioAsks.no_json f) = refl
-  one_radio_act number radio ask json _ _ (RadioAsks.no_answer v e none) (RadioAsks.no_answer w f never) = refl
+  one_radio_act number radio request json _ _ (RadioRequests.no_answer v e none) (RadioRequests.no_json f) = refl
+  one_radio_act number radio request json _ _ (RadioRequests.no_answer v e none) (RadioRequests.no_answer w f never) = refl
 
   one_loaded : (folder : Folder) (name : List ℕ) (a b : Package) → IsLoaded folder name a
       → IsLoaded folder name b → a ≡ b
@@ -112,10 +112,10 @@ module _ (one_answer : (value : Data) (a b : Answer) → IsAnswer value a → Is
   one_meaning ground number None act other p q = p ∙ sym q
   one_meaning ground number (Some (line.At moment)) act other p q = one_at ground moment act other p q
   one_meaning ground number (Some (line.Device what)) act other p q = p ∙ sym q
-  one_meaning ground number (Some (line.Answer interface ask json)) act other p q =
-      one_answer_act number interface ask json act other p q
-  one_meaning ground number (Some (line.Radio radio ask json)) act other p q =
-      one_radio_act number radio ask json act other p q
+  one_meaning ground number (Some (line.Answer interface request json)) act other p q =
+      one_answer_act number interface request json act other p q
+  one_meaning ground number (Some (line.Radio radio request json)) act other p q =
+      one_radio_act number radio request json act other p q
   one_meaning ground number (Some (line.Operator interface up)) act other p q = p ∙ sym q
   one_meaning ground number (Some line.Reload) act other p q = one_reload ground.files act other p q
   one_meaning ground number (Some (line.Uci words)) act other p q = p ∙ sym q

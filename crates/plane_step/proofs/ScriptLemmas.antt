@@ -62,7 +62,7 @@ pub ran_more : (start : World) (lines : List Line) (line : Line) (world now : Wo
     (is_ok && fine)
 unfolding moved
 ran_more start lines line world now supply mid last before between after is_ok fine ran c =
-    let one = moved c.did c.luck.failed_behind in
+    let one = moved c.did c.luck.failed_after in
     record {
       lucks = ran.lucks ++ c.luck ∷ [];
       end = followed ran.end one;
@@ -83,15 +83,15 @@ all_done lines done [] parts none = sym (parts ∙ append-nil done)
 all_done lines done (line ∷ rest) parts none = absurd (omega arith)
 
 -- a count that rose behind others rose
-rose_behind : (a b c : ℕ) → a ≤ b → Rose b c → Rose a c
-rose_behind a b c first rose = omega (arith, first, rose)
+rose_after : (a b c : ℕ) → a ≤ b → Rose b c → Rose a c
+rose_after a b c first rose = omega (arith, first, rose)
 
 -- a disk that failed in a line failed in the script
 disk_rose : (f s a b c d : ℕ) → f ≤ a → s ≤ c
     → DiskRose (record { files = a; files_now = b; staged = c; staged_now = d })
     → DiskRose (record { files = f; files_now = b; staged = s; staged_now = d })
-disk_rose f s a b c d files staged (inl rose) = inl (rose_behind f a b files rose)
-disk_rose f s a b c d files staged (inr rose) = inr (rose_behind s c d staged rose)
+disk_rose f s a b c d files staged (inl rose) = inl (rose_after f a b files rose)
+disk_rose f s a b c d files staged (inr rose) = inr (rose_after s c d staged rose)
 
 -- a script stops in a line
 module _ (start : World) (lines done : List Line) (line : Line) (rest : List Line)

@@ -69,8 +69,8 @@ module _ (front : Front) (number : ℕ) (read : Option ScriptLine) (behind : Beh
         net = done.taken.is.net i;
       };
       asked = record {
-        record_of = done.taken.asks.asked;
-        cause = let rose = done.taken.asks.cause in omega (arith, rose);
+        record_of = done.taken.requests.asked;
+        cause = let rose = done.taken.requests.cause in omega (arith, rose);
       };
       used = uses_none supply;
       sent = refl;
@@ -81,19 +81,19 @@ module _ (front : Front) (number : ℕ) (read : Option ScriptLine) (behind : Beh
 
   left_alone : behind.net ≡ front.net → Asks [] false behind.kernel
       → IsCutSo (untouched plain_world.net) plain_now.net behind.kernel
-  left_alone same asks = record {
+  left_alone same requests = record {
     held = ap (λ (n : Network). (moment_of n).held) same;
-    asked = asks.asked;
-    cause = asks.cause;
+    asked = requests.asked;
+    cause = requests.cause;
   }
 
   plain_cut : IsNetUndone (record { front = front; number = number; line = read }) behind.net behind.kernel
       → (cut : Cut) × PlainCuts plain_world number read cut × IsCutSo cut plain_now.net behind.kernel
-  plain_cut (IsNetUndone.unasked same asks) =
-      (untouched plain_world.net, PlainCuts.in_front, left_alone same asks)
-  plain_cut (IsNetUndone.asked act means (IsLeft.in_front same asks)) =
-      (untouched plain_world.net, PlainCuts.in_front, left_alone same asks)
-  plain_cut (IsNetUndone.asked act means (IsLeft.behind failed net asks)) = (
+  plain_cut (IsNetUndone.unasked same requests) =
+      (untouched plain_world.net, PlainCuts.in_front, left_alone same requests)
+  plain_cut (IsNetUndone.asked act means (IsLeft.in_front same requests)) =
+      (untouched plain_world.net, PlainCuts.in_front, left_alone same requests)
+  plain_cut (IsNetUndone.asked act means (IsLeft.behind failed net requests)) = (
     record {
       held = (acted plain_world.net act failed).net.held;
       asked = (acted plain_world.net act failed).asked;
@@ -102,8 +102,8 @@ module _ (front : Front) (number : ℕ) (read : Option ScriptLine) (behind : Beh
     PlainCuts.behind act means failed,
     record {
       held = ap (λ (m : Moment). m.held) net;
-      asked = asks.asked;
-      cause = asks.cause;
+      asked = requests.asked;
+      cause = requests.cause;
     },
   )
 
@@ -124,7 +124,7 @@ module _ (front : Front) (number : ℕ) (read : Option ScriptLine) (behind : Beh
     cause = failed.cause;
     cut = untouched plain_world.net;
     cuts = refl;
-    left = left_alone failed.net failed.asks;
+    left = left_alone failed.net failed.requests;
   }
   plain_stops stop.Memory undone =
       let found = plain_cut undone.net in
@@ -137,8 +137,8 @@ pub nobodys_ends : (world : World) (number : ℕ) (read : Option ScriptLine) (no
 nobodys_ends world number None now seen result is ends = ends
 nobodys_ends world number (Some (line.At moment)) now seen result is ends = absurd is
 nobodys_ends world number (Some (line.Device what)) now seen result is ends = ends
-nobodys_ends world number (Some (line.Answer interface ask json)) now seen result is ends = ends
-nobodys_ends world number (Some (line.Radio radio ask json)) now seen result is ends = ends
+nobodys_ends world number (Some (line.Answer interface request json)) now seen result is ends = ends
+nobodys_ends world number (Some (line.Radio radio request json)) now seen result is ends = ends
 nobodys_ends world number (Some (line.Operator interface up)) now seen result is ends = ends
 nobodys_ends world number (Some line.Reload) now seen result is ends = ends
 nobodys_ends world number (Some (line.Uci words)) now seen result is ends = ends
@@ -156,8 +156,8 @@ pub nobodys_passes : (world : World) (number : ℕ) (read : Option ScriptLine) (
 nobodys_passes world number None folder is passes = passes
 nobodys_passes world number (Some (line.At moment)) folder is passes = absurd is
 nobodys_passes world number (Some (line.Device what)) folder is passes = passes
-nobodys_passes world number (Some (line.Answer interface ask json)) folder is passes = passes
-nobodys_passes world number (Some (line.Radio radio ask json)) folder is passes = passes
+nobodys_passes world number (Some (line.Answer interface request json)) folder is passes = passes
+nobodys_passes world number (Some (line.Radio radio request json)) folder is passes = passes
 nobodys_passes world number (Some (line.Operator interface up)) folder is passes = passes
 nobodys_passes world number (Some line.Reload) folder is passes = passes
 nobodys_passes world number (Some (line.Uci words)) folder is passes = passes
@@ -240,13 +240,13 @@ at_ends world found number moment now seen (Err stop.Memory) expired net undone 
 pub at_halts : (world found : World) (number moment : ℕ) (seen : Seen) → Reached world moment found
     → found.net ≡ world.net → Asks [] false seen.kernel
     → Ends world number (Some (line.At moment)) found seen (Err stop.Memory)
-at_halts world found number moment seen reached net asks = record {
+at_halts world found number moment seen reached net requests = record {
   cut = untouched world.net;
   cuts = AtCuts.in_front;
   left = record {
     held = ap (λ (m : Moment). m.held) net;
-    asked = asks.asked;
-    cause = asks.cause;
+    asked = requests.asked;
+    cause = requests.cause;
   };
   files = at_passes world found moment reached found.files
       (inr (front_passed found.now found.files (Some (line.At moment))));
@@ -274,8 +274,8 @@ nothing_passed world number (Some (line.At moment)) =
     at_passes world world moment (reached_itself world moment) world.files
     (inr (front_passed world.now world.files (Some (line.At moment))))
 nothing_passed world number (Some (line.Device what)) = inr (inl refl)
-nothing_passed world number (Some (line.Answer interface ask json)) = inr (inl refl)
-nothing_passed world number (Some (line.Radio radio ask json)) = inr (inl refl)
+nothing_passed world number (Some (line.Answer interface request json)) = inr (inl refl)
+nothing_passed world number (Some (line.Radio radio request json)) = inr (inl refl)
 nothing_passed world number (Some (line.Operator interface up)) = inr (inl refl)
 nothing_passed world number (Some line.Reload) = inr (inl refl)
 nothing_passed world number (Some (line.Uci words)) =
@@ -293,8 +293,8 @@ nothing_cut : (world : World) (number : ℕ) (read : Option ScriptLine) → Cuts
 nothing_cut world number None = PlainCuts.in_front
 nothing_cut world number (Some (line.At moment)) = AtCuts.in_front
 nothing_cut world number (Some (line.Device what)) = PlainCuts.in_front
-nothing_cut world number (Some (line.Answer interface ask json)) = PlainCuts.in_front
-nothing_cut world number (Some (line.Radio radio ask json)) = PlainCuts.in_front
+nothing_cut world number (Some (line.Answer interface request json)) = PlainCuts.in_front
+nothing_cut world number (Some (line.Radio radio request json)) = PlainCuts.in_front
 nothing_cut world number (Some (line.Operator interface up)) = PlainCuts.in_front
 nothing_cut world number (Some line.Reload) = PlainCuts.in_front
 nothing_cut world number (Some (line.Uci words)) = PlainCuts.in_front
@@ -309,10 +309,10 @@ nothing_cut world number (Some (line.RadioStatus name)) = PlainCuts.in_front
 
 pub nothing_ends : (world : World) (number : ℕ) (read : Option ScriptLine) (seen : Seen)
     → Asks [] false seen.kernel → Ends world number read world seen (Err stop.Memory)
-nothing_ends world number read seen asks = record {
+nothing_ends world number read seen requests = record {
   cut = untouched world.net;
   cuts = nothing_cut world number read;
-  left = record { held = refl; asked = asks.asked; cause = asks.cause };
+  left = record { held = refl; asked = requests.asked; cause = requests.cause };
   files = nothing_passed world number read;
 }
 
@@ -326,8 +326,8 @@ pub is_nobodys : (read : ScriptLine) → ((moment : ℕ) → read ≡ line.At mo
     → ((client : ℕ) → read ≡ line.CloseClient client → ⊥) → IsNobodys (Some read)
 is_nobodys (line.At moment) no_at no_call no_open no_bytes no_close = no_at moment refl
 is_nobodys (line.Device what) no_at no_call no_open no_bytes no_close = tt
-is_nobodys (line.Answer interface ask json) no_at no_call no_open no_bytes no_close = tt
-is_nobodys (line.Radio radio ask json) no_at no_call no_open no_bytes no_close = tt
+is_nobodys (line.Answer interface request json) no_at no_call no_open no_bytes no_close = tt
+is_nobodys (line.Radio radio request json) no_at no_call no_open no_bytes no_close = tt
 is_nobodys (line.Operator interface up) no_at no_call no_open no_bytes no_close = tt
 is_nobodys line.Reload no_at no_call no_open no_bytes no_close = tt
 is_nobodys (line.Uci words) no_at no_call no_open no_bytes no_close = tt

@@ -107,7 +107,7 @@ goes_nowhere {M} next front faults told past silent tells =
     let moved = past_moved front.now (folder_of front.store) next past in (
       λ t is. record {
         act = refuses error.Moment;
-        asks = AtAsks.past past;
+        requests = AtAsks.past past;
         taken = record {
           is = record {
             net = refl;
@@ -132,7 +132,7 @@ goes_on next front store faults faults_now told later rests folder silent tells 
     let moved = later_moved front.now (folder_of front.store) next later in
     record {
       act = nothing;
-      asks = AtAsks.rests later rests;
+      requests = AtAsks.rests later rests;
       taken = record { is = record { net = refl; telling = tells; silent = silent }; none = refl };
       moment = sym (ap (λ (m : FilesMoved). m.now) moved);
       files = folder ∙ sym (ap (λ (m : FilesMoved). m.after) moved);
@@ -150,13 +150,13 @@ pub goes_back : {M : Type 0} (next : ℕ) (front : Front) (store : Store) (net :
 goes_back {M} next front store net faults faults_now result later due folder takes =
     let moved = later_moved front.now (folder_of front.store) next later in
     let files = folder ∙ sym (ap (λ (m : FilesMoved). m.after) moved) in
-    let asks : (act : NetLine) → ReloadAsks (folder_of store) act → AtAsks (ground_at front) next act =
+    let requests : (act : NetLine) → ReloadAsks (folder_of store) act → AtAsks (ground_at front) next act =
     λ act h. AtAsks.undone later due act (subst (λ (f : Folder). ReloadAsks f act) folder h) in (
       λ t is.
           let one = subst (λ (r : Result Told M). TakesOne (ReloadAsks (folder_of store)) front.net net r) is takes in
           record {
             act = one.0;
-            asks = asks one.0 one.1;
+            requests = requests one.0 one.1;
             taken = one.2;
             moment = sym (ap (λ (m : FilesMoved). m.now) moved);
             files = files;
@@ -165,7 +165,7 @@ goes_back {M} next front store net faults faults_now result later due folder tak
         net = elim (subst (λ (r : Result Told M). TakesOne (ReloadAsks (folder_of store)) front.net net r) is takes)
             as (λ _. (net ≡ front.net) ⊎ ((act : NetLine) × AtAsks (ground_at front) next act × IsHaltedAlone act front.net net)) [
               | inl same ↦ inl same
-              | inr h ↦ inr (h.0, asks h.0 h.1, h.2)
+              | inr h ↦ inr (h.0, requests h.0 h.1, h.2)
             ];
         files = inl files;
       },

@@ -29,7 +29,7 @@ plain_did world read act failed =
       world = record world { now = files.now; files = files.after; net = done.net };
       asked = done.asked;
       sent = [];
-      asks = done.asks;
+      requests = done.requests;
       reply = done.reply;
       refusal = done.refused;
       words = [];

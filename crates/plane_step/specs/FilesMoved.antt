@@ -38,17 +38,17 @@ at_moved now folder moment =
 seven_to_six : (folder : Folder) → at_moved 7 folder 6 ≡ stays 7 folder
 seven_to_six folder = refl
 
--- the folder that a command of `uci` leaves; words that ask for none leave it as it was
-abbrev pub folder_behind : Folder → Option Carried → Folder
-folder_behind folder None = folder
-folder_behind folder (Some done) = done.after
+-- the folder that a command of `uci` leaves; words that request for none leave it as it was
+abbrev pub folder_after : Folder → Option Carried → Folder
+folder_after folder None = folder
+folder_after folder (Some done) = done.after
 
 -- a command of `uci`, with an empty input
 abbrev pub uci_moved : ℕ → Folder → List (List ℕ) → FilesMoved
 uci_moved now folder words = record {
   now = now;
   passes = uci_passes words folder [];
-  after = folder_behind folder (words_carried words folder);
+  after = folder_after folder (words_carried words folder);
 }
 
 -- a line; two kinds of them move the moment or the files

@@ -21,7 +21,7 @@ use Rattle.script_lines.specs.declared.line_error.LineError.TheVariants as error
 use Rattle.plane_step.specs.declared.stop.Stop.{Stop}
 use Rattle.plane_step.specs.declared.stop.Stop.TheVariants as stop
 use Rattle.plane_step.specs.Ground.{Ground, ground_of}
-use Rattle.plane_step.specs.FilesMoved.{files_moved, at_moved, folder_behind, IsOneOf}
+use Rattle.plane_step.specs.FilesMoved.{files_moved, at_moved, folder_after, IsOneOf}
 use Rattle.plane_step.specs.Means.{Means, AtAsks, line_error}
 use Rattle.plane_step.specs.Faults.{DiskFaults, DiskRose}
 use Rattle.step_net.specs.ReloadTaken.{IsTakenAlone, IsHaltedAlone}
@@ -73,7 +73,7 @@ pub record IsUndone (read : Read) (behind : Behind) : Type 0 where
 pub record IsFailed (read : Read) (behind : Behind) (disks : DiskFaults) : Type 0 where
   pub cause : DiskRose disks
   pub net : behind.net ≡ read.front.net
-  pub asks : Asks [] false behind.kernel
+  pub requests : Asks [] false behind.kernel
 
 abbrev pub Does : Read → Behind → DiskFaults → Result Told Stop → Type 0
 Does read behind disks (Ok told) = IsDone read behind told
@@ -106,7 +106,7 @@ NetDoes read net kernel (Err lacks) = IsNetUndone read net kernel
 pub record HasGone (next : ℕ) (front : Front) (now : ℕ) (store : Store) (net : Network) (told : Told)
     : Type 0 where
   pub act : NetLine
-  pub asks : AtAsks (ground_at front) next act
+  pub requests : AtAsks (ground_at front) next act
   pub taken : IsTakenAlone act front.net net told
   pub moment : now ≡ (at_moved front.now (folder_of front.store) next).now
   pub files : folder_of store ≡ (at_moved front.now (folder_of front.store) next).after
@@ -134,7 +134,7 @@ telling_of_uci number (Some done) = told.telling done.output (option_map line_er
 pub record HasCarried (number : ℕ) (words : List (List ℕ)) (before after : Folder) (told : Told)
     : Type 0 where
   pub telling : telling_in told ≡ telling_of_uci number (words_carried words before)
-  pub files : after ≡ folder_behind before (words_carried words before)
+  pub files : after ≡ folder_after before (words_carried words before)
 
 -- what is told of a report, where there is memory
 abbrev pub telling_of_report : ℕ → Option Report → Telling
@@ -151,4 +151,4 @@ CarriesUci number words before after disks (Ok told) = HasCarried number words b
 CarriesUci number words before after disks (Err stop.WriteFailed) = ⊥
 CarriesUci number words before after disks (Err stop.DiskFailed) = DiskRose disks
 CarriesUci number words before after disks (Err stop.Memory) =
-    IsAmong after (folder_behind before (words_carried words before) ∷ uci_passes words before [])
+    IsAmong after (folder_after before (words_carried words before) ∷ uci_passes words before [])

@@ -30,24 +30,24 @@ bad_line number = refused (error.BadLine number)
 abbrev pub json_of : List ℕ → Option Data
 json_of text = if is_utf8 text then read text else None
 
--- an answer to the ask of an interface, or a text that is none
-pub data AnswerAsks (number : ℕ) (interface : List ℕ) (ask : ℕ) (json : List ℕ) : NetLine → Type 0 where
+-- an answer to the request of an interface, or a text that is none
+pub data AnswerAsks (number : ℕ) (interface : List ℕ) (request : ℕ) (json : List ℕ) : NetLine → Type 0 where
   answer : (value : Data) (told : Answer) → json_of json ≡ Some value → IsAnswer value told
-      → AnswerAsks number interface ask json (NetLine.happens (event.Answer interface ask told))
-  no_json : json_of json ≡ None → AnswerAsks number interface ask json (bad_line number)
+      → AnswerAsks number interface request json (NetLine.happens (event.Answer interface request told))
+  no_json : json_of json ≡ None → AnswerAsks number interface request json (bad_line number)
   no_answer : (value : Data) → json_of json ≡ Some value
       → ((told : Answer) → IsAnswer value told → ⊥)
-      → AnswerAsks number interface ask json (bad_line number)
+      → AnswerAsks number interface request json (bad_line number)
 
--- an answer to the ask of a radio, or a text that is none
-pub data RadioAsks (number : ℕ) (radio : List ℕ) (ask : ℕ) (json : List ℕ) : NetLine → Type 0 where
+-- an answer to the request of a radio, or a text that is none
+pub data RadioRequests (number : ℕ) (radio : List ℕ) (request : ℕ) (json : List ℕ) : NetLine → Type 0 where
   answer : (value : Data) (ports : List (Option (List ℕ))) → json_of json ≡ Some value
       → ArePorts value ports
-      → RadioAsks number radio ask json (NetLine.happens (event.Radio radio ask ports))
-  no_json : json_of json ≡ None → RadioAsks number radio ask json (bad_line number)
+      → RadioRequests number radio request json (NetLine.happens (event.Radio radio request ports))
+  no_json : json_of json ≡ None → RadioRequests number radio request json (bad_line number)
   no_answer : (value : Data) → json_of json ≡ Some value
       → ((ports : List (Option (List ℕ))) → ArePorts value ports → ⊥)
-      → RadioAsks number radio ask json (bad_line number)
+      → RadioRequests number radio request json (bad_line number)
 
 -- A moment before the last is refused. Behind another one the files are loaded anew where an apply was
 -- undone, and else nothing is asked.
@@ -68,10 +68,10 @@ line_error why.NoPackage = error.NoPackage
 line_error (why.Parse fault) = error.Parse
 line_error why.TooLarge = error.TooLarge
 
--- what a command of `uci` prints, and then its refusal; words that ask for none are a bad line
-abbrev pub uci_asks : ℕ → Option Carried → NetLine
-uci_asks number None = bad_line number
-uci_asks number (Some done) = NetLine.tells done.output (option_map line_error done.refusal)
+-- what a command of `uci` prints, and then its refusal; words that request for none are a bad line
+abbrev pub uci_requests : ℕ → Option Carried → NetLine
+uci_requests number None = bad_line number
+uci_requests number (Some done) = NetLine.tells done.output (option_map line_error done.refusal)
 
 -- What the words of a line mean that stands at this number in the script. Lines of calls and of
 -- clients are bad lines here: they do more.
@@ -79,14 +79,14 @@ abbrev pub Means : Ground → ℕ → Option ScriptLine → NetLine → Type 0
 Means ground number None act = act ≡ bad_line number
 Means ground number (Some (line.At moment)) act = AtAsks ground moment act
 Means ground number (Some (line.Device what)) act = act ≡ NetLine.happens (event.Device what)
-Means ground number (Some (line.Answer interface ask json)) act =
-    AnswerAsks number interface ask json act
-Means ground number (Some (line.Radio radio ask json)) act = RadioAsks number radio ask json act
+Means ground number (Some (line.Answer interface request json)) act =
+    AnswerAsks number interface request json act
+Means ground number (Some (line.Radio radio request json)) act = RadioRequests number radio request json act
 Means ground number (Some (line.Operator interface up)) act =
     act ≡ NetLine.happens (event.Operator interface up)
 Means ground number (Some line.Reload) act = ReloadAsks ground.files act
 Means ground number (Some (line.Uci words)) act =
-    act ≡ uci_asks number (words_carried words ground.files)
+    act ≡ uci_requests number (words_carried words ground.files)
 Means ground number (Some (line.Call session object method json)) act = act ≡ bad_line number
 Means ground number (Some (line.OpenClient client user group)) act = act ≡ bad_line number
 Means ground number (Some (line.ClientBytes client bytes)) act = act ≡ bad_line number

@@ -14,17 +14,17 @@ use Rattle.plane_step.specs.Does.{LineDoes}
 pub record Luck : Type 0 where
   pub words : List ℕ
   pub events : List Bool
-  pub failed_behind : Option ℕ
+  pub failed_after : Option ℕ
 
 -- how often the kernel failed
 abbrev pub failures_of : Luck → ℕ
-failures_of luck = failed_events luck.events + once_if (is_some luck.failed_behind)
+failures_of luck = failed_events luck.events + once_if (is_some luck.failed_after)
 
--- what is told behind the calls: the lines of asks and the reply, and the line of its refusal, where the line is
+-- what is told behind the calls: the lines of requests and the reply, and the line of its refusal, where the line is
 -- refused
 abbrev pub telling_of : Did → Telling
 telling_of did = record {
-  shown = did.asks ++ did.reply;
+  shown = did.requests ++ did.reply;
   refusal = option_map error_line did.refusal;
 }
 
@@ -42,8 +42,8 @@ pub record Moved : Type 0 where
 -- What a line comes to that did this: the lines of sends go first, then the calls of its settling, and then what is
 -- told.
 unfoldable pub moved : Did → Option ℕ → Moved
-moved did failed_behind =
-    let end = finished did.world.net (telling_of did) failed_behind in
+moved did failed_after =
+    let end = finished did.world.net (telling_of did) failed_after in
     record {
       world = record did.world { net = end.net };
       effects = joined (asking did.asked) (joined (writing did.sent) end.effects);
@@ -77,4 +77,4 @@ pub data Folds (start : World) : List Line → List Luck → Moved → Type 0 wh
       (did : Did) → Folds start lines lucks so_far
       → LineDoes so_far.world line luck.words luck.events did
       → Folds start (lines ++ line ∷ []) (lucks ++ luck ∷ [])
-      (followed so_far (moved did luck.failed_behind))
+      (followed so_far (moved did luck.failed_after))

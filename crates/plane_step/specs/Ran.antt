@@ -30,10 +30,10 @@ pub record CarriedOut (line : Line) (world now : World) (words : Words) (before 
   pub luck : Luck
   pub did : Did
   pub does : LineDoes world line luck.words luck.events did
-  pub next : now ≡ (moved did luck.failed_behind).world
-  pub answer : is_ok ≡ (moved did luck.failed_behind).is_ok
+  pub next : now ≡ (moved did luck.failed_after).world
+  pub answer : is_ok ≡ (moved did luck.failed_after).is_ok
   pub used : Uses words.before did.words words.after
-  pub left : Leaves (moved did luck.failed_behind).effects (failures_of luck) before after
+  pub left : Leaves (moved did luck.failed_after).effects (failures_of luck) before after
 
 -- There are lines of sends, which were written in part, and no call was made. Or they were written, and what stands
 -- behind them keeps pace with the calls.
@@ -50,7 +50,7 @@ pub record CutShort (line : Line) (world now : World) (before after : Outside) :
   pub luck : Luck
   pub did : Did
   pub does : LineDoes world line luck.words luck.events did
-  pub left : LeavesInPart (moved did luck.failed_behind).effects (failures_of luck) before after
+  pub left : LeavesInPart (moved did luck.failed_after).effects (failures_of luck) before after
   pub pace : PacesBehind did.sent left.front.calls left.back.calls left.front.text
   pub objects : after.objects ≡ after_calls did.world.net.held left.front.calls
   pub cause : Rose before.out_faults after.out_faults

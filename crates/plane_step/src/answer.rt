@@ -5,7 +5,7 @@ ghost use Rattle.net_plane.specs.Network.{HasSameKernel};
 ghost use Rattle.step_net.specs.Told as told_spec;
 ghost use Rattle.step_net.specs.Taken.{telling_in};
 ghost use Rattle.script_lines.specs.declared.line_error.LineError.TheVariants as error;
-ghost use Rattle.plane_step.specs.Means.{json_of, AnswerAsks, RadioAsks};
+ghost use Rattle.plane_step.specs.Means.{json_of, AnswerAsks, RadioRequests};
 ghost use Rattle.step_net.specs.ReloadTaken.{TakesOne};
 
 use answer_json::{read_answer, read_ports};
@@ -16,17 +16,17 @@ use serde_json::Value;
 use std::alloc::Global;
 use step_net::{Told, refuse, take_answer, take_radio};
 
-/// The handler of an interface answers an ask, in a line at this number of the script.
+/// The handler of an interface answers a request, in a line at this number of the script.
 pub(crate) fn answer_interface(
     alloc: Global,
     net: &mut Net,
     number: u32,
     interface: Text,
-    ask: u64,
+    request: u64,
     json: &Text,
 ) -> Result<Told, Memory>
     requires { net.old.notices ≡ [] }
-    ensures takes { TakesOne (AnswerAsks number interface ask json.now) net.old net.new result }
+    ensures takes { TakesOne (AnswerAsks number interface request json.now) net.old net.new result }
     ensures kernel { HasSameKernel net.old net.new }
 {
     let Ok(found) = read_json(alloc, json) else {
@@ -39,22 +39,22 @@ pub(crate) fn answer_interface(
         return Err(Memory);
     };
     match read {
-        Some(answer) => take_answer(alloc, net, interface, ask, answer),
+        Some(answer) => take_answer(alloc, net, interface, request, answer),
         None => refuse_line(alloc, number),
     }
 }
 
-/// The handler of a radio answers an ask, in a line at this number of the script.
+/// The handler of a radio answers a request, in a line at this number of the script.
 pub(crate) fn answer_radio(
     alloc: Global,
     net: &mut Net,
     number: u32,
     radio: Text,
-    ask: u64,
+    request: u64,
     json: &Text,
 ) -> Result<Told, Memory>
     requires { net.old.notices ≡ [] }
-    ensures takes { TakesOne (RadioAsks number radio ask json.now) net.old net.new result }
+    ensures takes { TakesOne (RadioRequests number radio request json.now) net.old net.new result }
     ensures kernel { HasSameKernel net.old net.new }
 {
     let Ok(found) = read_json(alloc, json) else {
@@ -67,7 +67,7 @@ pub(crate) fn answer_radio(
         return Err(Memory);
     };
     match read {
-        Some(ports) => take_radio(alloc, net, radio, ask, ports),
+        Some(ports) => take_radio(alloc, net, radio, request, ports),
         None => refuse_line(alloc, number),
     }
 }

@@ -22,7 +22,7 @@ use uci_store::Store;
 use uci_tool::{Report, carry_words};
 
 /// Carries a command of `uci` out, with an empty input. What it prints is shown, and then it may be
-/// refused. Words that ask for none are a bad line of this number.
+/// refused. Words that request for none are a bad line of this number.
 pub(crate) fn carry_uci<D: Disk, T: Disk>(
     alloc: Global,
     store: &mut Store,

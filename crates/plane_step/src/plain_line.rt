@@ -105,14 +105,14 @@ fn act_on_net<K: Kernel>(
         ScriptLine::Device(event) => take_device(alloc, net, kernel, &event),
         ScriptLine::Answer {
             interface,
-            number: ask,
+            number: request,
             json,
-        } => answer_interface(alloc, net, number, interface, ask, &json),
+        } => answer_interface(alloc, net, number, interface, request, &json),
         ScriptLine::Radio {
             radio,
-            number: ask,
+            number: request,
             json,
-        } => answer_radio(alloc, net, number, radio, ask, &json),
+        } => answer_radio(alloc, net, number, radio, request, &json),
         ScriptLine::Operator { interface, up } => take_operator(alloc, net, interface, up),
         ScriptLine::Reload => reload(alloc, store, net),
         ScriptLine::Dump => show_dump(alloc, net),

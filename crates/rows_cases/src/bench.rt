@@ -1,10 +1,10 @@
 //! The files of a network, and the steps on them.
 use crate::answers::{put_answer, put_ports};
-use crate::asks::put_ask;
 use crate::devices::{put_devices, put_names};
 use crate::interfaces::{put_interfaces, put_routes};
 use crate::lines::put_lines;
 use crate::radios::put_radios;
+use crate::requests::put_request;
 use crate::vlans::put_vlans;
 use case_files::Stage;
 use net_conf::read_conf;
@@ -80,7 +80,7 @@ impl Bench {
         if let Some(words) = words.strip_prefix("ask ") {
             let words = case_files::words(self.alloc, words)?;
             let (network, wireless) = (&self.network, &self.wireless);
-            return put_ask(self.alloc, out, network, wireless, &words);
+            return put_request(self.alloc, out, network, wireless, &words);
         }
         self.rows(words, out)
     }

@@ -7,7 +7,7 @@ use net_rows::{InterfaceRow, RouteRow};
 use std::alloc::Global;
 
 /// Puts a line for each interface: its name, protocol, device and metric, what is said of it, its
-/// addresses and gateways, the options that its ask shows, and its faults.
+/// addresses and gateways, the options that its request shows, and its faults.
 pub(crate) fn put_interfaces(
     alloc: Global,
     out: &mut Vec<u8>,

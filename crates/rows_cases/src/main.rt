@@ -13,7 +13,7 @@
 //! - `modern`: the package `network` is rewritten as one of OpenWrt 21.02, and shown with the names
 //!   of its sections and how many were made.
 //! - `ask interface NUMBER ROW DEVICE`, `ask radio NUMBER ROW`, `ask drop NUMBER`: the line that
-//!   tells of this ask.
+//!   tells of this request.
 //!
 //! Steps that show what a text is read as:
 //! - `line TEXT`: the lines of a script.
@@ -21,13 +21,13 @@
 #![tactic(auto)]
 
 mod answers;
-mod asks;
 mod bench;
 mod devices;
 mod interfaces;
 mod lines;
 mod put;
 mod radios;
+mod requests;
 mod vlans;
 
 use bench::Bench;

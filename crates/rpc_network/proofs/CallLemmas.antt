@@ -21,7 +21,7 @@ use Rattle.rpc_network.specs.declared.net_answer.NetAnswer.{NetAnswer}
 use Rattle.rpc_network.specs.Answered.{answered, refused_as}
 use Rattle.rpc_network.specs.Told.{Takes, Tries, Shows}
 use Rattle.step_net.specs.Reload.{ReloadAsks}
-use Rattle.step_net.proofs.AskLemmas.{interface_asks, device_asks, radio_asks}
+use Rattle.step_net.proofs.RequestLemmas.{interface_requests, device_requests, radio_requests}
 use Rattle.rpc_network.specs.Taken.{TakesOne, RefusesUnread}
 use Rattle.rpc_network.specs.NetCalls.{CallMeans, IsHaltedIn, Carries, IsAnsweredTo, IsStopped, Answers}
 
@@ -29,9 +29,9 @@ use Rattle.rpc_network.specs.NetCalls.{CallMeans, IsHaltedIn, Carries, IsAnswere
 asked_alike : (net : Moment) (act : NetLine) → (answered net act false).asked ≡ (acted net act false).asked
 asked_alike net (NetLine.happens what) = refl
 asked_alike net NetLine.dump = refl
-asked_alike net (NetLine.interface name) = sym (interface_asks net name)
-asked_alike net (NetLine.device name) = sym (device_asks net name)
-asked_alike net (NetLine.radio name) = sym (radio_asks net name)
+asked_alike net (NetLine.interface name) = sym (interface_requests net name)
+asked_alike net (NetLine.device name) = sym (device_requests net name)
+asked_alike net (NetLine.radio name) = sym (radio_requests net name)
 asked_alike net (NetLine.tells text refusal) = refl
 
 -- a call at which the kernel is asked nothing
@@ -40,7 +40,7 @@ pub tries_alone : {M : Type 0} (act : NetLine) (before now : Network) (kernel : 
 tries_alone act before now kernel (Ok told) none nothing takes = record {
   failed = false;
   is = takes;
-  asks = subst (λ what. Asks what false kernel) (sym (asked_alike (moment_of before) act ∙ none)) nothing;
+  requests = subst (λ what. Asks what false kernel) (sym (asked_alike (moment_of before) act ∙ none)) nothing;
 }
 tries_alone act before now kernel (Err lacks) none nothing (inl same) = IsLeft.in_front same nothing
 tries_alone act before now kernel (Err lacks) none nothing (inr net) =
@@ -52,8 +52,8 @@ pub tries_shown : {M : Type 0} (act : NetLine) (now : Network) (kernel : Telled)
     → now.notices ≡ [] → Asks [] false kernel → Shows act now result → Tries act now now kernel result
 tries_shown act now kernel (Ok told) none stays silent nothing shows = record {
   failed = false;
-  is = record { net = stays; asks = shows.asks; answer = shows.answer; silent = silent };
-  asks = subst (λ what. Asks what false kernel) (sym none) nothing;
+  is = record { net = stays; requests = shows.requests; answer = shows.answer; silent = silent };
+  requests = subst (λ what. Asks what false kernel) (sym none) nothing;
 }
 tries_shown act now kernel (Err lacks) none stays silent nothing shows = IsLeft.in_front refl nothing
 
@@ -95,21 +95,21 @@ takes_this Asked act before now (Err lacks) is none takes = inr (act, is, record
 unread_by : {M : Type 0} (folder : Folder) (why : TreeError) (before : Network) (result : Result NetAnswer M) (o : Option Fault) → fault_of why ≡ o
     → ((fault : Fault) → fault_of why ≡ Some fault → ReloadAsks folder (refuses error.Parse)) → before.notices ≡ []
     → IfOk result (λ told. IsSomeAnd o (λ fault. told ≡ refused_as status.InvalidArgument)) → TakesOne (ReloadAsks folder) before before result
-unread_by folder why before (Ok told) None is asks silent tells = absurd tells
-unread_by folder why before (Ok told) (Some fault) is asks silent tells = (
+unread_by folder why before (Ok told) None is requests silent tells = absurd tells
+unread_by folder why before (Ok told) (Some fault) is requests silent tells = (
   refuses error.Parse,
-  asks fault is,
+  requests fault is,
   record {
     is = record {
       net = refl;
-      asks = ap (λ (t : NetAnswer). t.asks) tells;
+      requests = ap (λ (t : NetAnswer). t.requests) tells;
       answer = ap (λ (t : NetAnswer). t.answer) tells;
       silent = silent;
     };
     none = refl;
   },
 )
-unread_by folder why before (Err lacks) o is asks silent tells = inl refl
+unread_by folder why before (Err lacks) o is requests silent tells = inl refl
 
 ok_alone : {M : Type 0} (why : TreeError) (result : Result NetAnswer M) → IfOk result (RefusesUnread why)
     → IfOk result (λ told. IsSomeAnd (fault_of why) (λ fault. told ≡ refused_as status.InvalidArgument))
@@ -119,12 +119,12 @@ ok_alone why (Err lacks) tells = tt
 pub takes_unread : {M : Type 0} (folder : Folder) (why : TreeError) (before : Network) (result : Result NetAnswer M)
     → ((fault : Fault) → fault_of why ≡ Some fault → ReloadAsks folder (refuses error.Parse)) → before.notices ≡ []
     → IfOk result (RefusesUnread why) → TakesOne (ReloadAsks folder) before before result
-takes_unread folder why before result asks silent tells =
-    unread_by folder why before result (fault_of why) refl asks silent (ok_alone why result tells)
+takes_unread folder why before result requests silent tells =
+    unread_by folder why before result (fault_of why) refl requests silent (ok_alone why result tells)
 
 -- a call that was read is carried out
 pub answers_carried : {M : Type 0} (folder : Folder) (object : NetObject) (method : List ℕ) (args : List Attr) (asked : NetCall) (before now : Network)
     (kernel : Telled) (result : Result NetAnswer M) → AsksMethod object method args asked → Carries folder asked before now kernel result
     → Answers folder object method args before now kernel result
-answers_carried folder object method args asked before now kernel (Ok told) asks carried = IsAnsweredTo.carried asked asks carried
-answers_carried folder object method args asked before now kernel (Err lacks) asks halted = IsStopped.within asked asks halted
+answers_carried folder object method args asked before now kernel (Ok told) requests carried = IsAnsweredTo.carried asked requests carried
+answers_carried folder object method args asked before now kernel (Err lacks) requests halted = IsStopped.within asked requests halted

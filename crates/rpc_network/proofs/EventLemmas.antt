@@ -19,7 +19,7 @@ use Rattle.net_plane.specs.NetError as plane
 use Rattle.net_plane.specs.Network.{Network, moment_of}
 use Rattle.net_plane.specs.Taken.{IsAfter, Answers, AnswersOrFails, TellsOnce}
 use Rattle.step_net.specs.NetLine.{NetLine, load_within}
-use Rattle.step_net.specs.Acted.{Acted, acted, error_of, took, took_free, took_or_refused, refused_for, failed_at, lines_of_asks}
+use Rattle.step_net.specs.Acted.{Acted, acted, error_of, took, took_free, took_or_refused, refused_for, failed_at, lines_of_requests}
 use Rattle.step_net.specs.Taken.{Telled, Asks, IsLeft}
 use Rattle.step_net.proofs.GrowthLemmas.{records_none}
 use Rattle.step_net.proofs.EventLemmas.{taken_net}
@@ -56,15 +56,15 @@ not_asked X what before now why.Known h = h
 not_asked X what before now (why.WrongPorts wanted) h = h
 not_asked X what before now (why.Limit number) h = h
 
--- the event was taken, and what is to be told of asks is kept
+-- the event was taken, and what is to be told of requests is kept
 taken_answered : (what : Event) (old mid new : Network) → IsAfter old what mid → new.inputs ≡ mid.inputs
-    → new.held ≡ mid.held → (told : NetAnswer) → AsksOnly (lines_of_asks mid.inputs.conf mid.notices) told
+    → new.held ≡ mid.held → (told : NetAnswer) → AsksOnly (lines_of_requests mid.inputs.conf mid.notices) told
     → new.notices ≡ [] → IsAnswered (of_acted (took (moment_of old) what)) new told
 taken_answered what old mid new after inputs held told is silent = record {
   net = taken_net what old mid new after inputs held;
-  asks = is.asks
-      ∙ ap (λ (m : Moment). lines_of_asks m.inputs.conf mid.notices) after.moment
-      ∙ ap (λ told. lines_of_asks (moment_after (moment_of old) what).inputs.conf told) after.notices;
+  requests = is.requests
+      ∙ ap (λ (m : Moment). lines_of_requests m.inputs.conf mid.notices) after.moment
+      ∙ ap (λ told. lines_of_requests (moment_after (moment_of old) what).inputs.conf told) after.notices;
   answer = is.answer;
   silent = silent;
 }
@@ -77,7 +77,7 @@ refused_answered old new reason told same silent tells =
     let is : told ≡ refused_as (status_of (error_of reason)) = subst (λ s. TellsStatus s told) (told_alike reason) tells in
     record {
       net = ap moment_of same;
-      asks = ap (λ (t : NetAnswer). t.asks) is;
+      requests = ap (λ (t : NetAnswer). t.requests) is;
       answer = ap (λ (t : NetAnswer). t.answer) is;
       silent = ap (λ (n : Network). n.notices) same ∙ silent;
     }
@@ -176,24 +176,24 @@ module _ (what : DevEvent) (old mid new : Network) (kernel : Telled)
   taken_by : (o : Option Refusal) → ((b : Bool) → acted (moment_of old) line b ≡ done b o)
       → (b : Bool) (told : NetAnswer) → IsAnswered (of_acted (done b o)) new told → Asks (done b o).asked b kernel
       → IsTaken line old new kernel told
-  taken_by o is b told answers asks = record {
+  taken_by o is b told answers requests = record {
     failed = b;
     is = subst (λ d. IsAnswered (of_acted d) new told) (sym (is b)) answers;
-    asks = subst (λ (d : Acted). Asks d.asked b kernel) (sym (is b)) asks;
+    requests = subst (λ (d : Acted). Asks d.asked b kernel) (sym (is b)) requests;
   }
 
   left_by : (o : Option Refusal) → ((b : Bool) → acted (moment_of old) line b ≡ done b o)
       → (b : Bool) → moment_of new ≡ (done b o).net → Asks (done b o).asked b kernel
       → IsLeft line old new kernel
-  left_by o is b net asks = IsLeft.behind b
+  left_by o is b net requests = IsLeft.behind b
       (net ∙ ap (λ (d : Acted). d.net) (sym (is b)))
-      (subst (λ (d : Acted). Asks d.asked b kernel) (sym (is b)) asks)
+      (subst (λ (d : Acted). Asks d.asked b kernel) (sym (is b)) requests)
 
   failed_answered : (told : NetAnswer) → new ≡ old → TellsError net_error.KernelFailed told
       → IsAnswered (of_acted (failed_at (moment_of old) what)) new told
   failed_answered told same tells = record {
     net = ap moment_of same;
-    asks = ap (λ (t : NetAnswer). t.asks) tells;
+    requests = ap (λ (t : NetAnswer). t.requests) tells;
     answer = ap (λ (t : NetAnswer). t.answer) tells;
     silent = ap (λ (n : Network). n.notices) same ∙ silent;
   }
@@ -259,7 +259,7 @@ module _ (what : DevEvent) (old mid new : Network) (kernel : Telled)
 -- how an event ended is answered, by how it ended
 pub ends_taken : {X M : Type 0} (ended : Result X NetError) (x : X) (mid new : Network)
     (result : Result NetAnswer M) → ended ≡ Ok x
-    → IfOk result (AsksOnly (lines_of_asks mid.inputs.conf mid.notices))
+    → IfOk result (AsksOnly (lines_of_requests mid.inputs.conf mid.notices))
     → OnOk result (new.notices ≡ []) → Ends ended mid new result
 ends_taken {X} {M} ended x mid new (Ok told) is tells silent =
     subst (λ e. Ends {M = M} e mid new (Ok told)) (sym is) (tells, silent)

@@ -18,7 +18,7 @@ pub shows : {M : Type 0} (line : NetLine) (now : Network) (o : Option Data) (res
 shows line now o (Ok told) d is found tells =
     let same : answered (moment_of now) line false ≡ showing (moment_of now) (Some d) = is ∙ ap (showing (moment_of now)) (sym found) in
     record {
-      asks = tells.asks ∙ ap (λ (a : Answered). a.asks) (sym same);
+      requests = tells.requests ∙ ap (λ (a : Answered). a.requests) (sym same);
       answer = tells.answer ∙ ap (λ (a : Answered). a.answer) (sym same);
     }
 shows line now o (Err lacks) d is found tells = tt
@@ -36,7 +36,7 @@ shows_none line now o (Ok told) e missing is alike (inr none) tells =
   where
     told_none : TellsError missing told → answered (moment_of now) line false ≡ showing (moment_of now) None → IsShown (answered (moment_of now) line false) told
     told_none tells same = let is = subst (λ s. TellsStatus s told) alike tells in record {
-      asks = ap (λ (t : NetAnswer). t.asks) is ∙ ap (λ (a : Answered). a.asks) (sym same);
+      requests = ap (λ (t : NetAnswer). t.requests) is ∙ ap (λ (a : Answered). a.requests) (sym same);
       answer = ap (λ (t : NetAnswer). t.answer) is ∙ ap (λ (a : Answered). a.answer) (sym same);
     }
 shows_none line now o (Err lacks) e missing is alike why tells = tt

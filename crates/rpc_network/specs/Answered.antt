@@ -19,11 +19,11 @@ use Rattle.step_net.specs.Acted.{Acted, acted, named_device}
 use Rattle.step_net.specs.Told.{line_error}
 use Rattle.rpc_network.specs.declared.net_answer.NetAnswer.{NetAnswer}
 
--- the plane behind it, what the kernel was asked, the lines of asks, and the payload or why it is refused
+-- the plane behind it, what the kernel was asked, the lines of requests, and the payload or why it is refused
 pub record Answered : Type 0 where
   pub net : Moment
   pub asked : List Asked
-  pub asks : List ℕ
+  pub requests : List ℕ
   pub answer : Result (List Attr) CallStatus
 
 -- The status of a refusal: 4 where an interface, a device or a radio is not there; 2 for a number that is not the one
@@ -54,7 +54,7 @@ ended None = Ok []
 ended (Some refusal) = Err (status_of refusal)
 
 abbrev pub of_acted : Acted → Answered
-of_acted done = record { net = done.net; asked = done.asked; asks = done.asks; answer = ended done.refused }
+of_acted done = record { net = done.net; asked = done.asked; requests = done.requests; answer = ended done.refused }
 
 -- a value as a payload; a value that none can hold is an unknown error
 abbrev pub payload_of : Result (List Attr) JsonError → Result (List Attr) CallStatus
@@ -67,7 +67,7 @@ shown None = Err status.NotFound
 shown (Some value) = payload_of (attrs_of value)
 
 abbrev pub showing : Moment → Option Data → Answered
-showing net value = record { net = net; asked = []; asks = []; answer = shown value }
+showing net value = record { net = net; asked = []; requests = []; answer = shown value }
 
 -- what a call comes to that means this, where the kernel fails at its event or not
 abbrev pub answered : Moment → NetLine → Bool → Answered
@@ -81,7 +81,7 @@ answered net (NetLine.tells text refusal) failed =
 
 -- nothing is asked, and it is refused
 abbrev pub refused_as : CallStatus → NetAnswer
-refused_as why = record { asks = []; answer = Err why }
+refused_as why = record { requests = []; answer = Err why }
 
 -- a kernel that failed is status 9, and an interface that is not there is status 4
 kernel_failed : ended (Some error.KernelFailed) ≡ Err status.UnknownError

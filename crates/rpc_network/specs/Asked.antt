@@ -22,26 +22,26 @@ AsksOf {X} found make asked = (x : X) × (found ≡ Some x) × (asked ≡ make x
 abbrev pub AsksOperator : Bool → List Attr → NetCall → Type 0
 AsksOperator up args asked = AsksOf (text (codes "interface") args) (λ name. call.Operator name up) asked
 
--- the handler of the interface that is named answers the ask of that number; the answer is that of the
+-- the handler of the interface that is named answers the request of that number; the answer is that of the
 -- arguments as JSON
 pub record AsksAnswer (args : List Attr) (asked : NetCall) : Type 0 where
   pub interface : List ℕ
   pub named : text (codes "interface") args ≡ Some interface
-  pub ask : ℕ
-  pub numbered : number (codes "number") args ≡ Some ask
+  pub request : ℕ
+  pub numbered : number (codes "number") args ≡ Some request
   pub answer : Answer
   pub answers : IsAnswer (json_of args) answer
-  pub is : asked ≡ call.Answer interface ask answer
+  pub is : asked ≡ call.Answer interface request answer
 
 -- the same of a radio
 pub record AsksPorts (args : List Attr) (asked : NetCall) : Type 0 where
   pub radio : List ℕ
   pub named : text (codes "radio") args ≡ Some radio
-  pub ask : ℕ
-  pub numbered : number (codes "number") args ≡ Some ask
+  pub request : ℕ
+  pub numbered : number (codes "number") args ≡ Some request
   pub ports : List (Option (List ℕ))
   pub are : ArePorts (json_of args) ports
-  pub is : asked ≡ call.Radio radio ask ports
+  pub is : asked ≡ call.Radio radio request ports
 
 -- what a method asks for with these arguments
 abbrev pub Asks : Method → List Attr → NetCall → Type 0

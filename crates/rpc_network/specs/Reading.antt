@@ -14,7 +14,7 @@ pub record AsksMethod (object : NetObject) (name : List ℕ) (args : List Attr) 
     : Type 0 where
   pub method : Method
   pub of : method_of object name ≡ Some method
-  pub asks : Asks method args asked
+  pub requests : Asks method args asked
 
 -- the method of that name asks for nothing with these arguments
 pub record AsksNothing (object : NetObject) (name : List ℕ) (args : List Attr) : Type 0 where

@@ -2,7 +2,7 @@ ghost use Rattle.std.specs.Prelude.{◌≡◌, [], IfOk, OnOk};
 ghost use Rattle.net_rules.specs.declared.event.Event.TheVariants as event_of;
 ghost use Rattle.net_plane.specs.Network.{IsOf, HasSameKernel};
 ghost use Rattle.step_net.specs.NetLine.{NetLine, load_line};
-ghost use Rattle.step_net.specs.Acted.{lines_of_asks as lines_of};
+ghost use Rattle.step_net.specs.Acted.{lines_of_requests as lines_of};
 ghost use Rattle.step_net.specs.Taken.{telled_of};
 ghost use Rattle.rpc_network.specs.Told.{Takes, Tries, Ends, AsksOnly};
 
@@ -12,7 +12,7 @@ use net_plane::{Net, NetError};
 use net_rules::Answer;
 use plane_io::{Items, Memory, Text};
 use std::alloc::Global;
-use step_net::lines_of_asks;
+use step_net::lines_of_requests;
 use uci_tree::Package;
 
 /// A call tells that something happens to a device: the kernel is told, and the plane follows.
@@ -57,12 +57,12 @@ pub fn answer_operator(
     answer(alloc, net, ended)
 }
 
-/// The handler of an interface answers the ask of this number by a call.
+/// The handler of an interface answers the request of this number by a call.
 ///
 /// # Errors
 ///
 /// Want of memory, before anything is done or for what is to be answered.
-pub fn answer_ask(
+pub fn answer_request(
     alloc: Global,
     net: &mut Net,
     interface: Text,
@@ -78,7 +78,7 @@ pub fn answer_ask(
     answer(alloc, net, ended)
 }
 
-/// The handler of a radio answers the ask of this number by a call.
+/// The handler of a radio answers the request of this number by a call.
 ///
 /// # Errors
 ///
@@ -124,23 +124,23 @@ fn answer(alloc: Global, net: &mut Net, ended: Result<(), NetError>) -> Result<N
     ensures stays { (net.new.inputs ≡ net.old.inputs) × (net.new.held ≡ net.old.held) }
 {
     match ended {
-        Ok(()) => answer_asks(alloc, net),
+        Ok(()) => answer_requests(alloc, net),
         Err(error) => refuse_for(alloc, error),
     }
 }
 
-/// All that is to be told of asks, and an empty payload.
-fn answer_asks(alloc: Global, net: &mut Net) -> Result<NetAnswer, Memory>
+/// All that is to be told of requests, and an empty payload.
+fn answer_requests(alloc: Global, net: &mut Net) -> Result<NetAnswer, Memory>
     ensures told { IfOk result
         (AsksOnly (lines_of net.old.inputs.conf net.old.notices)) }
     ensures silent { OnOk result (net.new.notices ≡ []) }
     ensures stays { (net.new.inputs ≡ net.old.inputs) × (net.new.held ≡ net.old.held) }
 {
-    let Ok(lines) = lines_of_asks(alloc, net) else {
+    let Ok(lines) = lines_of_requests(alloc, net) else {
         return Err(Memory);
     };
     Ok(NetAnswer {
-        asks: Text::from_vec(lines),
+        requests: Text::from_vec(lines),
         answer: Ok(sqlite_items::Items::new(alloc)),
     })
 }

@@ -7,8 +7,8 @@ ghost use Rattle.rpc_network.specs.NetCalls.{Answers, Carries};
 
 use crate::reloading::reload;
 use crate::{
-    NetAnswer, NetCall, NetCallError, NetObject, answer_ask, answer_device, answer_device_status,
-    answer_dump, answer_interface_status, answer_operator, answer_radio, answer_radio_status,
+    NetAnswer, NetCall, NetCallError, NetObject, answer_device, answer_device_status, answer_dump,
+    answer_interface_status, answer_operator, answer_radio, answer_radio_status, answer_request,
     read_call, refuse,
 };
 use blob_codec::Attr;
@@ -75,7 +75,7 @@ fn carry_out<K: Kernel>(
             interface,
             number,
             answer,
-        } => answer_ask(alloc, net, interface, number, answer),
+        } => answer_request(alloc, net, interface, number, answer),
         NetCall::DeviceStatus { name } => answer_device_status(alloc, net, &name),
         NetCall::Device(event) => answer_device(alloc, net, kernel, &event),
         NetCall::RadioStatus { name } => answer_radio_status(alloc, net, &name),

@@ -15,7 +15,7 @@ mod reading;
 mod reloading;
 mod showing;
 
-pub use answering::{answer_ask, answer_device, answer_load, answer_operator, answer_radio};
+pub use answering::{answer_device, answer_load, answer_operator, answer_radio, answer_request};
 pub use call::call_network;
 pub use net_answer::{NetAnswer, refuse};
 pub use net_call::{NetCall, NetCallError};

@@ -9,11 +9,11 @@ use script_lines::CallStatus;
 use sqlite_items::Items;
 use std::alloc::Global;
 
-/// What comes of a call: the lines of the asks that it brings, and its payload or why it is
+/// What comes of a call: the lines of the requests that it brings, and its payload or why it is
 /// refused.
 #[derive(Drop)]
 pub struct NetAnswer {
-    pub asks: Text,
+    pub requests: Text,
     pub answer: Result<Items<Attr>, CallStatus>,
 }
 
@@ -22,7 +22,7 @@ pub fn refuse(alloc: Global, status: CallStatus) -> NetAnswer
     ensures { result ≡ spec.refused_as status }
 {
     NetAnswer {
-        asks: Text::from_vec(Vec::new(alloc)),
+        requests: Text::from_vec(Vec::new(alloc)),
         answer: Err(status),
     }
 }

@@ -19,7 +19,7 @@ pub enum NetCall {
         interface: Text,
         up: bool,
     },
-    /// The handler of an interface answers an ask.
+    /// The handler of an interface answers a request.
     Answer {
         interface: Text,
         number: u64,
@@ -35,7 +35,7 @@ pub enum NetCall {
     RadioStatus {
         name: Text,
     },
-    /// The handler of a radio answers an ask.
+    /// The handler of a radio answers a request.
     Radio {
         radio: Text,
         number: u64,

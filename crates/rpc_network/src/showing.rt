@@ -77,7 +77,7 @@ fn show(alloc: Global, value: &Value) -> Result<NetAnswer, Memory>
 {
     match blob_of_json(alloc, value) {
         Ok(payload) => Ok(NetAnswer {
-            asks: Text::from_vec(Vec::new(alloc)),
+            requests: Text::from_vec(Vec::new(alloc)),
             answer: Ok(payload),
         }),
         Err(JsonError::Memory) => Err(Memory),

@@ -56,7 +56,7 @@ session_ends now word method args sessions kept old new net kernel told outcome 
           has.kept;
       asked = nothing;
       answer = ap (λ (o : Outcome). o.answer) is ∙ has.answer;
-      asks = ap (λ (o : Outcome). o.asks) is;
+      requests = ap (λ (o : Outcome). o.requests) is;
       refusal = ap (λ (o : Outcome). o.refusal) is;
       created = ap (λ (o : Outcome). o.has_created) is ∙ has.created;
     }

@@ -19,7 +19,7 @@ use Rattle.rpc_network.specs.declared.net_call.NetCall.{NetCall}
 use Rattle.rpc_network.specs.Reading.{AsksMethod}
 use Rattle.rpc_network.specs.declared.net_answer.NetAnswer.{NetAnswer}
 use Rattle.rpc_network.specs.Answered.{answered, refused_as}
-use Rattle.step_net.proofs.AskLemmas.{interface_asks, interface_stays, device_asks, device_stays, radio_asks, radio_stays}
+use Rattle.step_net.proofs.RequestLemmas.{interface_requests, interface_stays, device_requests, device_stays, radio_requests, radio_stays}
 use Rattle.rpc_network.specs.NetCalls.{CallMeans, IsHaltedIn, IsAnsweredTo, IsStopped}
 use Rattle.rpc_objects.specs.LocalAnswer.{refused}
 use Rattle.rpc_objects.specs.declared.local_object.LocalObject.TheVariants.{Network as NetworkObject}
@@ -47,9 +47,9 @@ left_alike net (NetLine.tells text refusal) failed = refl
 asked_alike : (net : Moment) (act : NetLine) (failed : Bool) → (acted net act failed).asked ≡ (answered net act failed).asked
 asked_alike net (NetLine.happens what) failed = refl
 asked_alike net NetLine.dump failed = refl
-asked_alike net (NetLine.interface name) failed = interface_asks net name
-asked_alike net (NetLine.device name) failed = device_asks net name
-asked_alike net (NetLine.radio name) failed = radio_asks net name
+asked_alike net (NetLine.interface name) failed = interface_requests net name
+asked_alike net (NetLine.device name) failed = device_requests net name
+asked_alike net (NetLine.radio name) failed = radio_requests net name
 asked_alike net (NetLine.tells text refusal) failed = refl
 
 -- ---- a call that is answered
@@ -63,17 +63,17 @@ pub network_ends : (now word : ℕ) (sessions : SessionList) (store : Store) (ob
     → IsAnsweredTo (folder_of store) object method args old new kernel told
     → IsCalled (record { now = now; word = word; object = NetworkObject object; method = method; args = args })
     (parts_of sessions store old) (parts_of sessions store new) kernel outcome
-network_ends now word sessions store object method args old new kernel told outcome is (IsAnsweredTo.carried asked asks carried) =
+network_ends now word sessions store object method args old new kernel told outcome is (IsAnsweredTo.carried asked requests carried) =
     let before = parts_of sessions store old in
     let taken = carried.taken in
     record {
       failed = taken.failed;
       done = net_called before carried.act taken.failed;
-      calls = NetworkCalled.carried asked asks carried.act carried.means;
+      calls = NetworkCalled.carried asked requests carried.act carried.means;
       parts = ap (with_net before) taken.is.net;
-      asked = taken.asks;
+      asked = taken.requests;
       answer = ap (λ (o : Outcome). o.answer) is ∙ ap of_network taken.is.answer;
-      asks = ap (λ (o : Outcome). o.asks) is ∙ taken.is.asks;
+      requests = ap (λ (o : Outcome). o.requests) is ∙ taken.is.requests;
       refusal = ap (λ (o : Outcome). o.refusal) is;
       created = ap (λ (o : Outcome). o.has_created) is;
     }
@@ -86,7 +86,7 @@ network_ends now word sessions store object method args old new kernel told outc
       parts = ap (λ (n : Network). parts_of sessions store n) idle.same;
       asked = idle.nothing;
       answer = ap (λ (o : Outcome). o.answer) same;
-      asks = ap (λ (o : Outcome). o.asks) same;
+      requests = ap (λ (o : Outcome). o.requests) same;
       refusal = ap (λ (o : Outcome). o.refusal) same;
       created = ap (λ (o : Outcome). o.has_created) same;
     }
@@ -99,7 +99,7 @@ network_ends now word sessions store object method args old new kernel told outc
       parts = ap (λ (n : Network). parts_of sessions store n) idle.same;
       asked = idle.nothing;
       answer = ap (λ (o : Outcome). o.answer) same;
-      asks = ap (λ (o : Outcome). o.asks) same;
+      requests = ap (λ (o : Outcome). o.requests) same;
       refusal = ap (λ (o : Outcome). o.refusal) same;
       created = ap (λ (o : Outcome). o.has_created) same;
     }
@@ -107,7 +107,7 @@ network_ends now word sessions store object method args old new kernel told outc
 -- all is told of it
 pub network_silent : (store : Store) (object : NetObject) (method : List ℕ) (args : List Attr) (old new : Network) (kernel : Telled)
     (told : NetAnswer) → old.notices ≡ [] → IsAnsweredTo (folder_of store) object method args old new kernel told → new.notices ≡ []
-network_silent store object method args old new kernel told silent (IsAnsweredTo.carried asked asks carried) = carried.taken.is.silent
+network_silent store object method args old new kernel told silent (IsAnsweredTo.carried asked requests carried) = carried.taken.is.silent
 network_silent store object method args old new kernel told silent (IsAnsweredTo.no_method none told_is idle) =
     ap (λ (n : Network). n.notices) idle.same ∙ silent
 network_silent store object method args old new kernel told silent (IsAnsweredTo.bad_argument none told_is idle) =
@@ -131,13 +131,13 @@ left_halts : (now word : ℕ) (sessions : SessionList) (store : Store) (object :
     → CallMeans (folder_of store) asked act → IsLeft act old new kernel
     → IsHalted (record { now = now; word = word; object = NetworkObject object; method = method; args = args })
     (parts_of sessions store old) (parts_of sessions store new) kernel
-left_halts now word sessions store object method args asked act old new kernel asks means (IsLeft.in_front same nothing) =
+left_halts now word sessions store object method args asked act old new kernel requests means (IsLeft.in_front same nothing) =
     idle_halts now word sessions store object method args old new kernel same nothing
-left_halts now word sessions store object method args asked act old new kernel asks means (IsLeft.behind failed net asked_so) =
+left_halts now word sessions store object method args asked act old new kernel requests means (IsLeft.behind failed net asked_so) =
     let before = parts_of sessions store old in
     record {
       cut = behind_call (net_called before act failed) failed;
-      cuts = CallCuts.behind failed (net_called before act failed) (NetworkCalled.carried asked asks act means);
+      cuts = CallCuts.behind failed (net_called before act failed) (NetworkCalled.carried asked requests act means);
       left = record {
         held = ap (λ (m : Moment). m.held) (net ∙ left_alike (moment_of old) act failed);
         asked = subst (λ (what : List Asked). Records kernel.asked kernel.asked_now what) (asked_alike (moment_of old) act failed) asked_so.asked;
@@ -152,7 +152,7 @@ pub network_halts : (now word : ℕ) (sessions : SessionList) (store : Store) (o
     (parts_of sessions store old) (parts_of sessions store new) kernel
 network_halts now word sessions store object method args old new kernel (IsStopped.in_front idle) =
     idle_halts now word sessions store object method args old new kernel idle.same idle.nothing
-network_halts now word sessions store object method args old new kernel (IsStopped.within asked asks (IsHaltedIn.unasked same nothing)) =
+network_halts now word sessions store object method args old new kernel (IsStopped.within asked requests (IsHaltedIn.unasked same nothing)) =
     idle_halts now word sessions store object method args old new kernel same nothing
-network_halts now word sessions store object method args old new kernel (IsStopped.within asked asks (IsHaltedIn.on_the_way act means left)) =
-    left_halts now word sessions store object method args asked act old new kernel asks means left
+network_halts now word sessions store object method args old new kernel (IsStopped.within asked requests (IsHaltedIn.on_the_way act means left)) =
+    left_halts now word sessions store object method args asked act old new kernel requests means left

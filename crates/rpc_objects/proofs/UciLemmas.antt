@@ -49,7 +49,7 @@ use Rattle.rpc_objects.specs.UciCall.{IsServed, IsToldOf, IsReloaded, IsHaltedAt
 
 -- ---- the reload
 
--- what is told of a reload are its asks and its refusal
+-- what is told of a reload are its requests and its refusal
 loading_replies : (net : Moment) (rows : Conf) (o : Option Refusal) → (took_or_refused net (event.Load rows) false o).reply ≡ []
 loading_replies net rows None = refl
 loading_replies net rows (Some reason) = refl
@@ -73,7 +73,7 @@ abbrev pub reloaded : Parts → LocalAnswer → NetLine → Called
 reloaded parts answer act = record {
   parts = record parts { net = (acted parts.net act false).net };
   asked = (acted parts.net act false).asked;
-  asks = (acted parts.net act false).asks;
+  requests = (acted parts.net act false).requests;
   answer = answer;
   refusal = (acted parts.net act false).refused;
   has_created = false;
@@ -81,29 +81,29 @@ reloaded parts answer act = record {
 
 reloads_anew : (parts : Parts) (answer : UciAnswer) (act : NetLine) → answer.reload ≡ true → ReloadAsks parts.files act
     → Reloads parts answer.answer answer.reload (reloaded parts answer.answer act)
-reloads_anew parts answer act is asks =
-    subst (λ (b : Bool). Reloads parts answer.answer b (reloaded parts answer.answer act)) (sym is) (Reloads.anew act asks)
+reloads_anew parts answer act is requests =
+    subst (λ (b : Bool). Reloads parts answer.answer b (reloaded parts answer.answer act)) (sym is) (Reloads.anew act requests)
 
 -- nothing is read anew
-pub rests_behind : (sessions : SessionList) (store : Store) (net : Network) (answer : UciAnswer) (told : Outcome) → answer.reload ≡ false
+pub rests_after : (sessions : SessionList) (store : Store) (net : Network) (answer : UciAnswer) (told : Outcome) → answer.reload ≡ false
     → net.notices ≡ [] → told ≡ outcomes.quiet answer.answer → IsReloaded (parts_of sessions store net) answer net told
-rests_behind sessions store net answer told is silent same =
+rests_after sessions store net answer told is silent same =
     let parts = parts_of sessions store net in
     record {
       done = quiet parts answer.answer;
       reloads = subst (λ (b : Bool). Reloads parts answer.answer b (quiet parts answer.answer)) (sym is) Reloads.not;
       parts = refl;
       none = refl;
-      told = subst (IsToldOf (quiet parts answer.answer)) (sym same) (record { answer = refl; asks = refl; refusal = refl; created = refl });
+      told = subst (IsToldOf (quiet parts answer.answer)) (sym same) (record { answer = refl; requests = refl; refusal = refl; created = refl });
       silent = silent;
     }
 
 -- the files were loaded anew
-pub loads_behind : (sessions : SessionList) (store : Store) (net now : Network) (answer : UciAnswer) (shown : Told) (told : Outcome)
+pub loads_after : (sessions : SessionList) (store : Store) (net now : Network) (answer : UciAnswer) (shown : Told) (told : Outcome)
     → answer.reload ≡ true → (act : NetLine) × ReloadAsks (folder_of store) act × IsTakenAlone act net now shown
     → told ≡ of_reload answer.answer shown
     → IsReloaded (parts_of sessions store net) answer now told
-loads_behind sessions store net now answer shown told is takes same =
+loads_after sessions store net now answer shown told is takes same =
     let parts = parts_of sessions store net in
     let act = takes.0 in
     let done = acted (moment_of net) act false in
@@ -114,8 +114,8 @@ loads_behind sessions store net now answer shown told is takes same =
       none = takes.2.none;
       told = record {
         answer = ap (λ (o : Outcome). o.answer) same;
-        asks = ap (λ (o : Outcome). o.asks) same ∙ ap (λ (t : Telling). t.shown) takes.2.is.telling
-            ∙ ap (λ (reply : List ℕ). done.asks ++ reply) (reload_replies (moment_of net) (folder_of store) act takes.1) ∙ append-nil done.asks;
+        requests = ap (λ (o : Outcome). o.requests) same ∙ ap (λ (t : Telling). t.shown) takes.2.is.telling
+            ∙ ap (λ (reply : List ℕ). done.requests ++ reply) (reload_replies (moment_of net) (folder_of store) act takes.1) ∙ append-nil done.requests;
         refusal = ap (λ (o : Outcome). o.refusal) same ∙ ap (λ (t : Telling). t.refusal) takes.2.is.telling;
         created = ap (λ (o : Outcome). o.has_created) same;
       };
@@ -124,18 +124,18 @@ loads_behind sessions store net now answer shown told is takes same =
 
 halts_at : (sessions : SessionList) (store : Store) (net now : Network) (answer : UciAnswer) (act : NetLine) → answer.reload ≡ true
     → ReloadAsks (folder_of store) act → IsHaltedAlone act net now → IsHaltedAt (parts_of sessions store net) answer net now
-halts_at sessions store net now answer act is asks halted = elim halted.is as (λ _. IsHaltedAt (parts_of sessions store net) answer net now) [
+halts_at sessions store net now answer act is requests halted = elim halted.is as (λ _. IsHaltedAt (parts_of sessions store net) answer net now) [
   | inl same ↦ IsHaltedAt.in_front same
   | inr net_is ↦ IsHaltedAt.behind (reloaded (parts_of sessions store net) answer.answer act)
-      (reloads_anew (parts_of sessions store net) answer act is asks) (ap (λ (m : Moment). m.held) net_is) halted.none
+      (reloads_anew (parts_of sessions store net) answer act is requests) (ap (λ (m : Moment). m.held) net_is) halted.none
 ]
 
 -- there was no memory for that
-pub halts_behind : (sessions : SessionList) (store : Store) (net now : Network) (answer : UciAnswer) → answer.reload ≡ true
+pub halts_after : (sessions : SessionList) (store : Store) (net now : Network) (answer : UciAnswer) → answer.reload ≡ true
     → (now ≡ net) ⊎ ((act : NetLine) × ReloadAsks (folder_of store) act × IsHaltedAlone act net now)
     → IsHaltedAt (parts_of sessions store net) answer net now
-halts_behind sessions store net now answer is (inl same) = IsHaltedAt.in_front same
-halts_behind sessions store net now answer is (inr takes) = halts_at sessions store net now answer takes.0 is takes.1 takes.2
+halts_after sessions store net now answer is (inl same) = IsHaltedAt.in_front same
+halts_after sessions store net now answer is (inr takes) = halts_at sessions store net now answer takes.0 is takes.1 takes.2
 
 -- ---- the call on the store
 
@@ -154,9 +154,9 @@ pub ready_behind : {X Y : Type 0} (called : Result X RpcError) (result : Result 
 ready_behind called result failed a b c d told cause unless = ready_by called failed a b c d (λ e. unless (told e)) cause
 
 -- where one failed a count rose
-pub rose_behind : {X : Type 0} (called : Result X RpcError) (failed : Bool) (a b c d : View) → called ≡ Err rpc.DiskFailed
+pub rose_after : {X : Type 0} (called : Result X RpcError) (failed : Bool) (a b c d : View) → called ≡ Err rpc.DiskFailed
     → HasDiskCause called failed a b c d → DiskRose (faults_of a b c d)
-rose_behind {X} called failed a b c d is cause =
+rose_after {X} called failed a b c d is cause =
     let rose : HasDiskCause {X = X} (Err rpc.DiskFailed) failed a b c d = subst (λ (r : Result X RpcError). HasDiskCause r failed a b c d) is cause in
     rose.1
 
@@ -230,7 +230,7 @@ served_ends now method args sessions kept old new net net_now answer disks (Ok t
   parts = reloads.parts;
   asked = subst (λ what. Asks what false kernel) (sym reloads.none) nothing;
   answer = reloads.told.answer;
-  asks = reloads.told.asks;
+  requests = reloads.told.requests;
   refusal = reloads.told.refusal;
   created = reloads.told.created;
 }

@@ -42,7 +42,7 @@ pub record Parts : Type 0 where
 pub record Called : Type 0 where
   pub parts : Parts
   pub asked : List Asked
-  pub asks : List ℕ
+  pub requests : List ℕ
   pub answer : LocalAnswer
   pub refusal : Option LineError
   pub has_created : Bool  -- a session was made, and the random word is used up
@@ -50,7 +50,7 @@ pub record Called : Type 0 where
 -- a call that asks nothing of the plane of interfaces
 abbrev pub quiet : Parts → LocalAnswer → Called
 quiet parts answer =
-    record { parts = parts; asked = []; asks = []; answer = answer; refusal = None; has_created = false }
+    record { parts = parts; asked = []; requests = []; answer = answer; refusal = None; has_created = false }
 
 -- ---- the object `session`
 
@@ -82,7 +82,7 @@ pub data Reloads (parts : Parts) (answer : LocalAnswer) : Bool → Called → Ty
   anew : (act : NetLine) → ReloadAsks parts.files act → Reloads parts answer true (record {
     parts = record parts { net = (acted parts.net act false).net };
     asked = (acted parts.net act false).asked;
-    asks = (acted parts.net act false).asks;
+    requests = (acted parts.net act false).requests;
     answer = answer;
     refusal = (acted parts.net act false).refused;
     has_created = false;
@@ -108,7 +108,8 @@ of_network (Err why) = refused (status_number why)
 abbrev pub net_called : Parts → NetLine → Bool → Called
 net_called parts act failed =
     let done = answered parts.net act failed in
-    record (quiet (record parts { net = done.net }) (of_network done.answer)) { asked = done.asked; asks = done.asks }
+    record (quiet (record parts { net = done.net }) (of_network done.answer))
+    { asked = done.asked; requests = done.requests }
 
 pub data NetworkCalled (before : Parts) (object : NetObject) (method : List ℕ) (args : List Attr) (failed : Bool) :
     Called → Type 0 where

@@ -36,7 +36,7 @@ pub record IsCalled (call : Asked) (before after : Parts) (kernel : Telled) (tol
   pub parts : after ≡ done.parts
   pub asked : Asks done.asked failed kernel
   pub answer : told.answer ≡ done.answer
-  pub asks : told.asks ≡ done.asks
+  pub requests : told.requests ≡ done.requests
   pub refusal : told.refusal ≡ option_map error_line done.refusal
   pub created : told.has_created ≡ done.has_created
 

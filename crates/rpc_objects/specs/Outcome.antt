@@ -9,14 +9,14 @@ use Rattle.rpc_objects.specs.Calls.{of_network}
 
 -- the plane of interfaces is asked nothing
 abbrev pub quiet : LocalAnswer → Outcome
-quiet answer = record { answer = answer; asks = []; refusal = None; has_created = false }
+quiet answer = record { answer = answer; requests = []; refusal = None; has_created = false }
 
 abbrev pub of_session : SessionAnswer → Outcome
-of_session told = record { answer = told.answer; asks = []; refusal = None; has_created = told.has_created }
+of_session told = record { answer = told.answer; requests = []; refusal = None; has_created = told.has_created }
 
 -- behind the call the files were loaded anew
 abbrev pub of_reload : LocalAnswer → Told → Outcome
-of_reload answer told = record { answer = answer; asks = told.shown; refusal = told.refusal; has_created = false }
+of_reload answer told = record { answer = answer; requests = told.shown; refusal = told.refusal; has_created = false }
 
 abbrev pub of_net : NetAnswer → Outcome
-of_net told = record { answer = of_network told.answer; asks = told.asks; refusal = None; has_created = false }
+of_net told = record { answer = of_network told.answer; requests = told.requests; refusal = None; has_created = false }

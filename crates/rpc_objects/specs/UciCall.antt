@@ -29,7 +29,7 @@ pub record IsServed (now : ℕ) (sessions : SessionList) (method : List ℕ) (ar
 -- this is told of a call that came to that
 pub record IsToldOf (done : Called) (told : Outcome) : Type 0 where
   pub answer : told.answer ≡ done.answer
-  pub asks : told.asks ≡ done.asks
+  pub requests : told.requests ≡ done.requests
   pub refusal : told.refusal ≡ option_map error_line done.refusal
   pub created : told.has_created ≡ done.has_created
 

@@ -15,8 +15,8 @@ use step_net::Told;
 #[derive(Drop)]
 pub struct Outcome {
     pub answer: LocalAnswer,
-    /// The lines of the asks that it brings.
-    pub asks: Text,
+    /// The lines of the requests that it brings.
+    pub requests: Text,
     /// The line that tells why the reload behind an apply or a rollback was refused.
     pub refusal: Option<Text>,
     /// Whether the call has made a session, and so used its random word up.
@@ -30,7 +30,7 @@ impl Outcome {
     {
         Outcome {
             answer,
-            asks: Text::from_vec(Vec::new(alloc)),
+            requests: Text::from_vec(Vec::new(alloc)),
             refusal: None,
             has_created: false,
         }
@@ -42,7 +42,7 @@ impl Outcome {
     {
         Outcome {
             answer: told.answer,
-            asks: Text::from_vec(Vec::new(alloc)),
+            requests: Text::from_vec(Vec::new(alloc)),
             refusal: None,
             has_created: told.has_created,
         }
@@ -54,7 +54,7 @@ impl Outcome {
     {
         Outcome {
             answer,
-            asks: told.shown,
+            requests: told.shown,
             refusal: told.refusal,
             has_created: false,
         }
@@ -64,10 +64,10 @@ impl Outcome {
     pub(crate) fn of_network(told: NetAnswer) -> Outcome
         ensures { result ≡ spec.of_net told }
     {
-        let NetAnswer { asks, answer } = told;
+        let NetAnswer { requests, answer } = told;
         Outcome {
             answer: network_answer(answer),
-            asks,
+            requests,
             refusal: None,
             has_created: false,
         }

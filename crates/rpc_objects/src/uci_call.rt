@@ -58,7 +58,7 @@ pub(crate) fn call_uci<D: Disk, T: Disk>(
     ensures told { OnOk result (net.new.notices ≡ []) }
 {
     match serve_call(alloc, now, sessions, store, files, staged, method, args) {
-        Ok(answer) => reload_behind(alloc, store, net, answer),
+        Ok(answer) => reload_after(alloc, store, net, answer),
         Err(stop) => Err(stop),
     }
 }
@@ -91,7 +91,7 @@ fn serve_call<D: Disk, T: Disk>(
 }
 
 /// Loads the files anew where the call asks for that.
-fn reload_behind(
+fn reload_after(
     alloc: Global,
     store: &Store,
     net: &mut Net,

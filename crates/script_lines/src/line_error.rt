@@ -46,7 +46,7 @@ pub enum LineError {
     ClientOpen,
     /// No interface has that name.
     NoInterface,
-    /// The number is not that of the open ask, which is `current`, and 0 where there is none.
+    /// The number is not that of the open request, which is `current`, and 0 where there is none.
     Stale { given: u64, current: u64 },
     /// No device of that name is present.
     NoDevice,
@@ -54,7 +54,7 @@ pub enum LineError {
     KernelFailed,
     /// The name of a device that comes is taken.
     Known,
-    /// An answer of a radio has another number of ports than its ask has rows.
+    /// An answer of a radio has another number of ports than its request has rows.
     WrongPorts { wanted: u64 },
     /// A list is longer than this number allows.
     Limit { number: u64 },

@@ -10,13 +10,13 @@ pub enum ScriptLine {
     },
     /// A device comes, leaves, or changes its carrier.
     Device(DevEvent),
-    /// The handler of an interface answers an ask.
+    /// The handler of an interface answers a request.
     Answer {
         interface: Text,
         number: u64,
         json: Text,
     },
-    /// The handler of a radio answers an ask.
+    /// The handler of a radio answers a request.
     Radio {
         radio: Text,
         number: u64,

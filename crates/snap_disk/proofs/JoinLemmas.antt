@@ -17,10 +17,10 @@ stops old mid r result first may done last phase p failed = record {
 }
 
 -- with the failure of a phase behind one that was done
-pub stops_behind : {R T E S F : Type 0} (old mid new : View) (r : R) (t : Result T E) (result : Result S F) (first second may : Layout → Files → Type 0) (done next last : Layout → Layout)
+pub stops_after : {R T E S F : Type 0} (old mid new : View) (r : R) (t : Result T E) (result : Result S F) (first second may : Layout → Files → Type 0) (done next last : Layout → Layout)
     → Phase {T = R} {E = E} old mid (Ok r) first done → Phase mid new t second next
     → ((l : Layout) (c : Files) → first l c → may l c) → ((l : Layout) (c : Files) → second (done l) c → may l c) → ((X : Type 0) → OnOk result X) → Phase old new result may last
-stops_behind old mid new r t result first second may done next last a b p q failed = record {
+stops_after old mid new r t result first second may done next last a b p q failed = record {
   names = b.names ∙ a.names;
   silent = λ none. b.silent (a.silent none);
   tells = tells_join old.seen mid.seen new.seen a.tells b.tells;

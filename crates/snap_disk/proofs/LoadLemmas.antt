@@ -96,9 +96,9 @@ opens_same snap view l count within kept on shows = open_on snap view count with
 pub opens_held : (snap held : Snap) (view : View) → held ≡ snap → IsOpenOn snap view × (snap.failed ≡ false) → IsOpenOn held view × (held.failed ≡ false)
 opens_held snap held view same on = subst (λ (s : Snap). IsOpenOn s view × (s.failed ≡ false)) (sym same) on
 
-pub opens_behind : {R E : Type 0} (snap : Snap) (old new : View) (l : Layout) (r : R) (may : Layout → Files → Type 0) (done : Layout → Layout) → Phase {T = R} {E = E} old new (Ok r) may done
+pub opens_after : {R E : Type 0} (snap : Snap) (old new : View) (l : Layout) (r : R) (may : Layout → Files → Type 0) (done : Layout → Layout) → Phase {T = R} {E = E} old new (Ok r) may done
     → length old.names ≡ length snap.packages.items + 2 → IsWithin snap.packages.items → snap.kept ≡ None → ((files : Files) → old.seen ≡ Some files → IsOn old (files_of l)) → Shows old.names snap (done l) → IsOpenOn snap new
-opens_behind snap old new l r may done phase count within none on shows =
+opens_after snap old new l r may done phase count within none on shows =
     open_on snap new (ap length phase.names ∙ count) within (subst (KeepsFiles (length new.names)) (sym none) tt) (λ ready f seen. elim (tells old.seen) [
       | inl silent ↦ absurd (cc (seen, phase.silent silent))
       | inr was ↦ (done l, phase.ends l (on was.0 was.1), subst (λ (n : List (List ℕ)). Shows n snap (done l)) (sym phase.names) shows)

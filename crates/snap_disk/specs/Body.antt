@@ -80,12 +80,12 @@ kept_of deadline holder (Ok files) =
 -- what stands behind the first byte
 abbrev pub read_fields : List (List ℕ) → List ℕ → Result Kept ℕ
 read_fields names bytes =
-    let behind_deadline = drop 8 bytes in
-    let behind_holder = drop 16 behind_deadline in
+    let after_deadline = drop 8 bytes in
+    let behind_holder = drop 16 after_deadline in
     if nat_lt (length bytes) 8 then Err 1
-    else if nat_lt (length behind_deadline) 16 then Err 9
+    else if nat_lt (length after_deadline) 16 then Err 9
     else if nat_lt (length behind_holder) 4 then Err 25
-    else kept_of (from_be_bytes w64 (take 8 bytes)) (from_be_bytes w128 (take 16 behind_deadline))
+    else kept_of (from_be_bytes w64 (take 8 bytes)) (from_be_bytes w128 (take 16 after_deadline))
     (more_files names (from_be_bytes w32 (take 4 behind_holder)) [] 29 (drop 4 behind_holder))
 
 -- what a body keeps on a disk of these names, or its first wrong place

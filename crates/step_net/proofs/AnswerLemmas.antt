@@ -1,4 +1,4 @@
--- Lines that ask one of several things.
+-- Lines that request one of several things.
 use Rattle.std.proofs.Common.{◌≡◌, [], false, inl, inr, refl}
 use Rattle.std.specs.Prelude.{Result, Ok, Err, IfOk}
 use Rattle.net_plane.specs.Network.{Network, moment_of}

@@ -22,7 +22,7 @@ use Rattle.net_plane.specs.Network.{Network, moment_of, IsOf, HasSameKernel}
 use Rattle.net_plane.specs.Taken.{IsAfter, Answers, AnswersOrFails, TellsOnce}
 use Rattle.step_net.specs.declared.told.Told.{Told}
 use Rattle.step_net.specs.NetLine.{NetLine, load_within}
-use Rattle.step_net.specs.Acted.{Acted, acted, error_of, took, took_free, took_or_refused, refused_for, failed_at, lines_of_asks}
+use Rattle.step_net.specs.Acted.{Acted, acted, error_of, took, took_free, took_or_refused, refused_for, failed_at, lines_of_requests}
 use Rattle.step_net.specs.Told.{shown, line_error}
 use Rattle.step_net.specs.Taken.{telling_in, IsActed, Takes, Telled, Asks, IsTaken, IsLeft, Tries, Tells, Ends}
 use Rattle.step_net.proofs.GrowthLemmas.{records_none}
@@ -61,7 +61,7 @@ pub same_moment : (mid new : Network) → new.inputs ≡ mid.inputs → new.held
     → moment_of new ≡ moment_of mid
 same_moment mid new p q i = record { inputs = p i; held = set_of (q i) }
 
--- the event was taken, and what is to be told of asks is kept
+-- the event was taken, and what is to be told of requests is kept
 module _ (what : Event) (old mid new : Network) (after : IsAfter old what mid)
     (inputs : new.inputs ≡ mid.inputs) (held : new.held ≡ mid.held) where
   abbrev net : Moment
@@ -71,14 +71,14 @@ module _ (what : Event) (old mid new : Network) (after : IsAfter old what mid)
   taken_net = same_moment mid new inputs held ∙ after.moment
 
   pub taken_acted : (told : Told)
-      → telling_in told ≡ shown (lines_of_asks mid.inputs.conf mid.notices) → new.notices ≡ []
+      → telling_in told ≡ shown (lines_of_requests mid.inputs.conf mid.notices) → new.notices ≡ []
       → IsActed (took net what) new told
   taken_acted told is silent = record {
     net = taken_net;
     telling = is
-        ∙ ap (λ (m : Moment). shown (lines_of_asks m.inputs.conf mid.notices)) after.moment
-        ∙ ap (λ told. shown (lines_of_asks (moment_after net what).inputs.conf told)) after.notices
-        ∙ ap shown (sym (append-nil (took net what).asks));
+        ∙ ap (λ (m : Moment). shown (lines_of_requests m.inputs.conf mid.notices)) after.moment
+        ∙ ap (λ told. shown (lines_of_requests (moment_after net what).inputs.conf told)) after.notices
+        ∙ ap shown (sym (append-nil (took net what).requests));
     silent = silent;
   }
 
@@ -185,18 +185,18 @@ module _ (what : DevEvent) (old mid new : Network) (kernel : Telled)
   taken_by : (o : Option Refusal) → ((b : Bool) → acted (moment_of old) line b ≡ done b o)
       → (b : Bool) (told : Told) → IsActed (done b o) new told → Asks (done b o).asked b kernel
       → IsTaken line old new kernel told
-  taken_by o is b told acts asks = record {
+  taken_by o is b told acts requests = record {
     failed = b;
     is = subst (λ d. IsActed d new told) (sym (is b)) acts;
-    asks = subst (λ (d : Acted). Asks d.asked b kernel) (sym (is b)) asks;
+    requests = subst (λ (d : Acted). Asks d.asked b kernel) (sym (is b)) requests;
   }
 
   left_by : (o : Option Refusal) → ((b : Bool) → acted (moment_of old) line b ≡ done b o)
       → (b : Bool) → moment_of new ≡ (done b o).net → Asks (done b o).asked b kernel
       → IsLeft line old new kernel
-  left_by o is b net asks = IsLeft.behind b
+  left_by o is b net requests = IsLeft.behind b
       (net ∙ ap (λ (d : Acted). d.net) (sym (is b)))
-      (subst (λ (d : Acted). Asks d.asked b kernel) (sym (is b)) asks)
+      (subst (λ (d : Acted). Asks d.asked b kernel) (sym (is b)) requests)
 
   failed_acted : (told : Told) → new ≡ old → Tells (line_error net_error.KernelFailed) told
       → IsActed (failed_at (moment_of old) what) new told
@@ -267,7 +267,7 @@ module _ (what : DevEvent) (old mid new : Network) (kernel : Telled)
 -- how an event ended is told, by how it ended
 pub ends_taken : {X M : Type 0} (ended : Result X NetError) (x : X) (mid new : Network)
     (result : Result Told M) → ended ≡ Ok x
-    → IfOk result (λ told. telling_in told ≡ shown (lines_of_asks mid.inputs.conf mid.notices))
+    → IfOk result (λ told. telling_in told ≡ shown (lines_of_requests mid.inputs.conf mid.notices))
     → OnOk result (new.notices ≡ []) → Ends ended mid new result
 ends_taken {X} {M} ended x mid new (Ok told) is tells silent =
     subst (λ e. Ends {M = M} e mid new (Ok told)) (sym is) (tells, silent)

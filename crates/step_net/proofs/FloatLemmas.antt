@@ -20,7 +20,7 @@ use Rattle.net_status.specs.declared.given.Family.TheVariants as family
 use Rattle.net_status.specs.Values.{text_or_null}
 use Rattle.net_status.specs.Given.{address_item, addresses_of, route_item, routes_of, is_of_family}
 use Rattle.net_status.specs.Faults.{fault_item, taken_item}
-use Rattle.net_status.specs.Interfaces.{interface_shown, interface_status, layer_shown, dump}
+use Rattle.net_status.specs.Interfaces.{interface_shown, interface_status, l3_device_shown, dump}
 use Rattle.net_status.specs.Devices.{device_shown, device_faults, vlan_faults, device_status, taken_items, is_taken, is_shown, is_of_value}
 use Rattle.net_status.specs.Radios.{port_items, ports_told, shown_with, radio_shown, radio_status}
 
@@ -71,7 +71,7 @@ interface_has_none inputs row =
     (filter (λ cidr. is_of_family family.V4 cidr.0) (addresses_of facts row)))
     (neither _ _ (items_have_none address_item address_has_none
     (filter (λ cidr. is_of_family family.V6 cidr.0) (addresses_of facts row)))
-    (neither _ _ (text_has_none (layer_shown facts row))
+    (neither _ _ (text_has_none (l3_device_shown facts row))
     (neither _ _ (items_have_none route_item route_has_none (routes_of facts row)) refl)))))
 
 pub dump_has_none : (inputs : Inputs) → has_float (dump inputs) ≡ false

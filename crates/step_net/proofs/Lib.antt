@@ -9,8 +9,8 @@ pub mod ShowLemmas
 -- settlings and answers
 pub mod SettleLemmas
 -- events at which the kernel is asked nothing
-pub mod AskLemmas
--- lines that ask one of several things
+pub mod RequestLemmas
+-- lines that request one of several things
 pub mod AnswerLemmas
 -- packages that are loaded
 pub mod LoadLemmas

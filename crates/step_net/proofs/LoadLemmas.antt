@@ -44,10 +44,10 @@ unread_told : {M : Type 0} (folder : Folder) (why : TreeError) (before : Network
     → ((fault : Fault) → fault_of why ≡ Some fault → ReloadAsks folder (refuses error.Parse))
     → before.notices ≡ [] → IfOk result (λ answer. IsSomeAnd o (λ fault. telling_in answer ≡ refused error.Parse))
     → TakesOne (ReloadAsks folder) before before result
-unread_told folder why before (Ok answer) None is asks silent tells = absurd tells
-unread_told {M} folder why before (Ok answer) (Some fault) is asks silent tells =
-    takes_refused {M = M} (ReloadAsks folder) error.Parse before (Ok answer) (asks fault is) silent tells
-unread_told folder why before (Err lacks) o is asks silent tells = inl refl
+unread_told folder why before (Ok answer) None is requests silent tells = absurd tells
+unread_told {M} folder why before (Ok answer) (Some fault) is requests silent tells =
+    takes_refused {M = M} (ReloadAsks folder) error.Parse before (Ok answer) (requests fault is) silent tells
+unread_told folder why before (Err lacks) o is requests silent tells = inl refl
 
 ok_alone : {M : Type 0} (why : TreeError) (result : Result Told M) → RefusesUnread why result
     → IfOk result (λ answer. IsSomeAnd (fault_of why) (λ fault. telling_in answer ≡ refused error.Parse))
@@ -59,8 +59,8 @@ pub takes_unread : {M : Type 0} (folder : Folder) (why : TreeError) (before : Ne
     → ((fault : Fault) → fault_of why ≡ Some fault → ReloadAsks folder (refuses error.Parse))
     → before.notices ≡ [] → RefusesUnread why result
     → TakesOne (ReloadAsks folder) before before result
-takes_unread folder why before result asks silent tells =
-    unread_told folder why before result (fault_of why) refl asks silent (ok_alone why result tells)
+takes_unread folder why before result requests silent tells =
+    unread_told folder why before result (fault_of why) refl requests silent (ok_alone why result tells)
 
 -- what is known of a fault
 pub of_fault : (folder : Folder) (name : List ℕ) (why : TreeError) (fault : Fault)

@@ -56,7 +56,7 @@ module _ (old new : Network) (before after : Outside) (held : before.objects ≡
       let all : s.settled.made ≡ calls_of old = sym (s.settled.parts ∙ append-nil s.settled.made) in
       let did = subst (λ m. after.objects ≡ after_calls before.objects m) all s.settled.done.held in
       record {
-        failed_behind = None;
+        failed_after = None;
         stops = refl;
         next = now_settled (calls_of old) did;
         asked = subst (Records before.asked after.asked)
@@ -82,7 +82,7 @@ module _ (old new : Network) (before after : Outside) (held : before.objects ≡
       (ap (drop (length done)) parts ∙ drop_all done (s.failed ∷ s.others))) in
       let did = subst (λ m. after.objects ≡ after_calls before.objects m) all s.settled.done.held in
       record {
-        failed_behind = Some (length done);
+        failed_after = Some (length done);
         stops = sym ((Decides-ltb (length done) (length (calls_of old))).1
             (subst (λ calls. length done < length calls) (sym parts) (shorter done s.failed s.others)));
         next = now_settled (take (length done) (calls_of old)) did;
@@ -147,10 +147,10 @@ module _ (net now : Moment) (telling : Telling) (before mid after : Outside) (st
     (calls : after.calls ≡ mid.calls) (objects : after.objects ≡ mid.objects)
     (faults : after.kernel_faults ≡ mid.kernel_faults) where
   abbrev done : List Call
-  done = made (due net) s.failed_behind
+  done = made (due net) s.failed_after
 
   abbrev last : List ℕ
-  last = last_line telling.refusal (is_stopped (due net) s.failed_behind)
+  last = last_line telling.refusal (is_stopped (due net) s.failed_after)
 
   last_is : last_line telling.refusal stopped ≡ last
   last_is = ap (last_line telling.refusal) s.stops
@@ -161,11 +161,11 @@ module _ (net now : Moment) (telling : Telling) (before mid after : Outside) (st
       → is_ok ≡ is_fine telling.refusal stopped
       → IsFinished net now telling before after is_ok
   answered between shown line later is_ok fine = record {
-    failed_behind = s.failed_behind;
+    failed_after = s.failed_after;
     next = s.next;
     answer = fine ∙ ap (is_fine telling.refusal) s.stops;
     left = record {
-      asked = subst (λ x. Records before.asked x (asked_in (due net) s.failed_behind)) (sym asked) s.asked;
+      asked = subst (λ x. Records before.asked x (asked_in (due net) s.failed_after)) (sym asked) s.asked;
       logged = subst (λ x. Grows before.calls x done) (sym calls) s.logged;
       written = grows_more before.out mid.out after.out (lines_of done) (telling.shown ++ last) s.written
           (grows_more mid.out between after.out telling.shown last shown
@@ -181,17 +181,17 @@ module _ (net now : Moment) (telling : Telling) (before mid after : Outside) (st
   cut_at written rose later =
       let text = grows_to_front before.out mid.out after.out (lines_of done) (telling.shown ++ last) s.written written in
       record {
-        failed_behind = s.failed_behind;
+        failed_after = s.failed_after;
         left = record {
-          front = record { asked = asked_in (due net) s.failed_behind; calls = done; text = text.front };
+          front = record { asked = asked_in (due net) s.failed_after; calls = done; text = text.front };
           back = record { asked = []; calls = []; text = text.back };
           parts = λ i. record {
-            asked = sym (append-nil (asked_in (due net) s.failed_behind)) i;
+            asked = sym (append-nil (asked_in (due net) s.failed_after)) i;
             calls = sym (append-nil done) i;
             text = text.parts i;
           };
           left = record {
-            asked = subst (λ x. Records before.asked x (asked_in (due net) s.failed_behind)) (sym asked) s.asked;
+            asked = subst (λ x. Records before.asked x (asked_in (due net) s.failed_after)) (sym asked) s.asked;
             logged = subst (λ x. Grows before.calls x done) (sym calls) s.logged;
             written = text.grows;
             cause = let c = s.cause in omega arith;
@@ -230,7 +230,7 @@ cut_in_settling net telling before after s =
     let asked = append-nil (map done_call (due net)) ∙ ap (map done_call) s.parts
     ∙ map_append s.calls s.not_made in
     record {
-      failed_behind = None;
+      failed_after = None;
       left = record {
         front = record { asked = map done_call s.calls; calls = s.calls; text = text.front };
         back = record { asked = map done_call s.not_made; calls = s.not_made; text = text.back };
@@ -254,15 +254,15 @@ module _ (net now : Moment) (text : List ℕ) (before mid after : Outside) (stop
     (calls : after.calls ≡ mid.calls) (objects : after.objects ≡ mid.objects)
     (faults : after.kernel_faults ≡ mid.kernel_faults) where
   abbrev opened_done : List Call
-  opened_done = made (due net) s.failed_behind
+  opened_done = made (due net) s.failed_after
 
   pub shown_whole : Grows mid.out after.out text → mid.out_faults ≤ after.out_faults
       → IsOpened net now text before after
   shown_whole written later = record {
-    failed_behind = s.failed_behind;
+    failed_after = s.failed_after;
     next = s.next;
     left = record {
-      asked = subst (λ x. Records before.asked x (asked_in (due net) s.failed_behind)) (sym asked) s.asked;
+      asked = subst (λ x. Records before.asked x (asked_in (due net) s.failed_after)) (sym asked) s.asked;
       logged = subst (λ x. Grows before.calls x opened_done) (sym calls) s.logged;
       written = grows_more before.out mid.out after.out (lines_of opened_done) text s.written written;
       cause = let c = s.cause in omega arith;
@@ -276,17 +276,17 @@ module _ (net now : Moment) (text : List ℕ) (before mid after : Outside) (stop
   shown_in_part written rose later =
       let front = grows_to_front before.out mid.out after.out (lines_of opened_done) text s.written written in
       record {
-        failed_behind = s.failed_behind;
+        failed_after = s.failed_after;
         left = record {
-          front = record { asked = asked_in (due net) s.failed_behind; calls = opened_done; text = front.front };
+          front = record { asked = asked_in (due net) s.failed_after; calls = opened_done; text = front.front };
           back = record { asked = []; calls = []; text = front.back };
           parts = λ i. record {
-            asked = sym (append-nil (asked_in (due net) s.failed_behind)) i;
+            asked = sym (append-nil (asked_in (due net) s.failed_after)) i;
             calls = sym (append-nil opened_done) i;
             text = front.parts i;
           };
           left = record {
-            asked = subst (λ x. Records before.asked x (asked_in (due net) s.failed_behind)) (sym asked) s.asked;
+            asked = subst (λ x. Records before.asked x (asked_in (due net) s.failed_after)) (sym asked) s.asked;
             logged = subst (λ x. Grows before.calls x opened_done) (sym calls) s.logged;
             written = front.grows;
             cause = let c = s.cause in omega arith;
@@ -322,7 +322,7 @@ opening_cut net text before after s =
     let asked = append-nil (map done_call (due net)) ∙ ap (map done_call) s.parts
     ∙ map_append s.calls s.not_made in
     record {
-      failed_behind = None;
+      failed_after = None;
       left = record {
         front = record { asked = map done_call s.calls; calls = s.calls; text = front.front };
         back = record { asked = map done_call s.not_made; calls = s.not_made; text = front.back };

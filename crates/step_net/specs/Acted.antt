@@ -21,32 +21,32 @@ use Rattle.net_rules.specs.Refusal.{refusal}
 use Rattle.net_status.specs.Interfaces.{interface_status, dump}
 use Rattle.net_status.specs.Devices.{device_status}
 use Rattle.net_status.specs.Radios.{radio_status}
-use Rattle.ask_lines.specs.AskLine.{ask_line}
+use Rattle.request_lines.specs.RequestLine.{request_line}
 use Rattle.script_lines.specs.declared.line_error.LineError.{LineError}
 use Rattle.script_lines.specs.declared.line_error.LineError.TheVariants as error
 use Rattle.step_net.specs.NetLine.{NetLine}
 
--- The plane behind it, what the kernel was asked, the lines of asks, the reply, and why the line is
+-- The plane behind it, what the kernel was asked, the lines of requests, the reply, and why the line is
 -- refused, if it is.
 pub record Acted : Type 0 where
   pub net : Moment
   pub asked : List Asked
-  pub asks : List ℕ
+  pub requests : List ℕ
   pub reply : List ℕ
   pub refused : Option LineError
 
 -- nothing is done, and this is replied
 abbrev pub replied : Moment → List ℕ → Acted
-replied net text = record { net = net; asked = []; asks = []; reply = text; refused = None }
+replied net text = record { net = net; asked = []; requests = []; reply = text; refused = None }
 
 -- nothing is done, for this reason
 abbrev pub refused_for : Moment → LineError → Acted
-refused_for net e = record { net = net; asked = []; asks = []; reply = []; refused = Some e }
+refused_for net e = record { net = net; asked = []; requests = []; reply = []; refused = Some e }
 
 -- nothing is done, and this is shown, and then told
 abbrev pub told_alone : Moment → List ℕ → Option LineError → Acted
 told_alone net text refusal =
-    record { net = net; asked = []; asks = []; reply = text; refused = refusal }
+    record { net = net; asked = []; requests = []; reply = text; refused = refusal }
 
 -- the refusal of an event, as a line tells it
 abbrev pub error_of : Refusal → LineError
@@ -63,19 +63,19 @@ abbrev pub telling : Event → List Asked
 telling (event.Device what) = asked.Event what true ∷ []
 telling _ = []
 
--- the lines of what is told of asks
-abbrev pub lines_of_asks : Conf → List Notice → List ℕ
-lines_of_asks conf told = flat_map (ask_line conf) told
+-- the lines of what is told of requests
+abbrev pub lines_of_requests : Conf → List Notice → List ℕ
+lines_of_requests conf told = flat_map (request_line conf) told
 
-abbrev pub asks_after : Inputs → Event → List ℕ
-asks_after inputs what = lines_of_asks (after inputs what).conf (notices inputs what)
+abbrev pub requests_after : Inputs → Event → List ℕ
+requests_after inputs what = lines_of_requests (after inputs what).conf (notices inputs what)
 
 -- an event was taken
 abbrev pub took : Moment → Event → Acted
 took net what = record {
   net = moment_after net what;
   asked = telling what;
-  asks = asks_after net.inputs what;
+  requests = requests_after net.inputs what;
   reply = [];
   refused = None;
 }
@@ -85,7 +85,7 @@ abbrev pub failed_at : Moment → DevEvent → Acted
 failed_at net what = record {
   net = net;
   asked = asked.Event what false ∷ [];
-  asks = [];
+  requests = [];
   reply = [];
   refused = Some error.KernelFailed;
 }

@@ -15,10 +15,10 @@ use Rattle.step_net.specs.Moved.{Telling, due, made, is_stopped, asked_in, settl
 -- a settling and an answer came to their end, with some luck
 pub record IsFinished (net now : Moment) (telling : Telling) (before after : Outside) (is_ok : Bool)
     : Type 0 where
-  pub failed_behind : Option ℕ
-  pub next : now ≡ (finished net telling failed_behind).net
-  pub answer : is_ok ≡ (finished net telling failed_behind).is_ok
-  pub left : Leaves (finished net telling failed_behind).effects (once_if (is_some failed_behind))
+  pub failed_after : Option ℕ
+  pub next : now ≡ (finished net telling failed_after).net
+  pub answer : is_ok ≡ (finished net telling failed_after).is_ok
+  pub left : Leaves (finished net telling failed_after).effects (once_if (is_some failed_after))
       before after
 
 -- These calls were made, and these are left. The text has the line of each that was made, and
@@ -33,9 +33,9 @@ pub data KeepsPace (calls left : List Call) (text : List ℕ) : Type 0 where
 
 -- they were cut short by the output, with some luck
 pub record IsCutShort (net : Moment) (telling : Telling) (before after : Outside) : Type 0 where
-  pub failed_behind : Option ℕ
-  pub left : LeavesInPart (finished net telling failed_behind).effects
-      (once_if (is_some failed_behind)) before after
+  pub failed_after : Option ℕ
+  pub left : LeavesInPart (finished net telling failed_after).effects
+      (once_if (is_some failed_after)) before after
   pub pace : KeepsPace left.front.calls left.back.calls left.front.text
   pub objects : after.objects ≡ after_calls before.objects left.front.calls
   pub cause : Rose before.out_faults after.out_faults
@@ -47,16 +47,16 @@ Finishes net now telling before after (Err failed) = IsCutShort net telling befo
 
 -- a settling and what is shown behind it came to their end, with some luck
 pub record IsOpened (net now : Moment) (text : List ℕ) (before after : Outside) : Type 0 where
-  pub failed_behind : Option ℕ
-  pub next : now ≡ (opening net text failed_behind).net
-  pub left : Leaves (opening net text failed_behind).effects (once_if (is_some failed_behind))
+  pub failed_after : Option ℕ
+  pub next : now ≡ (opening net text failed_after).net
+  pub left : Leaves (opening net text failed_after).effects (once_if (is_some failed_after))
       before after
 
 -- they were cut short by the output, with some luck
 pub record IsOpenedInPart (net : Moment) (text : List ℕ) (before after : Outside) : Type 0 where
-  pub failed_behind : Option ℕ
-  pub left : LeavesInPart (opening net text failed_behind).effects
-      (once_if (is_some failed_behind)) before after
+  pub failed_after : Option ℕ
+  pub left : LeavesInPart (opening net text failed_after).effects
+      (once_if (is_some failed_after)) before after
   pub pace : KeepsPace left.front.calls left.back.calls left.front.text
   pub objects : after.objects ≡ after_calls before.objects left.front.calls
   pub cause : Rose before.out_faults after.out_faults
@@ -68,14 +68,14 @@ Opens net now text before after (Err failed) = IsOpenedInPart net text before af
 
 -- a settling came to its end, or to a call that failed, with some luck
 pub record IsSettled (net now : Moment) (before after : Outside) (stopped : Bool) : Type 0 where
-  pub failed_behind : Option ℕ
-  pub stops : stopped ≡ is_stopped (due net) failed_behind
-  pub next : now ≡ settled net (made (due net) failed_behind)
-  pub asked : Records before.asked after.asked (asked_in (due net) failed_behind)
-  pub logged : Grows before.calls after.calls (made (due net) failed_behind)
-  pub objects : after.objects ≡ after_calls before.objects (made (due net) failed_behind)
-  pub written : Grows before.out after.out (lines_of (made (due net) failed_behind))
-  pub cause : RoseBy (once_if (is_some failed_behind)) before.kernel_faults after.kernel_faults
+  pub failed_after : Option ℕ
+  pub stops : stopped ≡ is_stopped (due net) failed_after
+  pub next : now ≡ settled net (made (due net) failed_after)
+  pub asked : Records before.asked after.asked (asked_in (due net) failed_after)
+  pub logged : Grows before.calls after.calls (made (due net) failed_after)
+  pub objects : after.objects ≡ after_calls before.objects (made (due net) failed_after)
+  pub written : Grows before.out after.out (lines_of (made (due net) failed_after))
+  pub cause : RoseBy (once_if (is_some failed_after)) before.kernel_faults after.kernel_faults
   pub later : before.out_faults ≤ after.out_faults
 
 -- it was cut short by the output

@@ -18,11 +18,11 @@ use Rattle.step_net.specs.Effects.{Effects, joined}
 -- many calls of its settling it failed
 pub record Luck : Type 0 where
   pub events : List Bool
-  pub failed_behind : Option ℕ
+  pub failed_after : Option ℕ
 
 -- nothing failed
 abbrev pub lucky : Luck
-lucky = record { events = []; failed_behind = None }
+lucky = record { events = []; failed_after = None }
 
 -- whether the kernel failed at the first event
 abbrev pub fails_first : List Bool → Bool
@@ -38,10 +38,10 @@ failed_events [] = 0
 failed_events (failed ∷ others) = once_if failed + failed_events others
 
 abbrev pub failures_of : Luck → ℕ
-failures_of luck = failed_events luck.events + once_if (is_some luck.failed_behind)
+failures_of luck = failed_events luck.events + once_if (is_some luck.failed_after)
 
 -- the kernel failed at the first of two events, and behind two calls
-twice : failures_of (record { events = true ∷ false ∷ []; failed_behind = Some 2 }) ≡ 2
+twice : failures_of (record { events = true ∷ false ∷ []; failed_after = Some 2 }) ≡ 2
 twice = refl
 
 -- the calls that lead to what is wanted
@@ -64,14 +64,14 @@ failed_at_call calls (Some count) = map failed_call (take 1 (drop count calls))
 
 -- what the kernel is asked in a settling
 abbrev pub asked_in : List Call → Option ℕ → List Asked
-asked_in calls failed_behind =
-    map done_call (made calls failed_behind) ++ failed_at_call calls failed_behind
+asked_in calls failed_after =
+    map done_call (made calls failed_after) ++ failed_at_call calls failed_after
 
 -- the plane after these calls
 abbrev pub settled : Moment → List Call → Moment
 settled net calls = record { inputs = net.inputs; held = after_calls net.held calls }
 
--- What is told behind the calls: the lines of asks and the reply, and the line of its refusal, where
+-- What is told behind the calls: the lines of requests and the reply, and the line of its refusal, where
 -- the line is refused.
 pub record Telling : Type 0 where
   pub shown : List ℕ
@@ -79,7 +79,7 @@ pub record Telling : Type 0 where
 
 abbrev pub telling_of : Acted → Telling
 telling_of done = record {
-  shown = done.asks ++ done.reply;
+  shown = done.requests ++ done.reply;
   refusal = option_map error_line done.refused;
 }
 
@@ -100,13 +100,13 @@ pub record Moved : Type 0 where
 
 -- a settling, and then what is to be told
 abbrev pub finished : Moment → Telling → Option ℕ → Moved
-finished net telling failed_behind =
-    let done = made (due net) failed_behind in
-    let stopped = is_stopped (due net) failed_behind in
+finished net telling failed_after =
+    let done = made (due net) failed_after in
+    let stopped = is_stopped (due net) failed_after in
     record {
       net = settled net done;
       effects = record {
-        asked = asked_in (due net) failed_behind;
+        asked = asked_in (due net) failed_after;
         calls = done;
         text = lines_of done ++ (telling.shown ++ last_line telling.refusal stopped);
       };
@@ -115,16 +115,16 @@ finished net telling failed_behind =
 
 -- a settling, and then what is shown, without an answer
 abbrev pub opening : Moment → List ℕ → Option ℕ → Moved
-opening net text failed_behind =
-    let done = made (due net) failed_behind in
+opening net text failed_after =
+    let done = made (due net) failed_after in
     record {
       net = settled net done;
       effects = record {
-        asked = asked_in (due net) failed_behind;
+        asked = asked_in (due net) failed_after;
         calls = done;
         text = lines_of done ++ text;
       };
-      is_ok = not (is_stopped (due net) failed_behind);
+      is_ok = not (is_stopped (due net) failed_after);
     }
 
 -- the kernel was asked this
@@ -133,8 +133,8 @@ asking asked = record { asked = asked; calls = []; text = [] }
 
 -- what a line comes to that did this
 abbrev pub ended : Acted → Option ℕ → Moved
-ended done failed_behind =
-    let end = finished done.net (telling_of done) failed_behind in
+ended done failed_after =
+    let end = finished done.net (telling_of done) failed_after in
     record {
       net = end.net;
       effects = joined (asking done.asked) end.effects;
@@ -143,4 +143,4 @@ ended done failed_behind =
 
 -- what a line comes to
 unfoldable pub moved : Moment → NetLine → Luck → Moved
-moved net line luck = ended (acted net line (fails_first luck.events)) luck.failed_behind
+moved net line luck = ended (acted net line (fails_first luck.events)) luck.failed_after

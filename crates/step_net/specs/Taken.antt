@@ -9,7 +9,7 @@ use Rattle.net_plane.specs.Network.{Network, moment_of}
 use Rattle.script_lines.specs.declared.line_error.LineError.{LineError}
 use Rattle.step_net.specs.declared.told.Told.{Told}
 use Rattle.step_net.specs.NetLine.{NetLine}
-use Rattle.step_net.specs.Acted.{Acted, acted, lines_of_asks}
+use Rattle.step_net.specs.Acted.{Acted, acted, lines_of_requests}
 use Rattle.step_net.specs.Moved.{Telling, telling_of, once_if}
 use Rattle.step_net.specs.Told.{shown, refused, line_error}
 
@@ -48,7 +48,7 @@ pub record IsTaken (line : NetLine) (before now : Network) (kernel : Telled) (to
     : Type 0 where
   pub failed : Bool
   pub is : IsActed (acted (moment_of before) line failed) now told
-  pub asks : Asks (acted (moment_of before) line failed).asked failed kernel
+  pub requests : Asks (acted (moment_of before) line failed).asked failed kernel
 
 pub data IsLeft (line : NetLine) (before now : Network) (kernel : Telled) : Type 0 where
   in_front : now ≡ before → Asks [] false kernel → IsLeft line before now kernel
@@ -73,11 +73,11 @@ abbrev pub Tells : Option LineError → Told → Type 0
 Tells None told = ⊥
 Tells (Some e) told = telling_in told ≡ refused e
 
--- How an event ended is told. Where it was taken, all that is to be told of asks is handed out. Where
+-- How an event ended is told. Where it was taken, all that is to be told of requests is handed out. Where
 -- it was refused, its error is told, and nothing changes. Either may want memory.
 abbrev pub Ends : {X M : Type 0} → Result X NetError → Network → Network → Result Told M → Type 0
 Ends (Ok taken) before now (Ok told) =
-    (telling_in told ≡ shown (lines_of_asks before.inputs.conf before.notices)) × (now.notices ≡ [])
+    (telling_in told ≡ shown (lines_of_requests before.inputs.conf before.notices)) × (now.notices ≡ [])
 Ends (Err e) before now (Ok told) = Tells (line_error e) told × (now ≡ before)
 Ends (Ok taken) before now (Err lacks) = ⊤
 Ends (Err e) before now (Err lacks) = now ≡ before

@@ -2,11 +2,11 @@ ghost use Rattle.std.specs.Prelude.{◌≡◌, [], IfOk, OnOk};
 ghost use Rattle.net_rules.specs.declared.event.Event.TheVariants as event_of;
 ghost use Rattle.net_plane.specs.Network.{IsOf, HasSameKernel};
 ghost use Rattle.step_net.specs.NetLine.{NetLine, load_line};
-ghost use Rattle.step_net.specs.Acted.{lines_of_asks as lines_of};
+ghost use Rattle.step_net.specs.Acted.{lines_of_requests as lines_of};
 ghost use Rattle.step_net.specs.Told as spec;
 ghost use Rattle.step_net.specs.Taken.{telling_in, Takes, Tries, Ends, telled_of};
 
-use crate::asks::lines_of_asks;
+use crate::requests::lines_of_requests;
 use crate::told::{Told, refuse_or};
 use kern_model::{DevEvent, DevName, Kernel};
 use net_plane::{Net, NetError};
@@ -57,7 +57,7 @@ pub fn take_operator(
     tell(alloc, net, ended)
 }
 
-/// The handler of an interface answers the ask of this number.
+/// The handler of an interface answers the request of this number.
 ///
 /// # Errors
 ///
@@ -78,7 +78,7 @@ pub fn take_answer(
     tell(alloc, net, ended)
 }
 
-/// The handler of a radio answers the ask of this number.
+/// The handler of a radio answers the request of this number.
 ///
 /// # Errors
 ///
@@ -124,19 +124,19 @@ fn tell(alloc: Global, net: &mut Net, ended: Result<(), NetError>) -> Result<Tol
     ensures stays { (net.new.inputs ≡ net.old.inputs) × (net.new.held ≡ net.old.held) }
 {
     match ended {
-        Ok(()) => tell_asks(alloc, net),
+        Ok(()) => tell_requests(alloc, net),
         Err(error) => refuse_or(alloc, error),
     }
 }
 
-// The lines of all that is to be told of asks.
-fn tell_asks(alloc: Global, net: &mut Net) -> Result<Told, Memory>
+// The lines of all that is to be told of requests.
+fn tell_requests(alloc: Global, net: &mut Net) -> Result<Told, Memory>
     ensures told { IfOk result (λ told. telling_in told
         ≡ spec.shown (lines_of net.old.inputs.conf net.old.notices)) }
     ensures silent { OnOk result (net.new.notices ≡ []) }
     ensures stays { (net.new.inputs ≡ net.old.inputs) × (net.new.held ≡ net.old.held) }
 {
-    let Ok(lines) = lines_of_asks(alloc, net) else {
+    let Ok(lines) = lines_of_requests(alloc, net) else {
         return Err(Memory);
     };
     Ok(Told {

@@ -7,8 +7,8 @@ use plane_io::{Memory, Text};
 use script_lines::{LineError, append_error_line};
 use std::alloc::Global;
 
-/// What is to be told of a line behind its calls: the lines of asks and the reply, and the line of
-/// its refusal, where it is refused.
+/// What is to be told of a line behind its calls: the lines of requests and the reply, and the line
+/// of its refusal, where it is refused.
 #[derive(Drop)]
 pub struct Told {
     pub shown: Text,

@@ -11,20 +11,20 @@ use Rattle.net_rules.specs.declared.inputs.OpenInterface.{OpenInterface}
 use Rattle.net_rules.specs.declared.event.Event.TheVariants as event
 use Rattle.net_rules.specs.Rows.{is_name, interfaces_of, asks_nothing}
 use Rattle.net_rules.specs.RadioPorts.{device_of}
-use Rattle.net_rules.specs.Interfaces.{device_or_own, layer_of}
+use Rattle.net_rules.specs.Interfaces.{device_or_own, l3_device_of}
 use Rattle.net_rules.specs.Inputs.{facts_of, open_interface}
 use Rattle.net_rules.specs.After.{changed, asked, after}
 use Rattle.net_rules.specs.Notices.{notices_between}
 use Rattle.net_rules.specs.Fresh.{IsReached}
 use Rattle.net_rules.specs.Reach.{name_of}
 use Rattle.net_rules.specs.Above.{IsAbove, IsOffBase, DiffersAt}
-use Rattle.net_rules.specs.Touched.{HasSameAsks, NeedsStay, asked_of}
+use Rattle.net_rules.specs.Touched.{HasSameRequests, NeedsStay, asked_of}
 use Rattle.net_rules.proofs.AboveLemmas.{above_stays, places_stay, needs_off, uses_off, needs_stay}
 use Rattle.net_rules.proofs.TouchEventLemmas.{device_differs}
 use Rattle.net_rules.proofs.AskedLemmas.{asked_then}
 use Rattle.net_rules.proofs.ToldLemmas.{told_then}
 use Rattle.net_view.specs.Places.{is_place}
-use Rattle.net_reach.specs.Reach.{told_layer, interface_place, layer_at, is_at_device, is_at_layer, IsTouched, AreTouched}
+use Rattle.net_reach.specs.Reach.{told_l3_device, interface_place, l3_device_at, is_at_device, is_at_l3_device, IsTouched, AreTouched}
 use Rattle.asked_places.specs.Touched.{is_touched}
 use Rattle.touch_laws.specs.Staying.{StaysAs, FollowTouched}
 use Rattle.touch_laws.proofs.PlaceLemmas.{StandsAt, first_stands, itself, touched_at}
@@ -43,27 +43,27 @@ module _ (inputs : Inputs) (row : InterfaceRow) (name : List ℕ) (place : ℕ) 
   told = option_and_then (λ (a : Answer). a.device) ((facts_of inputs).answer row.name)
 
   -- the first row of a name has the answers for it
-  layer_is : layer_at inputs place row ≡ told_layer inputs row.name
-  layer_is = ap (λ (b : Bool). let o : Option (List ℕ) = if b then told_layer inputs row.name else None in o) (ap (is_place place) first ∙ itself place)
+  l3_device_is : l3_device_at inputs place row ≡ told_l3_device inputs row.name
+  l3_device_is = ap (λ (b : Bool). let o : Option (List ℕ) = if b then told_l3_device inputs row.name else None in o) (ap (is_place place) first ∙ itself place)
 
-  at_own : own ≡ Some name → (is_at_device inputs name row || is_at_layer inputs name place row) ≡ true
-  at_own is = of_left (is_at_device inputs name row) (is_at_layer inputs name place row) (ap (λ d. is_name d name) is ∙ same_bytes name name refl)
+  at_own : own ≡ Some name → (is_at_device inputs name row || is_at_l3_device inputs name place row) ≡ true
+  at_own is = of_left (is_at_device inputs name row) (is_at_l3_device inputs name place row) (ap (λ d. is_name d name) is ∙ same_bytes name name refl)
 
-  at_told : told ≡ Some name → (is_at_device inputs name row || is_at_layer inputs name place row) ≡ true
-  at_told is = of_right (is_at_device inputs name row) (is_at_layer inputs name place row) (ap (λ d. is_name d name) (layer_is ∙ sym (told_by (open_interface inputs.interfaces row.name)) ∙ is) ∙ same_bytes name name refl)
+  at_told : told ≡ Some name → (is_at_device inputs name row || is_at_l3_device inputs name place row) ≡ true
+  at_told is = of_right (is_at_device inputs name row) (is_at_l3_device inputs name place row) (ap (λ d. is_name d name) (l3_device_is ∙ sym (told_by (open_interface inputs.interfaces row.name)) ∙ is) ∙ same_bytes name name refl)
 
-  by_told : (d : Option (List ℕ)) → told ≡ d → device_or_own d own ≡ Some name → (is_at_device inputs name row || is_at_layer inputs name place row) ≡ true
-  by_told None is layer = at_own layer
-  by_told (Some d) is layer = at_told (is ∙ layer)
+  by_told : (d : Option (List ℕ)) → told ≡ d → device_or_own d own ≡ Some name → (is_at_device inputs name row || is_at_l3_device inputs name place row) ≡ true
+  by_told None is l3_device = at_own l3_device
+  by_told (Some d) is l3_device = at_told (is ∙ l3_device)
 
-  layer_by : (b : Bool) → asks_nothing row.proto ≡ b → layer_of (facts_of inputs) row ≡ Some name → (is_at_device inputs name row || is_at_layer inputs name place row) ≡ true
-  layer_by true none layer = at_own (sym (ap (λ b. device_or_own (option_and_then (λ (a : Answer). a.device) (if b then None else (facts_of inputs).answer row.name)) own) none) ∙ layer)
-  layer_by false some layer = by_told told refl (sym (ap (λ b. device_or_own (option_and_then (λ (a : Answer). a.device) (if b then None else (facts_of inputs).answer row.name)) own) some) ∙ layer)
+  l3_device_by : (b : Bool) → asks_nothing row.proto ≡ b → l3_device_of (facts_of inputs) row ≡ Some name → (is_at_device inputs name row || is_at_l3_device inputs name place row) ≡ true
+  l3_device_by true none l3_device = at_own (sym (ap (λ b. device_or_own (option_and_then (λ (a : Answer). a.device) (if b then None else (facts_of inputs).answer row.name)) own) none) ∙ l3_device)
+  l3_device_by false some l3_device = by_told told refl (sym (ap (λ b. device_or_own (option_and_then (λ (a : Answer). a.device) (if b then None else (facts_of inputs).answer row.name)) own) some) ∙ l3_device)
 
-  pub at_layer_of : layer_of (facts_of inputs) row ≡ Some name → (is_at_device inputs name row || is_at_layer inputs name place row) ≡ true
-  at_layer_of layer = layer_by (asks_nothing row.proto) refl layer
+  pub at_l3_device_of : l3_device_of (facts_of inputs) row ≡ Some name → (is_at_device inputs name row || is_at_l3_device inputs name place row) ≡ true
+  at_l3_device_of l3_device = l3_device_by (asks_nothing row.proto) refl l3_device
 
-  pub at_device_of : device_of (facts_of inputs) row ≡ Some name → (is_at_device inputs name row || is_at_layer inputs name place row) ≡ true
+  pub at_device_of : device_of (facts_of inputs) row ≡ Some name → (is_at_device inputs name row || is_at_l3_device inputs name place row) ≡ true
   at_device_of is = at_own is
 
 -- an interface that is not touched is at no name above
@@ -72,21 +72,21 @@ module _ (inputs : Inputs) (base : List ℕ) (places : List ℕ) (are : AreTouch
   abbrev stands : StandsAt inputs.conf row
   stands = first_stands inputs.conf row member
 
-  not_at : (name : List ℕ) → (is_at_device inputs name row || is_at_layer inputs name stands.place row) ≡ true → IsAbove (facts_of inputs) base name → ⊥
+  not_at : (name : List ℕ) → (is_at_device inputs name row || is_at_l3_device inputs name stands.place row) ≡ true → IsAbove (facts_of inputs) base name → ⊥
   not_at name at above =
       let inside = are.all stands.place (record { row = row; found = stands.found; name = name; at = at; above = above }) in
       let on = touched_at inputs.conf.interfaces places row.name stands.place stands.is inside in
       cc (on, off)
 
-  off_by : (d : Option (List ℕ)) → ((name : List ℕ) → d ≡ Some name → (is_at_device inputs name row || is_at_layer inputs name stands.place row) ≡ true) → IsOffBase (facts_of inputs) base d
+  off_by : (d : Option (List ℕ)) → ((name : List ℕ) → d ≡ Some name → (is_at_device inputs name row || is_at_l3_device inputs name stands.place row) ≡ true) → IsOffBase (facts_of inputs) base d
   off_by None at = tt
   off_by (Some name) at = not_at name (at name refl)
 
   pub device_off : IsOffBase (facts_of inputs) base (device_of (facts_of inputs) row)
   device_off = off_by (device_of (facts_of inputs) row) (λ name is. at_device_of inputs row name stands.place stands.is is)
 
-  pub layer_off : IsOffBase (facts_of inputs) base (layer_of (facts_of inputs) row)
-  layer_off = off_by (layer_of (facts_of inputs) row) (λ name is. at_layer_of inputs row name stands.place stands.is is)
+  pub l3_device_off : IsOffBase (facts_of inputs) base (l3_device_of (facts_of inputs) row)
+  l3_device_off = off_by (l3_device_of (facts_of inputs) row) (λ name is. at_l3_device_of inputs row name stands.place stands.is is)
 
 module _ (inputs : Inputs) (what : DevEvent) where
   abbrev now : Inputs
@@ -104,14 +104,14 @@ module _ (inputs : Inputs) (what : DevEvent) where
         let places_are = places_stay (facts_of inputs) (facts_of now) (name_of what) differs row in
         let device = device_off inputs (name_of what) places are row member off in
         let needs = needs_off (facts_of inputs) (facts_of now) (name_of what) differs row device in
-        let uses = uses_off (facts_of inputs) (facts_of now) (name_of what) differs row device (layer_off inputs (name_of what) places are row member off) in
-        record { device = places_are.0; layer = places_are.1; claimed = needs.0; up = uses.0; need = needs.1; gives = uses.1 }
+        let uses = uses_off (facts_of inputs) (facts_of now) (name_of what) differs row device (l3_device_off inputs (name_of what) places are row member off) in
+        record { device = places_are.0; l3_device = places_are.1; claimed = needs.0; up = uses.0; need = needs.1; gives = uses.1 }
 
     needs_are : NeedsStay (facts_of inputs) (facts_of now) touched
     needs_are = needs_stay (facts_of inputs) (facts_of now) (name_of what) differs touched (λ row member off. device_off inputs (name_of what) places are row member off)
 
-    same_asks : HasSameAsks inputs now
-    same_asks = record { conf = refl; interfaces = refl; radios = refl; next = refl }
+    same_requests : HasSameRequests inputs now
+    same_requests = record { conf = refl; interfaces = refl; radios = refl; next = refl }
 
     after_is : after inputs (event.Device what) ≡ asked now
     unfolding after
@@ -119,8 +119,8 @@ module _ (inputs : Inputs) (what : DevEvent) where
 
     pub follows : IsReached inputs → FollowTouched inputs (event.Device what) touched
     follows reached =
-        let asks : after inputs (event.Device what) ≡ asked_of touched now = after_is ∙ asked_then inputs now touched reached same_asks needs_are in
-        record { follow = asks; told = ap (notices_between inputs) asks ∙ told_then inputs now touched reached same_asks }
+        let requests : after inputs (event.Device what) ≡ asked_of touched now = after_is ∙ asked_then inputs now touched reached same_requests needs_are in
+        record { follow = requests; told = ap (notices_between inputs) requests ∙ told_then inputs now touched reached same_requests }
 
   -- the walk finds the same before and after
   touched_then : (base : List ℕ) (place : ℕ) → IsTouched inputs base place → IsTouched now base place
@@ -128,7 +128,7 @@ module _ (inputs : Inputs) (what : DevEvent) where
     row = is.row;
     found = is.found;
     name = is.name;
-    at = ap (λ d. is_name d is.name || is_at_layer inputs is.name place is.row) (places_stay (facts_of inputs) (facts_of now) (name_of what) differs is.row).0 ∙ is.at;
+    at = ap (λ d. is_name d is.name || is_at_l3_device inputs is.name place is.row) (places_stay (facts_of inputs) (facts_of now) (name_of what) differs is.row).0 ∙ is.at;
     above = (above_stays (facts_of inputs) (facts_of now) (name_of what) differs base is.name).0 is.above;
   }
 
@@ -137,7 +137,7 @@ module _ (inputs : Inputs) (what : DevEvent) where
     row = is.row;
     found = is.found;
     name = is.name;
-    at = ap (λ d. is_name d is.name || is_at_layer inputs is.name place is.row) (sym (places_stay (facts_of inputs) (facts_of now) (name_of what) differs is.row).0) ∙ is.at;
+    at = ap (λ d. is_name d is.name || is_at_l3_device inputs is.name place is.row) (sym (places_stay (facts_of inputs) (facts_of now) (name_of what) differs is.row).0) ∙ is.at;
     above = (above_stays (facts_of inputs) (facts_of now) (name_of what) differs base is.name).1 is.above;
   }
 

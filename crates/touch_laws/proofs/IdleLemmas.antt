@@ -1,4 +1,4 @@
--- Asks that are needed stay.
+-- Requests that are needed stay.
 use Rattle.std.proofs.Common.{ℕ, ◌≡◌, List, [], ◌++◌, map, Bool, refl, ap, sym, ◌∙◌}
 use Rattle.std.specs.Prelude.{filter, nat_le}
 use Rattle.std.specs.Ordering.{nat_cmp}
@@ -12,20 +12,20 @@ use Rattle.net_rules.specs.Fresh.{IsReached}
 use Rattle.net_rules.proofs.AfterLemmas.{idle}
 use Rattle.net_rules.proofs.ReachedLemmas.{reached_kept}
 use Rattle.net_rules.proofs.NumberLemmas.{reached_numbered}
-use Rattle.net_rules.specs.Touched.{HasSameAsks, asked_of}
+use Rattle.net_rules.specs.Touched.{HasSameRequests, asked_of}
 use Rattle.net_rules.proofs.TouchNumberLemmas.{none_lost, none_new}
 use Rattle.net_rules.proofs.AskedLemmas.{asked_then}
 use Rattle.net_rules.proofs.ToldLemmas.{told_then}
 use Rattle.touch_laws.specs.Staying.{told_of}
 
 module _ (inputs : Inputs) (reached : IsReached inputs) where
-  same_asks : HasSameAsks inputs inputs
-  same_asks = record { conf = refl; interfaces = refl; radios = refl; next = refl }
+  same_requests : HasSameRequests inputs inputs
+  same_requests = record { conf = refl; interfaces = refl; radios = refl; next = refl }
 
-  pub asks_stay : (touched : List ℕ → Bool) → asked_of touched inputs ≡ inputs
-  asks_stay touched =
+  pub requests_stay : (touched : List ℕ → Bool) → asked_of touched inputs ≡ inputs
+  requests_stay touched =
       let kept = reached_kept inputs reached in
-      sym (asked_then inputs inputs touched reached same_asks (λ name off. refl)) ∙ idle inputs kept.single kept.are.radios kept.are.interfaces
+      sym (asked_then inputs inputs touched reached same_requests (λ name off. refl)) ∙ idle inputs kept.single kept.are.radios kept.are.interfaces
 
   -- between a moment and itself nothing is told
   abbrev new_interfaces : List OpenInterface
@@ -41,4 +41,4 @@ module _ (inputs : Inputs) (reached : IsReached inputs) where
       ∙ ap (λ os. map (radio_notice inputs.conf) os) (none_new (λ (o : OpenRadio). o.number) inputs.next 1 inputs.radios (reached_numbered inputs reached).radios)
 
   pub none_told : (touched : List ℕ → Bool) → told_of touched inputs ≡ []
-  none_told touched = sym (told_then inputs inputs touched reached same_asks) ∙ ap (notices_between inputs) (asks_stay touched) ∙ nothing_between
+  none_told touched = sym (told_then inputs inputs touched reached same_requests) ∙ ap (notices_between inputs) (requests_stay touched) ∙ nothing_between

@@ -1,6 +1,6 @@
 pub mod PlaceLemmas
 pub mod DeviceLemmas
-pub mod CommandLemmas
+pub mod OperatorStateLemmas
 pub mod IdleLemmas
 pub mod OwnLemmas
 pub mod StateLemmas

@@ -26,7 +26,7 @@ use Rattle.asked_places.specs.Touched.{has, names_of_rows, is_touched}
 use Rattle.asked_places.proofs.PlaceLemmas.{place_of_first}
 use Rattle.touch_laws.specs.Staying.{StaysAs}
 use Rattle.touch_laws.proofs.DeviceLemmas as devices
-use Rattle.touch_laws.proofs.CommandLemmas as commands
+use Rattle.touch_laws.proofs.OperatorStateLemmas as operator_states
 
 -- what is found is a member
 found_by : {X : Type 0} (y : X) (ys : List X) (x : X) (b : Bool) (rest : Option X) → (rest ≡ Some x → Contains ys x) → cond b (Some y) rest ≡ Some x → Contains (y ∷ ys) x
@@ -58,7 +58,7 @@ module _ (conf : Conf) (place : ℕ) (row : InterfaceRow) (at : slice_get conf.i
 state_stays : (before now : Facts) (row : InterfaceRow) (st : InterfaceState) → StaysAs before now row → IsStateOf before row st → IsStateOf now row st
 state_stays before now row st stays is = record {
   device = is.device ∙ sym stays.device;
-  layer = is.layer ∙ sym stays.layer;
+  l3_device = is.l3_device ∙ sym stays.l3_device;
   claimed = is.claimed ∙ sym stays.claimed;
   up = is.up ∙ sym stays.up;
 }
@@ -70,9 +70,9 @@ behind_device inputs what places place row st are at first outside is =
     state_stays (facts_of inputs) (facts_of (changed inputs (event.Device what))) row st
     (devices.stays_as inputs what places are row (first_among inputs.conf place row at first) (untouched_at inputs.conf place row at first places outside)) is
 
-pub behind_command : (inputs : Inputs) (interface : List ℕ) (up : Bool) (own place : ℕ) (row : InterfaceRow) (st : InterfaceState) → place_of (names_of_rows inputs.conf.interfaces) interface ≡ Some own
+pub behind_operator_state : (inputs : Inputs) (interface : List ℕ) (up : Bool) (own place : ℕ) (row : InterfaceRow) (st : InterfaceState) → place_of (names_of_rows inputs.conf.interfaces) interface ≡ Some own
     → slice_get inputs.conf.interfaces place ≡ Some row
     → is_first inputs.conf.interfaces place row.name ≡ true → (Contains (own ∷ []) place → ⊥) → IsStateOf (facts_of inputs) row st → IsStateOf (facts_of (changed inputs (event.Operator interface up))) row st
-behind_command inputs interface up own place row st is_own at first outside is =
+behind_operator_state inputs interface up own place row st is_own at first outside is =
     state_stays (facts_of inputs) (facts_of (changed inputs (event.Operator interface up))) row st
-    (commands.stays_as inputs interface up own is_own row (untouched_at inputs.conf place row at first (own ∷ []) outside)) is
+    (operator_states.stays_as inputs interface up own is_own row (untouched_at inputs.conf place row at first (own ∷ []) outside)) is

@@ -7,7 +7,7 @@ ghost use Rattle.net_rules.specs.declared.inputs.Inputs.{Inputs};
 ghost use Rattle.net_rules.specs.declared.inputs.OpenInterface.{OpenInterface};
 ghost use Rattle.net_rules.specs.declared.event.Event.TheVariants as event;
 ghost use Rattle.net_rules.specs.Rows.{interfaces_of, interface_named};
-ghost use Rattle.net_rules.specs.Need.{interface_ask};
+ghost use Rattle.net_rules.specs.Need.{interface_request};
 ghost use Rattle.net_rules.specs.Inputs.{facts_of};
 ghost use Rattle.net_rules.specs.After.{changed};
 ghost use Rattle.net_rules.specs.Fresh.{IsReached};
@@ -21,8 +21,8 @@ ghost use Rattle.asked_places.specs.Touched.{is_touched};
 ghost use Rattle.touch_laws.specs.Staying.{StaysAs, FollowTouched, told_of};
 
 /// What happens to a device leaves alone each interface that does not stand at one of the places
-/// that the walk up from its name finds. The asks of the others alone follow it. The walk finds the
-/// same before and after it.
+/// that the walk up from its name finds. The requests of the others alone follow it. The walk finds
+/// the same before and after it.
 pub fn devices_touch_the_places_above()
     ensures stay { (inputs : Inputs) (what : DevEvent) (places : List ℕ) (row : InterfaceRow)
         → AreTouched inputs (name_of what) places → Contains (interfaces_of inputs.conf) row
@@ -36,9 +36,9 @@ pub fn devices_touch_the_places_above()
         ↔ AreTouched inputs (name_of what) places }
 {}
 
-/// A command leaves alone each interface that does not stand at the place of its own, and the asks
-/// of that one alone follow it.
-pub fn commands_touch_one_place()
+/// An operator state leaves alone each interface that does not stand at the place of its own, and
+/// the requests of that one alone follow it.
+pub fn operator_states_touch_one_place()
     ensures stay { (inputs : Inputs) (interface : List ℕ) (up : Bool) (place : ℕ)
         (row : InterfaceRow)
         → place_of (map (λ row. row.name) inputs.conf.interfaces) interface ≡ Some place
@@ -51,20 +51,20 @@ pub fn commands_touch_one_place()
         (is_touched inputs.conf.interfaces (place ∷ [])) }
 {}
 
-/// Inputs that events led to have the asks that they need: whichever interfaces are touched, their
-/// asks stay, and nothing is told. Each is what the handler of its row is asked.
-pub fn needed_asks_stay()
+/// Inputs that events led to have the requests that they need: whichever interfaces are touched,
+/// their asks stay, and nothing is told. Each is what the handler of its row is asked.
+pub fn needed_requests_stay()
     ensures stay { (inputs : Inputs) (touched : List ℕ → Bool) → IsReached inputs
         → asked_of touched inputs ≡ inputs }
     ensures told { (inputs : Inputs) (touched : List ℕ → Bool) → IsReached inputs
         → told_of touched inputs ≡ [] }
     ensures own { (inputs : Inputs) (o : OpenInterface) (row : InterfaceRow) → IsReached inputs
-        → Contains inputs.interfaces o → interface_named inputs.conf o.ask.name ≡ Some row
-        → o.ask ≡ interface_ask (facts_of inputs) row }
+        → Contains inputs.interfaces o → interface_named inputs.conf o.request.name ≡ Some row
+        → o.request ≡ interface_request (facts_of inputs) row }
 {}
 
 /// What the first row of a name is stays so where its place is none of those that a device touches,
-/// and not that of a command's interface.
+/// and not that of an operator state's interface.
 pub fn untouched_states_stay()
     ensures device { (inputs : Inputs) (what : DevEvent) (places : List ℕ) (place : ℕ)
         (row : InterfaceRow) (st : InterfaceState) → AreTouched inputs (name_of what) places
@@ -72,7 +72,7 @@ pub fn untouched_states_stay()
         → is_first inputs.conf.interfaces place row.name ≡ true → (Contains places place → ⊥)
         → IsStateOf (facts_of inputs) row st
         → IsStateOf (facts_of (changed inputs (event.Device what))) row st }
-    ensures command { (inputs : Inputs) (interface : List ℕ) (up : Bool) (own place : ℕ)
+    ensures operator_state { (inputs : Inputs) (interface : List ℕ) (up : Bool) (own place : ℕ)
         (row : InterfaceRow) (st : InterfaceState)
         → place_of (map (λ row. row.name) inputs.conf.interfaces) interface ≡ Some own
         → slice_get inputs.conf.interfaces place ≡ Some row

@@ -208,16 +208,16 @@ with_left_before : (x : Opt) (left : Option Value) (rest : List Opt) → AllByRe
 with_left_before x None rest l d = d
 with_left_before x (Some value) rest l d = (lacks_of x.name rest l, d)
 
-with_left_behind : (x y : Opt) (left : Option Value) → x.name ≢ y.name → AllByRecursion (λ (option : Opt). option.name ≢ y.name) (with_left x left)
-with_left_behind x y None n = tt
-with_left_behind x y (Some value) n = (n, tt)
+with_left_after : (x y : Opt) (left : Option Value) → x.name ≢ y.name → AllByRecursion (λ (option : Opt). option.name ≢ y.name) (with_left x left)
+with_left_after x y None n = tt
+with_left_after x y (Some value) n = (n, tt)
 
 left_apart : (item : List ℕ) → StaysApart (λ option. Unit {0}) (λ option. Ok (with_left option (left_of item option.value)))
 left_apart item = record {
   before = λ x zs rest e q l d.
       let P : List Opt → Type 0 = λ z. AreDistinct (names_of (z ++ rest)) in
       subst P (sym (ok_same (with_left x (left_of item x.value)) zs e)) (with_left_before x (left_of item x.value) rest l d);
-  behind = λ x y zs e q n. subst (AllByRecursion (λ (option : Opt). option.name ≢ y.name)) (sym (ok_same (with_left x (left_of item x.value)) zs e)) (with_left_behind x y (left_of item x.value) n);
+  behind = λ x y zs e q n. subst (AllByRecursion (λ (option : Opt). option.name ≢ y.name)) (sym (ok_same (with_left x (left_of item x.value)) zs e)) (with_left_after x y (left_of item x.value) n);
 }
 
 any : (options : List Opt) → AllByRecursion (λ option. Unit {0}) options

@@ -34,7 +34,7 @@ folders_front options folder (Some asked) input = passes_front options folder as
 pub words_front : (words : List (List ℕ)) (folder : Folder) (input : List ℕ) → IsAmong folder (uci_passes words folder input)
 words_front words folder input = folders_front (asked_of words).options folder (asked_of words).command input
 
--- the folders of a command are those of the words that ask for it
+-- the folders of a command are those of the words that request for it
 pub alone_images : {D : Type 0} (view : D → View) (words : List (List ℕ)) (asked : Asked) (command : Command) (store : Store) (input : List ℕ) (old new : D)
     → asked ≡ asked_of words → asked.command ≡ Some command → StaysOrStops store view old new (passes asked.options (folder_of store) command input)
     → StaysOrStops store view old new (uci_passes words (folder_of store) input)

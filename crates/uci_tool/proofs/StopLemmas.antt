@@ -103,9 +103,9 @@ images_join view store mid a b c first second all same good front behind (inr on
     inr (stops_join store mid (view a) (view b) (view c) first second all same good front behind one two)
 
 -- behind calls that were done
-pub images_behind : {X D : Type 0} (view : D → View) (value : X) (store mid : Store) (a b c : D) (s t : View) (all second : List Folder) → Writes {X = X} (Ok value) store mid (view a) (view b) s t → AreAmong second all
+pub images_after : {X D : Type 0} (view : D → View) (value : X) (store mid : Store) (a b c : D) (s t : View) (all second : List Folder) → Writes {X = X} (Ok value) store mid (view a) (view b) s t → AreAmong second all
     → StaysOrStops store view a b all → StaysOrStops mid view b c second → StaysOrStops store view a c all
-images_behind view value store mid a b c s t all second writes behind one two =
+images_after view value store mid a b c s t all second writes behind one two =
     images_join view store mid a b c all second all writes.same (writes.files.ready writes.closes) (λ found h. h) behind one two
 
 -- ---- commits
@@ -123,7 +123,7 @@ pub commits_images : {D : Type 0} (view : D → View) (old now : Store) (a b e :
     → StaysOrStops old view a b (commit_passes (folder_of old) (names_of old)) → StaysOrStops now view b e (step_to (folder_of now) (commit_package (folder_of now) name))
     → StaysOrStops old view a e (commit_passes (folder_of old) (names_of old))
 commits_images view old now a b e s t place name so inside is one two =
-    images_behind view (tt {0}) old now a b e s t (commit_passes (folder_of old) (names_of old)) (step_to (folder_of now) (commit_package (folder_of now) name)) so.writes
+    images_after view (tt {0}) old now a b e s t (commit_passes (folder_of old) (names_of old)) (step_to (folder_of now) (commit_package (folder_of now) name)) so.writes
     (λ found h. so.among found (subst (λ (z : List (List ℕ)). IsAmong found (commit_passes (folder_of now) z)) (sym (from_here (names_of old) place name inside is))
     (step_within (folder_of now) found name (drop (place + 1) (names_of old)) (commit_package (folder_of now) name) refl h)))
     one two
@@ -134,7 +134,7 @@ pub lines_images : {D : Type 0} (view : D → View) (options : Options) (old now
     → LinesSoFar options old now (view a) (view b) s t lines place output told refusal → place < length lines → line ≡ slice_index_or lines place line
     → StaysOrStops old view a b (lines_passes options (folder_of old) lines) → StaysOrStops now view b e (line_passes options (folder_of now) line.words) → StaysOrStops old view a e (lines_passes options (folder_of old) lines)
 lines_images view options old now a b e s t lines place line output told refusal so inside is one two =
-    images_behind view (tt {0}) old now a b e s t (lines_passes options (folder_of old) lines) (line_passes options (folder_of now) line.words) so.writes
+    images_after view (tt {0}) old now a b e s t (lines_passes options (folder_of old) lines) (line_passes options (folder_of now) line.words) so.writes
     (λ found h. lines_among options old now (view a) (view b) s t lines place line output told refusal found so inside is h)
     one two
 

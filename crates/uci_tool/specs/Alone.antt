@@ -13,11 +13,11 @@ abbrev pub asked_carried : Options → Folder → Option Command → Option Carr
 asked_carried options folder None = None
 asked_carried options folder (Some command) = Some (carried options folder command [])
 
--- what words come to that ask for a command; its input is empty
+-- what words come to that request for a command; its input is empty
 abbrev pub words_carried : List (List ℕ) → Folder → Option Carried
 words_carried words folder = let asked = asked_of words in asked_carried asked.options folder asked.command
 
--- the report of it, and the folder behind it; words that ask for none have no report, and change nothing
+-- the report of it, and the folder behind it; words that request for none have no report, and change nothing
 abbrev pub ReportsWords : List (List ℕ) → Folder → Folder → Option Report → Type 0
 ReportsWords words before after None = (words_carried words before ≡ None) × (after ≡ before)
 ReportsWords words before after (Some report) = words_carried words before ≡ Some (carried_as report after)

@@ -43,7 +43,7 @@ pub record RunComes (words : List (List ℕ)) (told : Option (ℕ → ℕ)) (str
     (files files_now staged staged_now : View) (status : ℕ) : Type 0 where
   -- where no count rose, no device is told to have failed
   pub calm : IsCalm streams files files_now staged staged_now → (status ≡ 3) ⊎ ((status ≡ 4) ⊎ (status ≡ 5)) → ⊥
-  -- words that ask for no command
+  -- words that request for no command
   pub no_command : asks words ≡ false → OrLacksMemory (status ≡ 2) status
   -- files that pass a limit, unless a count of a disk rose
   pub too_large : (now : ℕ) (read : Files) (number : ℕ) → IsAsked words told files now read

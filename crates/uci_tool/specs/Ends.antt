@@ -84,7 +84,7 @@ IsPassed words before after stream =
 abbrev pub Tells : List (List ℕ) → List ℕ → Stream → Type 0
 Tells words text stream = IsTold (told_by (asked_of words).options text) stream
 
--- Want of memory is told so. Where there was none to read the words, it is told also to words that ask for silence.
+-- Want of memory is told so. Where there was none to read the words, it is told also to words that request for silence.
 abbrev pub TellsMemory : List (List ℕ) → Stream → Type 0
 TellsMemory words stream = Tells words texts.OUT_OF_MEMORY.now stream ⊎ IsTold texts.OUT_OF_MEMORY.now stream
 

@@ -63,7 +63,7 @@ pub fn run_uci<D: Disk, T: Disk, S: Source, O: Sink, E: Sink, C: Clock>(
     ensures once { (clock.new ≡ clock.old) ⊎ ((now : ℕ)
         × Advances (C.moments clock.old) (C.moments clock.new) now) }
 
-    // Words that ask for no command leave all but the error output alone.
+    // Words that request for no command leave all but the error output alone.
     ensures unasked { asks words.now ≡ false → (input.new ≡ input.old)
         × (out.new ≡ out.old) × (files.new ≡ files.old) × (staged.new ≡ staged.old)
         × (clock.new ≡ clock.old) }

@@ -26,7 +26,7 @@ returns-in-Ok-Some-clause-ends g c =
     } in
     let gathered : Gathered = record {
       sent = c.serve.new.told;
-      asks = c.args.gathered.now.asks;
+      requests = c.args.gathered.now.requests;
       refusal = c.args.gathered.now.refusal;
     } in
     let world = world_of c.args.now c.args.store.now c.args.callers.now c.args.net.now in
@@ -68,7 +68,7 @@ returns-in-Ok-None-clause-ends g c =
     } in
     let gathered : Gathered = record {
       sent = c.serve.new.told;
-      asks = c.args.gathered.now.asks;
+      requests = c.args.gathered.now.requests;
       refusal = c.args.gathered.now.refusal;
     } in
     let world = world_of c.args.now c.args.store.now c.args.callers.now c.args.net.now in

@@ -28,7 +28,7 @@ loop-frame-init g c =
         none_served world c.args.number seen c.new-gathered.result
             (nothing_asked (g.K.Kernel.asked c.args.kernel.now) (g.K.Kernel.faults c.args.kernel.now))
             (uses_none (supply_of c.args.callers.now.spare.word words))
-            c.new-gathered.ensures.sent c.new-gathered.ensures.asks c.new-gathered.ensures.refusal,
+            c.new-gathered.ensures.sent c.new-gathered.ensures.requests c.new-gathered.ensures.refusal,
       );
       told = c.requires.told;
       of = c.requires.of;

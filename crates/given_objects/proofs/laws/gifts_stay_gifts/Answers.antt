@@ -1,4 +1,4 @@
-use Rattle.given_objects.proofs.KeepLemmas.{no_gifts, place_gifts, give_gifts, withdraw_gifts, note_gifts, falls_gifts}
+use Rattle.given_objects.proofs.KeepLemmas.{no_gifts, place_gifts, give_gifts, withdraw_gifts, note_gifts, loses_link_gifts}
 use Rattle.given_objects.proofs.laws.gifts_stay_gifts.Goals as goal
 
 pub returns-clause-none : goal.returns-clause-none
@@ -16,5 +16,5 @@ returns-clause-withdraw c = withdraw_gifts
 pub returns-clause-note : goal.returns-clause-note
 returns-clause-note c = note_gifts
 
-pub returns-clause-falls : goal.returns-clause-falls
-returns-clause-falls c = falls_gifts
+pub returns-clause-loses_link : goal.returns-clause-loses_link
+returns-clause-loses_link c = loses_link_gifts

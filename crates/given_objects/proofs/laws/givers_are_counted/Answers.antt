@@ -1,4 +1,4 @@
-use Rattle.given_objects.proofs.PlaceLemmas.{give_givers, withdraw_givers, give_others, withdraw_others, place_givers, note_givers, falls_givers}
+use Rattle.given_objects.proofs.PlaceLemmas.{give_givers, withdraw_givers, give_others, withdraw_others, place_givers, note_givers, loses_link_givers}
 use Rattle.given_objects.proofs.laws.givers_are_counted.Goals as goal
 
 pub returns-clause-give : goal.returns-clause-give
@@ -19,5 +19,5 @@ returns-clause-expect c = place_givers
 pub returns-clause-note : goal.returns-clause-note
 returns-clause-note c = note_givers
 
-pub returns-clause-falls : goal.returns-clause-falls
-returns-clause-falls c = falls_givers
+pub returns-clause-loses_link : goal.returns-clause-loses_link
+returns-clause-loses_link c = loses_link_givers

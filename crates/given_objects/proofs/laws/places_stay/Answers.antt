@@ -1,4 +1,4 @@
-use Rattle.given_objects.proofs.PlaceLemmas.{place_itself, place_others, give_places, withdraw_places, note_places, falls_places}
+use Rattle.given_objects.proofs.PlaceLemmas.{place_itself, place_others, give_places, withdraw_places, note_places, loses_link_places}
 use Rattle.given_objects.proofs.laws.places_stay.Goals as goal
 
 pub returns-clause-itself : goal.returns-clause-itself
@@ -16,5 +16,5 @@ returns-clause-withdraw c = withdraw_places
 pub returns-clause-note : goal.returns-clause-note
 returns-clause-note c = note_places
 
-pub returns-clause-falls : goal.returns-clause-falls
-returns-clause-falls c = falls_places
+pub returns-clause-loses_link : goal.returns-clause-loses_link
+returns-clause-loses_link c = loses_link_places

@@ -1,5 +1,5 @@
 use Rattle.kern_calls.proofs.PartLemmas.{in_parts, first_in_parts}
-use Rattle.kern_calls.proofs.UpperLemmas.{upper_taken, upper_put, falls_in_parts, one_order}
+use Rattle.kern_calls.proofs.UpperLemmas.{upper_taken, upper_put, loses_link_in_parts, one_order}
 use Rattle.kern_calls.proofs.part_laws.calls_come_in_parts.Goals as goal
 
 pub returns-clause-parts : goal.returns-clause-parts
@@ -14,8 +14,8 @@ returns-clause-take c = upper_taken
 pub returns-clause-put : goal.returns-clause-put
 returns-clause-put c = upper_put
 
-pub returns-clause-falls : goal.returns-clause-falls
-returns-clause-falls c = falls_in_parts
+pub returns-clause-loses_link : goal.returns-clause-loses_link
+returns-clause-loses_link c = loses_link_in_parts
 
 pub returns-clause-order : goal.returns-clause-order
 returns-clause-order c = one_order

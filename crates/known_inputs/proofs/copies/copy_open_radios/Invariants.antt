@@ -2,5 +2,5 @@ use Rattle.std.proofs.Common.{◌≡◌, take}
 use Rattle.known_inputs.proofs.copies.copy_open_radios.Given as goal
 
 -- the copies so far
-abbrev pub invariant-loop-ask : goal.invariant-loop-ask
-invariant-loop-ask l = l.copies ≡ take l.ask-index l.asks
+abbrev pub invariant-loop-request : goal.invariant-loop-request
+invariant-loop-request l = l.copies ≡ take l.request-index l.requests

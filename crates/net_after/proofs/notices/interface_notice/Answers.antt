@@ -7,6 +7,6 @@ use Rattle.net_after.proofs.notices.interface_notice.Goals as goal
 
 pub returns : goal.returns
 returns c =
-    ap (λ (place : ℕ). notice.Interface c.args.asked.now.number place c.args.asked.now.ask.device)
+    ap (λ (place : ℕ). notice.Interface c.args.asked.now.number place c.args.asked.now.request.device)
     (c.place_or_first-row.ensures (map (λ (row : InterfaceRow). row.name) c.args.conf.now.interfaces) c.requires
-    ∙ ap (λ (o : Option ℕ). unwrap_or o 0) (row_place (λ (row : InterfaceRow). row.name) c.args.conf.now.interfaces c.args.asked.now.ask.name))
+    ∙ ap (λ (o : Option ℕ). unwrap_or o 0) (row_place (λ (row : InterfaceRow). row.name) c.args.conf.now.interfaces c.args.asked.now.request.name))

@@ -9,4 +9,4 @@ pub returns : goal.returns
 returns c =
     ap (λ (place : ℕ). notice.Radio c.args.asked.now.number place)
     (c.place_or_first-row.ensures (map (λ (row : RadioRow). row.name) c.args.conf.now.radios) c.requires
-    ∙ ap (λ (o : Option ℕ). unwrap_or o 0) (row_place (λ (row : RadioRow). row.name) c.args.conf.now.radios c.args.asked.now.ask.name))
+    ∙ ap (λ (o : Option ℕ). unwrap_or o 0) (row_place (λ (row : RadioRow). row.name) c.args.conf.now.radios c.args.asked.now.request.name))

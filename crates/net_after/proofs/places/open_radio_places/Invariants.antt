@@ -4,4 +4,4 @@ use Rattle.net_after.proofs.places.open_radio_places.Given as goal
 
 -- the map has the places of the names so far
 abbrev pub invariant-loop-place : goal.invariant-loop-place
-invariant-loop-place l = HasPlaces l.places (map (λ x. x.ask.name) (take l.place l.current))
+invariant-loop-place l = HasPlaces l.places (map (λ x. x.request.name) (take l.place l.current))

@@ -10,16 +10,16 @@ use Rattle.net_rules.specs.Need.{interface_need, radio_need}
 use Rattle.net_after.proofs.AskedLemmas.{still_countable, needs_now, conf_now, next_now, asked_ok}
 use Rattle.net_after.proofs.steps.asked.Goals as goal
 
-pub asks_opened-requires-clause-countable : goal.asks_opened-requires-clause-countable
-asks_opened-requires-clause-countable c = still_countable c.args.inputs c.in_ok-left.left (next_now c.args.inputs c.in_ok-dropped.dropped c.in_ok-left.left c.in_ok-dropped.ensures c.in_ok-left.ensures) c.requires
+pub requests_opened-requires-clause-countable : goal.requests_opened-requires-clause-countable
+requests_opened-requires-clause-countable c = still_countable c.args.inputs c.in_ok-left.left (next_now c.args.inputs c.in_ok-dropped.dropped c.in_ok-left.left c.in_ok-dropped.ensures c.in_ok-left.ensures) c.requires
 
-pub asks_opened-requires-clause-interfaces : goal.asks_opened-requires-clause-interfaces
-asks_opened-requires-clause-interfaces c = needs_now c.in_ok-dropped.dropped c.in_ok-left.left c.in_ok-for_interfaces.for_interfaces c.in_ok-left.ensures
+pub requests_opened-requires-clause-interfaces : goal.requests_opened-requires-clause-interfaces
+requests_opened-requires-clause-interfaces c = needs_now c.in_ok-dropped.dropped c.in_ok-left.left c.in_ok-for_interfaces.for_interfaces c.in_ok-left.ensures
     (c.in_ok-for_interfaces.ensures ∙ ap (λ (z : List InterfaceRow). filter_map (interface_need (facts_of c.in_ok-dropped.dropped)) (firsts (λ row. row.name) z)) c.as_slice-rows.ensures)
 
-pub asks_opened-requires-clause-radios : goal.asks_opened-requires-clause-radios
-asks_opened-requires-clause-radios c = c.in_ok-for_radios.ensures ∙ ap (λ (z : List RadioRow). filter_map radio_need (firsts (λ row. row.name) z)) c.as_slice.ensures
+pub requests_opened-requires-clause-radios : goal.requests_opened-requires-clause-radios
+requests_opened-requires-clause-radios c = c.in_ok-for_radios.ensures ∙ ap (λ (z : List RadioRow). filter_map radio_need (firsts (λ row. row.name) z)) c.as_slice.ensures
     ∙ ap (λ (z : Conf). filter_map radio_need (radios_of z)) (sym (conf_now c.args.inputs c.in_ok-dropped.dropped c.in_ok-left.left c.in_ok-dropped.ensures c.in_ok-left.ensures))
 
 pub returns : goal.returns
-returns c = asked_ok c.args.inputs c.in_ok-dropped.dropped c.in_ok-left.left c.asks_opened.result c.in_ok-dropped.ensures c.in_ok-left.ensures c.asks_opened.ensures
+returns c = asked_ok c.args.inputs c.in_ok-dropped.dropped c.in_ok-left.left c.requests_opened.result c.in_ok-dropped.ensures c.in_ok-left.ensures c.requests_opened.ensures

@@ -10,9 +10,9 @@ use Rattle.net_rules.specs.Interfaces.{device_or_own}
 use Rattle.net_rules.specs.Inputs.{facts_of}
 use Rattle.net_wants.specs.Grouped.{is_route_named}
 use Rattle.gift_places.specs.Expecting.{listed_given, with_places}
-use Rattle.state_asks.proofs.PlaceLemmas.{read_same}
-use Rattle.state_asks.proofs.BecomeLemmas.{stands, device_noted}
-use Rattle.net_follow.specs.Answering.{heard, layer_by}
+use Rattle.state_requests.proofs.PlaceLemmas.{read_same}
+use Rattle.state_requests.proofs.BecomeLemmas.{stands, device_noted}
+use Rattle.net_follow.specs.Answering.{heard, l3_device_by}
 use Rattle.net_follow.proofs.AwaitLemmas.{on_ok}
 use Rattle.net_follow.proofs.MoreLemmas.{none_given, all_given}
 use Rattle.net_follow.proofs.awaiting.expect_answer.Goals as goal
@@ -25,11 +25,11 @@ returns-in_default-clause-places c = λ row there.
     let read : c.index-as_slice-place.result ≡ row = read_same inputs.conf.interfaces c.as_slice.result.now c.args.place c.index-as_slice-place.result row all c.requires.place c.index-as_slice-place.is there in
     let is = stands inputs c.args.states.now c.args.place c.index.result.now c.requires.tied c.requires.place c.index.ensures in
     let device : c.index.result.now.device ≡ device_of (facts_of inputs) row = device_noted inputs c.args.states.now c.requires.tied c.args.place row c.index.result.now there is (c.requires.first c.index.result.now is) in
-    let layer : c.layer_of.result ≡ layer_by (facts_of inputs) row answer =
-    c.layer_of.ensures
+    let l3_device : c.l3_device_of.result ≡ l3_device_by (facts_of inputs) row answer =
+    c.l3_device_of.ensures
     ∙ ap (λ (x : InterfaceRow). device_or_own (option_and_then (λ (a : Answer). a.device) (heard x answer)) c.index.result.now.device) read
     ∙ ap (device_or_own (option_and_then (λ (a : Answer). a.device) (heard row answer))) device in
-    none_given (facts_of inputs) row answer c.args.gifts.now (layer_by (facts_of inputs) row answer) (sym layer ∙ c.in_default.is)
+    none_given (facts_of inputs) row answer c.args.gifts.now (l3_device_by (facts_of inputs) row answer) (sym l3_device ∙ c.in_default.is)
 
 pub returns-clause-places : goal.returns-clause-places
 returns-clause-places c = λ row there.
@@ -39,8 +39,8 @@ returns-clause-places c = λ row there.
     let read : c.index-as_slice-place.result ≡ row = read_same inputs.conf.interfaces c.as_slice.result.now c.args.place c.index-as_slice-place.result row all c.requires.place c.index-as_slice-place.is there in
     let is = stands inputs c.args.states.now c.args.place c.index.result.now c.requires.tied c.requires.place c.index.ensures in
     let device : c.index.result.now.device ≡ device_of (facts_of inputs) row = device_noted inputs c.args.states.now c.requires.tied c.args.place row c.index.result.now there is (c.requires.first c.index.result.now is) in
-    let layer : c.layer_of.result ≡ layer_by (facts_of inputs) row answer =
-    c.layer_of.ensures
+    let l3_device : c.l3_device_of.result ≡ l3_device_by (facts_of inputs) row answer =
+    c.l3_device_of.ensures
     ∙ ap (λ (x : InterfaceRow). device_or_own (option_and_then (λ (a : Answer). a.device) (heard x answer)) c.index.result.now.device) read
     ∙ ap (device_or_own (option_and_then (λ (a : Answer). a.device) (heard row answer))) device in
     let routes : c.as_slice-routes.result.now ≡ inputs.conf.routes = c.as_slice-routes.ensures ∙ ap (λ (conf : Conf). conf.routes) c.conf-conf.ensures.rows in
@@ -49,7 +49,7 @@ returns-clause-places c = λ row there.
     let named : map (slice_get inputs.conf.routes) places ≡ map Some (filter (is_route_named inputs.conf row.name) inputs.conf.routes) =
     subst (λ (x : InterfaceRow). map (slice_get inputs.conf.routes) places ≡ map Some (filter (is_route_named inputs.conf x.name) inputs.conf.routes)) read (c.routes_of-places.ensures inputs c.requires.tied.reach) in
     on_ok c.expect_given.result
-    (λ ok. all_given (facts_of inputs) row answer c.args.gifts.now c.expect_given.new.gifts (layer_by (facts_of inputs) row answer) c.in-Some.dev told places (sym layer ∙ c.in-Some.is)
+    (λ ok. all_given (facts_of inputs) row answer c.args.gifts.now c.expect_given.new.gifts (l3_device_by (facts_of inputs) row answer) c.in-Some.dev told places (sym l3_device ∙ c.in-Some.is)
     (c.heard.ensures ∙ ap (λ (x : InterfaceRow). heard x answer) read) named
     (ok
     ∙ ap (λ (rs : List RouteRow). with_places c.args.gifts.now (listed_given c.index-as_slice-place.result told rs places c.in-Some.dev)) routes

@@ -48,7 +48,7 @@ pub returns-in-Remove-clause-held : goal.returns-in-Remove-clause-held
 returns-in-Remove-clause-held g c = gone_held c.args.settling.now c.leave.new.self c.args.id.0 c.args.event.now c.in-Remove.name c.in-Remove.is c.requires.known c.leave.ensures.graph c.leave.ensures.gifts c.leave.ensures.held
 
 pub returns-in-Remove-clause-calm : goal.returns-in-Remove-clause-calm
-returns-in-Remove-clause-calm g c = gone_calm c.args.settling.now c.leave.new.self c.args.id.0 c.args.event.now c.in-Remove.name c.in-Remove.is c.requires.known c.leave.ensures.graph c.leave.ensures.gifts c.leave.ensures.may_fall
+returns-in-Remove-clause-calm g c = gone_calm c.args.settling.now c.leave.new.self c.args.id.0 c.args.event.now c.in-Remove.name c.in-Remove.is c.requires.known c.leave.ensures.graph c.leave.ensures.gifts c.leave.ensures.may_lose_link
     c.requires.ready
 
 pub returns-in-Remove-clause-loads : goal.returns-in-Remove-clause-loads

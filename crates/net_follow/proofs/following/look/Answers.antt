@@ -5,18 +5,18 @@ use Rattle.net_follow.proofs.following.look.Goals as goal
 
 pub returns-clause-held : goal.returns-clause-held
 returns-clause-held c =
-    let e = c.look_at_falls.ensures in
-    held_looked c.args.settling.now c.look_at_falls.new.settling e.graph e.may_fall e.looked e.quiet
+    let e = c.view_lost_links.ensures in
+    held_looked c.args.settling.now c.view_lost_links.new.settling e.graph e.may_lose_link e.looked e.quiet
 
 pub returns-clause-loads : goal.returns-clause-loads
-returns-clause-loads c = ap (λ (s : State). s.loads) c.look_at_falls.ensures.graph
+returns-clause-loads c = ap (λ (s : State). s.loads) c.view_lost_links.ensures.graph
 
 pub returns-clause-counted : goal.returns-clause-counted
 returns-clause-counted c = λ inputs states counted.
-    let e = c.look_at_falls.ensures in
-    counted_looked c.args.settling.now c.look_at_falls.new.settling e.graph e.may_fall e.looked e.quiet inputs states counted
+    let e = c.view_lost_links.ensures in
+    counted_looked c.args.settling.now c.view_lost_links.new.settling e.graph e.may_lose_link e.looked e.quiet inputs states counted
 
 pub returns-clause-ready : goal.returns-clause-ready
 returns-clause-ready c = λ inputs states history are counted.
-    let e = c.look_at_falls.ensures in
-    ready_looked c.args.settling.now c.look_at_falls.new.settling e.graph e.may_fall e.looked e.quiet inputs c.requires c.is_kept.ensures c.len-count.ensures.gifts history states are counted
+    let e = c.view_lost_links.ensures in
+    ready_looked c.args.settling.now c.view_lost_links.new.settling e.graph e.may_lose_link e.looked e.quiet inputs c.requires c.is_kept.ensures c.len-count.ensures.gifts history states are counted

@@ -1,5 +1,5 @@
-use Rattle.net_anew.proofs.CountedLemmas.{counted_beside}
-use Rattle.net_anew.specs.InStep.{inputs_of}
+use Rattle.net_rebuild.proofs.CountedLemmas.{counted_beside}
+use Rattle.net_rebuild.specs.InStep.{inputs_of}
 use Rattle.net_plane.proofs.net.are_beside.Goals as goal
 
 pub returns-clause-beside : goal.returns-clause-beside

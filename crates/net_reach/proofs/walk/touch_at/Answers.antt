@@ -9,9 +9,9 @@ pub returns-clause-touches : goal.returns-clause-touches
 returns-clause-touches c = record {
   device = still_leads c.args.at_device.now c.args.name.now c.add_all.new.self c.add_all-2.new.self (stays_with c.add_all.new.self c.add_all-2.new.self c.places_at-2.result.now c.add_all-2.ensures)
       (leads_to c.args.at_device.now c.args.name.now c.args.touched.now c.add_all.new.self c.places_at.result.now c.places_at.ensures c.add_all.ensures);
-  layer = leads_to c.args.at_layer.now c.args.name.now c.add_all.new.self c.add_all-2.new.self c.places_at-2.result.now c.places_at-2.ensures c.add_all-2.ensures;
+  l3_device = leads_to c.args.at_l3_device.now c.args.name.now c.add_all.new.self c.add_all-2.new.self c.places_at-2.result.now c.places_at-2.ensures c.add_all-2.ensures;
 }
 
 pub returns-clause-only : goal.returns-clause-only
-returns-clause-only c = touches_only c.args.at_device.now c.args.at_layer.now c.args.name.now c.args.touched.now c.add_all.new.self c.add_all-2.new.self c.places_at.result.now c.places_at-2.result.now c.places_at.ensures
+returns-clause-only c = touches_only c.args.at_device.now c.args.at_l3_device.now c.args.name.now c.args.touched.now c.add_all.new.self c.add_all-2.new.self c.places_at.result.now c.places_at-2.result.now c.places_at.ensures
     c.places_at-2.ensures c.add_all.ensures c.add_all-2.ensures

@@ -8,7 +8,7 @@ use Rattle.net_rules.specs.Notices.{notices}
 use Rattle.net_rules.specs.Moment.{Moment, devices_of, want_of, moment_after}
 use Rattle.net_settle.specs.Outside.{outside_of}
 use Rattle.net_plane.specs.Network.{moment_of, calls_of}
-use Rattle.net_start.specs.Inputs.{rows_of, loading, inputs_with, present_of, start_inputs, start_calls, start_asks, start_wants, lines_of_asks}
+use Rattle.net_start.specs.Inputs.{rows_of, loading, inputs_with, present_of, start_inputs, start_calls, start_requests, start_wants, lines_of_requests}
 use Rattle.net_start.proofs.SettlingLemmas.{ends_as, started}
 use Rattle.net_start.proofs.bring_up.bring_network_up.Goals as goal
 
@@ -36,9 +36,9 @@ returns-clause-ends g c =
     let loaded : moment_of c.load.new.net
     ≡ record { inputs = start_inputs network present; held = set.empty } =
     c.in-Ok-load.ensures.moment ∙ ap (λ m. moment_after m (loading network)) added in
-    let asks : c.as_slice.result.now ≡ start_asks network present =
-    c.as_slice.ensures.value ∙ (c.in-Ok-load.ensures.asks
-    ∙ ap (λ (m : Moment). lines_of_asks (rows_of network) (notices m.inputs (loading network)))
+    let requests : c.as_slice.result.now ≡ start_requests network present =
+    c.as_slice.ensures.value ∙ (c.in-Ok-load.ensures.requests
+    ∙ ap (λ (m : Moment). lines_of_requests (rows_of network) (notices m.inputs (loading network)))
     added) in
     started names network before between after c.settle.result
     (record {
@@ -49,6 +49,6 @@ returns-clause-ends g c =
       out = refl;
       out_faults = refl;
     })
-    (ends_as _ (start_calls network present) _ (start_asks network present) _
-    (start_wants network present) between after c.settle.result (ap calls_at loaded) asks
+    (ends_as _ (start_calls network present) _ (start_requests network present) _
+    (start_wants network present) between after c.settle.result (ap calls_at loaded) requests
     (ap (λ (m : Moment). want_of m.inputs) loaded) c.settle.ensures)

@@ -12,5 +12,5 @@ returns c =
     ∙ ap (is_place c.args.place) (c.requires.ports.index.interfaces c.args.row.now.name)
     ∙ first_by_place inputs.conf.interfaces c.args.place c.args.row.now c.requires.at in
     noted_idle inputs c.args.place c.args.row.now
-    (record { is_first = c.is_first-is_first.result; device = c.device_of.result; layer = None; is_claimed = false; is_up = false; number = c.number_of.result })
+    (record { is_first = c.is_first-is_first.result; device = c.device_of.result; l3_device = None; is_claimed = false; is_up = false; number = c.number_of.result })
     first c.device_of.ensures c.number_of.ensures refl refl

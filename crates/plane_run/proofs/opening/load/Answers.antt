@@ -1,7 +1,7 @@
-use Rattle.plane_run.proofs.OpeningLemmas.{asks_are}
+use Rattle.plane_run.proofs.OpeningLemmas.{requests_are}
 use Rattle.plane_run.proofs.opening.load.Goals as goal
 
-pub returns-in-Ok-lines_of_asks-clause-asks : goal.returns-in-Ok-lines_of_asks-clause-asks
-returns-in-Ok-lines_of_asks-clause-asks c =
-    asks_are c.args.net.now c.load.new.self c.args.network.now c.args.wireless.now
-    c.in-Ok-lines_of_asks.lines.items c.in-Ok.ensures.ok c.in-Ok-lines_of_asks.ensures.lines
+pub returns-in-Ok-lines_of_requests-clause-requests : goal.returns-in-Ok-lines_of_requests-clause-requests
+returns-in-Ok-lines_of_requests-clause-requests c =
+    requests_are c.args.net.now c.load.new.self c.args.network.now c.args.wireless.now
+    c.in-Ok-lines_of_requests.lines.items c.in-Ok.ensures.ok c.in-Ok-lines_of_requests.ensures.lines

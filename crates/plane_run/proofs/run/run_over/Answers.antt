@@ -9,7 +9,7 @@ use Rattle.plane_outside.specs.Supply.{supply_of}
 use Rattle.plane_step.specs.Kept.{faults_of}
 use Rattle.plane_step.specs.ScriptPasses.{ScriptPasses}
 use Rattle.plane_run.specs.Parts.{Over, no_rows}
-use Rattle.plane_run.proofs.RunLemmas.{net_over, went_over, stops_behind, no_spare}
+use Rattle.plane_run.proofs.RunLemmas.{net_over, went_over, stops_after, no_spare}
 use Rattle.plane_run.proofs.run.run_over.Goals as goal
 
 pub returns-in-Ok-open_net-clause-runs : goal.returns-in-Ok-open_net-clause-runs
@@ -65,7 +65,7 @@ returns-in-Ok-open_net-clause-images g c =
       before = outside_of g.O.Sink g.K.Kernel c.args.out.now c.args.kernel.now;
       after = outside_of g.O.Sink g.K.Kernel c.carry_script.new.out c.carry_script.new.kernel;
     } in
-    stops_behind over
+    stops_after over
     (λ words start lines. StaysOrStopsIn c.args.store.now g.D.Disk.view c.args.files.now
     c.carry_script.new.files (ScriptPasses start words lines))
     callers.sessions (part_of callers.bus) (supply_of callers.spare.word source)

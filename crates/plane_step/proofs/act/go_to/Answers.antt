@@ -2,7 +2,7 @@ use Rattle.std.proofs.Common.{inl, refl, Some}
 use Rattle.std.specs.Prelude.{Ok, Err}
 use Rattle.script_lines.specs.declared.script_line.ScriptLine.TheVariants as line
 use Rattle.step_net.specs.Taken.{telled_of}
-use Rattle.step_net.proofs.AskLemmas.{asks_nothing}
+use Rattle.step_net.proofs.RequestLemmas.{asks_nothing}
 use Rattle.plane_step.specs.declared.stop.Stop.TheVariants as stop
 use Rattle.plane_step.proofs.StoreLemmas.{stays_both}
 use Rattle.rpc_objects.specs.Kept.{faults_of}

@@ -9,31 +9,31 @@ use Rattle.script_lines.specs.declared.line_error.LineError.TheVariants as error
 use Rattle.net_plane.specs.Network.{moment_of}
 use Rattle.step_net.specs.NetLine.{NetLine}
 use Rattle.plane_step.specs.Means.{json_of, AnswerAsks}
-use Rattle.step_net.proofs.AskLemmas.{happening_asks}
+use Rattle.step_net.proofs.RequestLemmas.{happening_requests}
 use Rattle.step_net.proofs.AnswerLemmas.{takes_this, takes_refused}
 use Rattle.plane_step.proofs.answer.answer_interface.Goals as goal
 
 pub returns-in_default-found-clause-takes : goal.returns-in_default-found-clause-takes
 returns-in_default-found-clause-takes c =
     let json : None ≡ json_of c.args.json.now = sym (ap (option_map view) c.in_default-found.is) ∙ c.in-Ok.ensures in
-    takes_refused (AnswerAsks c.args.number c.args.interface c.args.ask c.args.json.now)
+    takes_refused (AnswerAsks c.args.number c.args.interface c.args.request c.args.json.now)
     (error.BadLine c.args.number) c.args.net.now c.refuse_line.result (AnswerAsks.no_json (sym json))
     c.requires c.refuse_line.ensures
 
 pub returns-in-Some-read-clause-takes : goal.returns-in-Some-read-clause-takes
 returns-in-Some-read-clause-takes c =
     let json : Some (view c.in-Some.value) ≡ json_of c.args.json.now = sym (ap (option_map view) c.in-Some.is) ∙ c.in-Ok.ensures in
-    let what = event.Answer c.args.interface c.args.ask c.in-Some-read.answer in
-    takes_this (AnswerAsks c.args.number c.args.interface c.args.ask c.args.json.now)
+    let what = event.Answer c.args.interface c.args.request c.in-Some-read.answer in
+    takes_this (AnswerAsks c.args.number c.args.interface c.args.request c.args.json.now)
     (NetLine.happens what) c.args.net.now c.take_answer.new.net c.take_answer.result
     (AnswerAsks.answer (view c.in-Some.value) c.in-Some-read.answer (sym json)
     (subst (λ read. IfSome read (IsAnswer (view c.in-Some.value))) c.in-Some-read.is c.in-Ok-read_answer.ensures.found))
-    (happening_asks (moment_of c.args.net.now) what tt) c.take_answer.ensures.takes
+    (happening_requests (moment_of c.args.net.now) what tt) c.take_answer.ensures.takes
 
 pub returns-in-None-clause-takes : goal.returns-in-None-clause-takes
 returns-in-None-clause-takes c =
     let json : Some (view c.in-Some.value) ≡ json_of c.args.json.now = sym (ap (option_map view) c.in-Some.is) ∙ c.in-Ok.ensures in
-    takes_refused (AnswerAsks c.args.number c.args.interface c.args.ask c.args.json.now)
+    takes_refused (AnswerAsks c.args.number c.args.interface c.args.request c.args.json.now)
     (error.BadLine c.args.number) c.args.net.now c.refuse_line-in-None.result
     (AnswerAsks.no_answer (view c.in-Some.value) (sym json)
     (subst (λ read. IfNone read ((told : Answer) → IsAnswer (view c.in-Some.value) told → ⊥)) c.in-None.is c.in-Ok-read_answer.ensures.none))

@@ -1,7 +1,7 @@
 use Rattle.std.proofs.Common.{Option, ap, sym, subst, ◌∙◌}
 use Rattle.script_lines.specs.declared.script_line.ScriptLine.{ScriptLine}
 use Rattle.script_lines.specs.Lines.{line_of}
-use Rattle.step_net.proofs.AskLemmas.{asks_nothing}
+use Rattle.step_net.proofs.RequestLemmas.{asks_nothing}
 use Rattle.rpc_objects.specs.Kept.{faults_of}
 use Rattle.rpc_objects.specs.Passed.{StaysOrStopsIn}
 use Rattle.step_net.specs.Taken.{telled_of}

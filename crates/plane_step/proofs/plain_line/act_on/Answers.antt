@@ -8,7 +8,7 @@ use Rattle.uci_tool.specs.Stops.{StaysOrStops}
 use Rattle.plane_step.specs.FilesMoved.{files_moved}
 use Rattle.plane_step.specs.Faults.{faults_of}
 use Rattle.plane_step.specs.LineDone.{Front, Read, Behind, CarriesUci}
-use Rattle.step_net.proofs.AskLemmas.{asks_nothing}
+use Rattle.step_net.proofs.RequestLemmas.{asks_nothing}
 use Rattle.plane_step.proofs.ActLemmas.{refused_does}
 use Rattle.plane_step.proofs.CommandLemmas.{uci_does}
 use Rattle.plane_step.proofs.LiftLemmas.{other_stays, is_of_net, net_lifts, read_lifts, at_lifts}

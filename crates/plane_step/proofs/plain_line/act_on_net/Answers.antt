@@ -8,11 +8,11 @@ use Rattle.step_net.specs.NetLine.{NetLine}
 use Rattle.step_net.specs.Taken.{telled_of}
 use Rattle.uci_tool.specs.Folder.{folder_of}
 use Rattle.plane_step.specs.LineDone.{Front, Read, ground_at}
-use Rattle.plane_step.specs.Means.{AnswerAsks, RadioAsks}
+use Rattle.plane_step.specs.Means.{AnswerAsks, RadioRequests}
 use Rattle.step_net.specs.Reload.{ReloadAsks}
-use Rattle.step_net.proofs.AskLemmas.{asks_nothing, interface_asks, interface_stays, device_asks, device_stays, radio_asks, radio_stays}
+use Rattle.step_net.proofs.RequestLemmas.{asks_nothing, interface_requests, interface_stays, device_requests, device_stays, radio_requests, radio_stays}
 use Rattle.plane_step.proofs.ActLemmas.{tries_alone, net_does, does_one, refused_does, not_yet, read_does, shows_does}
-use Rattle.step_net.proofs.AskLemmas.{happening_asks}
+use Rattle.step_net.proofs.RequestLemmas.{happening_requests}
 use Rattle.plane_step.proofs.plain_line.act_on_net.Goals as goal
 
 pub returns-in-Device-clause-does : goal.returns-in-Device-clause-does
@@ -28,10 +28,10 @@ pub returns-in-Answer-clause-does : goal.returns-in-Answer-clause-does
 returns-in-Answer-clause-does g c of now =
     let front : Front = record { now = now; store = c.args.store.now; net = c.args.net.now } in
     let kernel = telled_of g.K.Kernel c.args.kernel.now c.args.kernel.now in
-    let read : Read = record { front = front; number = c.args.number; line = Some (line.Answer c.in-Answer.interface c.in-Answer.ask c.in-Answer.json) } in
-    read_does front c.args.number c.args.line (line.Answer c.in-Answer.interface c.in-Answer.ask c.in-Answer.json) c.answer_interface.new.net kernel c.answer_interface.result c.in-Answer.is
-    (does_one read (AnswerAsks c.args.number c.in-Answer.interface c.in-Answer.ask c.in-Answer.json)
-    c.answer_interface.new.net kernel c.answer_interface.result (λ act asks. asks)
+    let read : Read = record { front = front; number = c.args.number; line = Some (line.Answer c.in-Answer.interface c.in-Answer.request c.in-Answer.json) } in
+    read_does front c.args.number c.args.line (line.Answer c.in-Answer.interface c.in-Answer.request c.in-Answer.json) c.answer_interface.new.net kernel c.answer_interface.result c.in-Answer.is
+    (does_one read (AnswerAsks c.args.number c.in-Answer.interface c.in-Answer.request c.in-Answer.json)
+    c.answer_interface.new.net kernel c.answer_interface.result (λ act requests. requests)
     (asks_nothing (g.K.Kernel.asked c.args.kernel.now) (g.K.Kernel.faults c.args.kernel.now))
     c.answer_interface.ensures.takes)
 
@@ -39,10 +39,10 @@ pub returns-in-Radio-clause-does : goal.returns-in-Radio-clause-does
 returns-in-Radio-clause-does g c of now =
     let front : Front = record { now = now; store = c.args.store.now; net = c.args.net.now } in
     let kernel = telled_of g.K.Kernel c.args.kernel.now c.args.kernel.now in
-    let read : Read = record { front = front; number = c.args.number; line = Some (line.Radio c.in-Radio.radio c.in-Radio.ask c.in-Radio.json) } in
-    read_does front c.args.number c.args.line (line.Radio c.in-Radio.radio c.in-Radio.ask c.in-Radio.json) c.answer_radio.new.net kernel c.answer_radio.result c.in-Radio.is
-    (does_one read (RadioAsks c.args.number c.in-Radio.radio c.in-Radio.ask c.in-Radio.json)
-    c.answer_radio.new.net kernel c.answer_radio.result (λ act asks. asks)
+    let read : Read = record { front = front; number = c.args.number; line = Some (line.Radio c.in-Radio.radio c.in-Radio.request c.in-Radio.json) } in
+    read_does front c.args.number c.args.line (line.Radio c.in-Radio.radio c.in-Radio.request c.in-Radio.json) c.answer_radio.new.net kernel c.answer_radio.result c.in-Radio.is
+    (does_one read (RadioRequests c.args.number c.in-Radio.radio c.in-Radio.request c.in-Radio.json)
+    c.answer_radio.new.net kernel c.answer_radio.result (λ act requests. requests)
     (asks_nothing (g.K.Kernel.asked c.args.kernel.now) (g.K.Kernel.faults c.args.kernel.now))
     c.answer_radio.ensures.takes)
 
@@ -55,7 +55,7 @@ returns-in-Operator-clause-does g c of now =
     (let what = event.Operator c.in-Operator.interface c.in-Operator.up in
     net_does read (NetLine.happens what) c.take_operator.new.net kernel c.take_operator.result refl
     (tries_alone (NetLine.happens what) c.args.net.now c.take_operator.new.net kernel
-    c.take_operator.result (happening_asks (moment_of c.args.net.now) what tt)
+    c.take_operator.result (happening_requests (moment_of c.args.net.now) what tt)
     (asks_nothing (g.K.Kernel.asked c.args.kernel.now) (g.K.Kernel.faults c.args.kernel.now))
     c.take_operator.ensures.takes))
 
@@ -66,7 +66,7 @@ returns-in-Reload-clause-does g c of now =
     let read : Read = record { front = front; number = c.args.number; line = Some (line.Reload) } in
     read_does front c.args.number c.args.line (line.Reload) c.reload.new.net kernel c.reload.result c.in-Reload.is
     (does_one read (ReloadAsks (folder_of c.args.store.now)) c.reload.new.net kernel c.reload.result
-    (λ act asks. asks)
+    (λ act requests. requests)
     (asks_nothing (g.K.Kernel.asked c.args.kernel.now) (g.K.Kernel.faults c.args.kernel.now))
     c.reload.ensures.takes)
 
@@ -87,7 +87,7 @@ returns-in-InterfaceStatus-clause-does g c of now =
     let read : Read = record { front = front; number = c.args.number; line = Some (line.InterfaceStatus c.in-InterfaceStatus.name) } in
     read_does front c.args.number c.args.line (line.InterfaceStatus c.in-InterfaceStatus.name) c.args.net.now kernel c.show_interface.result c.in-InterfaceStatus.is
     (shows_does read (NetLine.interface c.in-InterfaceStatus.name) kernel c.show_interface.result refl
-    (interface_asks (moment_of c.args.net.now) c.in-InterfaceStatus.name) (interface_stays (moment_of c.args.net.now) c.in-InterfaceStatus.name) c.requires.told
+    (interface_requests (moment_of c.args.net.now) c.in-InterfaceStatus.name) (interface_stays (moment_of c.args.net.now) c.in-InterfaceStatus.name) c.requires.told
     (asks_nothing (g.K.Kernel.asked c.args.kernel.now) (g.K.Kernel.faults c.args.kernel.now))
     c.show_interface.ensures)
 
@@ -98,7 +98,7 @@ returns-in-DeviceStatus-clause-does g c of now =
     let read : Read = record { front = front; number = c.args.number; line = Some (line.DeviceStatus c.in-DeviceStatus.name) } in
     read_does front c.args.number c.args.line (line.DeviceStatus c.in-DeviceStatus.name) c.args.net.now kernel c.show_device.result c.in-DeviceStatus.is
     (shows_does read (NetLine.device c.in-DeviceStatus.name) kernel c.show_device.result refl
-    (device_asks (moment_of c.args.net.now) c.in-DeviceStatus.name) (device_stays (moment_of c.args.net.now) c.in-DeviceStatus.name) c.requires.told
+    (device_requests (moment_of c.args.net.now) c.in-DeviceStatus.name) (device_stays (moment_of c.args.net.now) c.in-DeviceStatus.name) c.requires.told
     (asks_nothing (g.K.Kernel.asked c.args.kernel.now) (g.K.Kernel.faults c.args.kernel.now))
     c.show_device.ensures)
 
@@ -109,7 +109,7 @@ returns-in-RadioStatus-clause-does g c of now =
     let read : Read = record { front = front; number = c.args.number; line = Some (line.RadioStatus c.in-RadioStatus.name) } in
     read_does front c.args.number c.args.line (line.RadioStatus c.in-RadioStatus.name) c.args.net.now kernel c.show_radio.result c.in-RadioStatus.is
     (shows_does read (NetLine.radio c.in-RadioStatus.name) kernel c.show_radio.result refl
-    (radio_asks (moment_of c.args.net.now) c.in-RadioStatus.name) (radio_stays (moment_of c.args.net.now) c.in-RadioStatus.name) c.requires.told
+    (radio_requests (moment_of c.args.net.now) c.in-RadioStatus.name) (radio_stays (moment_of c.args.net.now) c.in-RadioStatus.name) c.requires.told
     (asks_nothing (g.K.Kernel.asked c.args.kernel.now) (g.K.Kernel.faults c.args.kernel.now))
     c.show_radio.ensures)
 

@@ -3,8 +3,8 @@ use Rattle.rpc_network.proofs.answering.answer.Goals as goal
 
 pub returns-in-Ok-clause-ends : goal.returns-in-Ok-clause-ends
 returns-in-Ok-clause-ends c =
-    ends_taken c.args.ended tt c.args.net.now c.answer_asks.new.net c.answer_asks.result c.in-Ok.is
-    c.answer_asks.ensures.told c.answer_asks.ensures.silent
+    ends_taken c.args.ended tt c.args.net.now c.answer_requests.new.net c.answer_requests.result c.in-Ok.is
+    c.answer_requests.ensures.told c.answer_requests.ensures.silent
 
 pub returns-in-Err-clause-ends : goal.returns-in-Err-clause-ends
 returns-in-Err-clause-ends c =

@@ -5,8 +5,8 @@ use Rattle.uci_tool.specs.Folder.{folder_of}
 use Rattle.step_net.specs.NetLine.{NetLine}
 use Rattle.step_net.specs.Taken.{telled_of}
 use Rattle.rpc_network.specs.declared.net_call.NetCall.TheVariants as call
-use Rattle.step_net.proofs.AskLemmas.{asks_nothing}
-use Rattle.step_net.proofs.AskLemmas.{happening_asks}
+use Rattle.step_net.proofs.RequestLemmas.{asks_nothing}
+use Rattle.step_net.proofs.RequestLemmas.{happening_requests}
 use Rattle.rpc_network.proofs.CallLemmas.{tries_alone, tries_shown, carries, carries_load}
 use Rattle.rpc_network.proofs.call.carry_out.Goals as goal
 
@@ -39,16 +39,16 @@ returns-in-Operator-clause-carries g c =
     carries (folder_of c.args.store.now) c.args.call (call.Operator c.in-Operator.interface c.in-Operator.up) (NetLine.happens what) c.args.net.now c.answer_operator.new.net kernel c.answer_operator.result
     c.in-Operator.is refl
     (tries_alone (NetLine.happens what) c.args.net.now c.answer_operator.new.net kernel c.answer_operator.result
-    (happening_asks (moment_of c.args.net.now) what tt) (asks_nothing (g.K.Kernel.asked c.args.kernel.now) (g.K.Kernel.faults c.args.kernel.now)) c.answer_operator.ensures.takes)
+    (happening_requests (moment_of c.args.net.now) what tt) (asks_nothing (g.K.Kernel.asked c.args.kernel.now) (g.K.Kernel.faults c.args.kernel.now)) c.answer_operator.ensures.takes)
 
 pub returns-in-Answer-clause-carries : goal.returns-in-Answer-clause-carries
 returns-in-Answer-clause-carries g c =
     let kernel = telled_of g.K.Kernel c.args.kernel.now c.args.kernel.now in
     let what = event.Answer c.in-Answer.interface c.in-Answer.number c.in-Answer.answer in
-    carries (folder_of c.args.store.now) c.args.call (call.Answer c.in-Answer.interface c.in-Answer.number c.in-Answer.answer) (NetLine.happens what) c.args.net.now c.answer_ask.new.net kernel c.answer_ask.result
+    carries (folder_of c.args.store.now) c.args.call (call.Answer c.in-Answer.interface c.in-Answer.number c.in-Answer.answer) (NetLine.happens what) c.args.net.now c.answer_request.new.net kernel c.answer_request.result
     c.in-Answer.is refl
-    (tries_alone (NetLine.happens what) c.args.net.now c.answer_ask.new.net kernel c.answer_ask.result
-    (happening_asks (moment_of c.args.net.now) what tt) (asks_nothing (g.K.Kernel.asked c.args.kernel.now) (g.K.Kernel.faults c.args.kernel.now)) c.answer_ask.ensures.takes)
+    (tries_alone (NetLine.happens what) c.args.net.now c.answer_request.new.net kernel c.answer_request.result
+    (happening_requests (moment_of c.args.net.now) what tt) (asks_nothing (g.K.Kernel.asked c.args.kernel.now) (g.K.Kernel.faults c.args.kernel.now)) c.answer_request.ensures.takes)
 
 pub returns-in-DeviceStatus-clause-carries : goal.returns-in-DeviceStatus-clause-carries
 returns-in-DeviceStatus-clause-carries g c =
@@ -80,4 +80,4 @@ returns-in-Radio-clause-carries g c =
     carries (folder_of c.args.store.now) c.args.call (call.Radio c.in-Radio.radio c.in-Radio.number c.in-Radio.ports) (NetLine.happens what) c.args.net.now c.answer_radio.new.net kernel c.answer_radio.result
     c.in-Radio.is refl
     (tries_alone (NetLine.happens what) c.args.net.now c.answer_radio.new.net kernel c.answer_radio.result
-    (happening_asks (moment_of c.args.net.now) what tt) (asks_nothing (g.K.Kernel.asked c.args.kernel.now) (g.K.Kernel.faults c.args.kernel.now)) c.answer_radio.ensures.takes)
+    (happening_requests (moment_of c.args.net.now) what tt) (asks_nothing (g.K.Kernel.asked c.args.kernel.now) (g.K.Kernel.faults c.args.kernel.now)) c.answer_radio.ensures.takes)

@@ -5,7 +5,7 @@ use Rattle.answer_json.specs.PortsJson.{ArePorts}
 use Rattle.rpc_network.proofs.reading.radio_call.Goals as goal
 
 pub returns-in-None : goal.returns-in-None
-returns-in-None c asked asks =
+returns-in-None c asked requests =
     subst (λ found. IfNone found ((ports : List (Option (List ℕ))) → ArePorts (view c.in-Ok-json_of_blob.value) ports → ⊥))
-    c.in-None.is c.in-Ok-read_ports.ensures.none asks.ports
-    (subst (λ value. ArePorts value asks.ports) (sym c.in-Ok-json_of_blob.ensures) asks.are)
+    c.in-None.is c.in-Ok-read_ports.ensures.none requests.ports
+    (subst (λ value. ArePorts value requests.ports) (sym c.in-Ok-json_of_blob.ensures) requests.are)

@@ -3,7 +3,7 @@ use Rattle.step_net.specs.NetLine.{load_line}
 use Rattle.uci_tool.specs.Folder.{folder_of}
 use Rattle.step_net.specs.Loaded.{network_name, wireless_name}
 use Rattle.step_net.specs.Reload.{ReloadAsks}
-use Rattle.step_net.proofs.AskLemmas.{load_asks}
+use Rattle.step_net.proofs.RequestLemmas.{load_requests}
 use Rattle.step_net.proofs.LoadLemmas.{of_fault}
 use Rattle.rpc_network.proofs.CallLemmas.{takes_this, takes_unread}
 use Rattle.rpc_network.proofs.reloading.reload.Goals as goal
@@ -31,4 +31,4 @@ returns-clause-takes c =
     takes_this (ReloadAsks (folder_of c.args.store.now)) (load_line network wireless) c.args.net.now
     c.answer_load.new.net c.answer_load.result
     (ReloadAsks.loaded network wireless c.in-Ok.ensures.found c.in-Ok-load_package.ensures.found)
-    (load_asks (moment_of c.args.net.now) network wireless) c.answer_load.ensures.takes
+    (load_requests (moment_of c.args.net.now) network wireless) c.answer_load.ensures.takes

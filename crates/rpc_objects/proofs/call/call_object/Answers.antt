@@ -1,6 +1,6 @@
 use Rattle.std.specs.Prelude.{Ok, Err}
 use Rattle.step_net.specs.Taken.{telled_of}
-use Rattle.step_net.proofs.AskLemmas.{asks_nothing}
+use Rattle.step_net.proofs.RequestLemmas.{asks_nothing}
 use Rattle.rpc_objects.specs.declared.uci_answer.CallStop.TheVariants as stop
 use Rattle.rpc_objects.specs.declared.local_object.LocalObject.TheVariants.{Session, Uci, Network}
 use Rattle.rpc_objects.specs.Ended.{parts_of}

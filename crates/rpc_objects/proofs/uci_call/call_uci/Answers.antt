@@ -9,12 +9,12 @@ returns-in-Ok-clause-ends g c =
     let disks = faults_of (g.D.Disk.view c.args.files.now) (g.D.Disk.view c.serve_call.new.files)
     (g.T.Disk.view c.args.staged.now) (g.T.Disk.view c.serve_call.new.staged) in
     served_ends c.args.now c.args.method.now c.args.args.now c.args.sessions.now c.serve_call.new.sessions c.args.store.now c.serve_call.new.store
-    c.args.net.now c.reload_behind.new.net c.in-Ok.answer disks c.reload_behind.result
-    c.serve_call.ensures.sessions c.in-Ok.ensures.served (c.reload_behind.ensures.reloads c.serve_call.new.sessions)
+    c.args.net.now c.reload_after.new.net c.in-Ok.answer disks c.reload_after.result
+    c.serve_call.ensures.sessions c.in-Ok.ensures.served (c.reload_after.ensures.reloads c.serve_call.new.sessions)
 
 pub returns-in-Ok-clause-disks : goal.returns-in-Ok-clause-disks
 returns-in-Ok-clause-disks g c =
-    stays_as c.in-Ok.answer c.reload_behind.result c.args.store.now c.serve_call.new.store
+    stays_as c.in-Ok.answer c.reload_after.result c.args.store.now c.serve_call.new.store
     (g.D.Disk.view c.args.files.now) (g.D.Disk.view c.serve_call.new.files)
     (g.T.Disk.view c.args.staged.now) (g.T.Disk.view c.serve_call.new.staged) c.in-Ok.ensures.disks
 
@@ -46,4 +46,4 @@ returns-in-Err-clause-images g c =
 pub returns-in-Ok-clause-told : goal.returns-in-Ok-clause-told
 returns-in-Ok-clause-told g c =
     silent_behind (parts_of c.serve_call.new.sessions c.serve_call.new.store c.args.net.now) c.in-Ok.answer c.args.net.now
-    c.reload_behind.new.net c.reload_behind.result (c.reload_behind.ensures.reloads c.serve_call.new.sessions)
+    c.reload_after.new.net c.reload_after.result (c.reload_after.ensures.reloads c.serve_call.new.sessions)

@@ -1,5 +1,5 @@
 use Rattle.uci_store.specs.Store.{has_failed}
-use Rattle.rpc_objects.proofs.UciLemmas.{ready_behind, rose_behind, store_called}
+use Rattle.rpc_objects.proofs.UciLemmas.{ready_behind, rose_after, store_called}
 use Rattle.rpc_objects.proofs.uci_call.serve_call.Goals as goal
 
 pub returns-clause-served : goal.returns-clause-served
@@ -24,7 +24,7 @@ returns-clause-disks g c = record {
 }
 
 pub returns-clause-cause : goal.returns-clause-cause
-returns-clause-cause g c = λ failed. rose_behind c.serve-called.result (has_failed c.serve-called.new.store)
+returns-clause-cause g c = λ failed. rose_after c.serve-called.result (has_failed c.serve-called.new.store)
     (g.D.Disk.view c.args.files.now) (g.D.Disk.view c.serve-called.new.files)
     (g.T.Disk.view c.args.staged.now) (g.T.Disk.view c.serve-called.new.staged)
     (c.answer_uci.ensures.disk.0 failed) c.serve-called.ensures.cause

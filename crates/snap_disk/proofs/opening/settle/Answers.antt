@@ -2,7 +2,7 @@ use Rattle.std.proofs.Common.{Some, None, false, refl, arith}
 use Rattle.snap_disk.specs.Opening.{read_as}
 use Rattle.snap_disk.specs.declared.snap.Snap.{Snap}
 use Rattle.snap_disk.proofs.ObjectLemmas.{put_within, put_long}
-use Rattle.snap_disk.proofs.LoadLemmas.{same_phase, opens_same, opens_held, opens_behind, rested_shows, restored_images, undone_images}
+use Rattle.snap_disk.proofs.LoadLemmas.{same_phase, opens_same, opens_held, opens_after, rested_shows, restored_images, undone_images}
 use Rattle.snap_disk.proofs.opening.settle.Goals as goal
 
 pub returns-then-gates-ne-OPEN-clause-open : goal.returns-then-gates-ne-OPEN-clause-open
@@ -23,7 +23,7 @@ returns-in-Ok-restore-clause-open g c =
     let ps = c.args.packages.items in
     let is = c.rested.ensures.packages in
     let long = put_long files ps c.rested.result.packages.items is in (
-      opens_behind c.rested.result _ _ (read_as c.args.gates c.args.body.now ps) _ _ _ c.in-Ok-restore.ensures.phase (omega (arith, c.requires.count, long)) (put_within _ files ps _ c.in-Ok.ensures.packages c.requires.within is)
+      opens_after c.rested.result _ _ (read_as c.args.gates c.args.body.now ps) _ _ _ c.in-Ok-restore.ensures.phase (omega (arith, c.requires.count, long)) (put_within _ files ps _ c.in-Ok.ensures.packages c.requires.within is)
           c.rested.ensures.none c.requires.on (rested_shows _ c.rested.result files _ ps _ refl refl c.as_slice.ensures is c.rested.ensures.none),
       c.rested.ensures.good,
     )
@@ -55,7 +55,7 @@ returns-in-Ok-undo-clause-open g c =
     let ps = c.args.packages.items in
     let is = c.rested-in-Ok-undo.ensures.packages in
     let long = put_long files ps c.rested-in-Ok-undo.result.packages.items is in (
-      opens_behind c.rested-in-Ok-undo.result _ _ (read_as c.args.gates c.args.body.now ps) _ _ _ c.in-Ok-undo.ensures.phase (omega (arith, c.requires.count, long)) (put_within _ files ps _ c.in-Ok.ensures.packages c.requires.within is)
+      opens_after c.rested-in-Ok-undo.result _ _ (read_as c.args.gates c.args.body.now ps) _ _ _ c.in-Ok-undo.ensures.phase (omega (arith, c.requires.count, long)) (put_within _ files ps _ c.in-Ok.ensures.packages c.requires.within is)
           c.rested-in-Ok-undo.ensures.none c.requires.on (rested_shows _ c.rested-in-Ok-undo.result files _ ps _ refl refl c.as_slice-2.ensures is c.rested-in-Ok-undo.ensures.none),
       c.rested-in-Ok-undo.ensures.good,
     )

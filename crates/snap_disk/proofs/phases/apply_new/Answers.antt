@@ -1,5 +1,5 @@
 use Rattle.std.proofs.Common.{rules}
-use Rattle.snap_disk.proofs.JoinLemmas.{stops, stops_behind, ends_behind, laid_behind}
+use Rattle.snap_disk.proofs.JoinLemmas.{stops, stops_after, ends_behind, laid_behind}
 use Rattle.snap_disk.proofs.OpeningLemmas.{applies_stage, applies_gate}
 use Rattle.snap_disk.proofs.phases.apply_new.Goals as goal
 
@@ -10,7 +10,7 @@ pub set_second_gate-requires-clause-laid : goal.set_second_gate-requires-clause-
 set_second_gate-requires-clause-laid g c = laid_behind _ _ _ _ _ c.in_ok-stage_packages.ensures.phase c.requires.laid
 
 pub returns-in_err-set_second_gate-clause-phase : goal.returns-in_err-set_second_gate-clause-phase
-returns-in_err-set_second_gate-clause-phase g c = stops_behind _ _ _ _ _ _ _ _ _ _ _ _ c.in_ok-stage_packages.ensures.phase c.set_second_gate.ensures.phase (applies_stage _ c.args.body.now _)
+returns-in_err-set_second_gate-clause-phase g c = stops_after _ _ _ _ _ _ _ _ _ _ _ _ c.in_ok-stage_packages.ensures.phase c.set_second_gate.ensures.phase (applies_stage _ c.args.body.now _)
     (applies_gate _ _ c.args.body.now _ c.requires.files) (λ X. search rules)
 
 pub returns-clause-phase : goal.returns-clause-phase

@@ -3,8 +3,8 @@ use Rattle.step_net.proofs.take.tell.Goals as goal
 
 pub returns-in-Ok-clause-ends : goal.returns-in-Ok-clause-ends
 returns-in-Ok-clause-ends c =
-    ends_taken c.args.ended tt c.args.net.now c.tell_asks.new.net c.tell_asks.result c.in-Ok.is
-    c.tell_asks.ensures.told c.tell_asks.ensures.silent
+    ends_taken c.args.ended tt c.args.net.now c.tell_requests.new.net c.tell_requests.result c.in-Ok.is
+    c.tell_requests.ensures.told c.tell_requests.ensures.silent
 
 pub returns-in-Err-clause-ends : goal.returns-in-Err-clause-ends
 returns-in-Err-clause-ends c =

@@ -31,7 +31,7 @@ invariant_of-self-2 c =
     let o = c.args.object.now in
     let es = c.self.inside.table.entries in
     let off : has_place (listed es) o ≡ false = sym (has_looked (key_of o) es c.contains_key.result c.contains_key.ensures) ∙ c.if-contains_key.false in
-    let counts : Counts = record { givers = 0; held = false; falls = false } in
+    let counts : Counts = record { givers = 0; held = false; loses_link = false } in
     let is = ap listed c.in_ok-_none.ensures.entries ∙ added (key_of o) counts es off in
     let size = one_more es c.insert.new.self.entries (empty_gift o) is in
     record {
@@ -53,7 +53,7 @@ returns-clause-ok c =
     let o = c.args.object.now in
     let es = c.self.inside.table.entries in
     let off : has_place (listed es) o ≡ false = sym (has_looked (key_of o) es c.contains_key.result c.contains_key.ensures) ∙ c.if-contains_key.false in
-    let counts : Counts = record { givers = 0; held = false; falls = false } in
+    let counts : Counts = record { givers = 0; held = false; loses_link = false } in
     ap listed c.in_ok-_none.ensures.entries ∙ added (key_of o) counts es off ∙ place_new (listed es) o off ∙ ap (λ gs. with_place gs o) c.self.view_is
 
 pub add_place-requires-clause-places : goal.add_place-requires-clause-places

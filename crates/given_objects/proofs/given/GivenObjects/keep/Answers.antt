@@ -27,7 +27,7 @@ invariant_of-self-2 c =
     let g : Gift = c.args.gift.now in
     let es = c.self.inside.table.entries in
     let off : has_place (listed es) g.object ≡ false = ap (λ gs. has_place gs g.object) c.self.view_is ∙ c.requires.new in
-    let counts : Counts = record { givers = g.givers; held = g.held; falls = g.falls } in
+    let counts : Counts = record { givers = g.givers; held = g.held; loses_link = g.loses_link } in
     let is = ap listed c.in_ok-_none.ensures.entries ∙ added (key_of g.object) counts es off in
     let size = one_more es c.insert.new.self.entries g is in
     record {
@@ -48,7 +48,7 @@ returns c =
     let g : Gift = c.args.gift.now in
     let es = c.self.inside.table.entries in
     let off : has_place (listed es) g.object ≡ false = ap (λ gs. has_place gs g.object) c.self.view_is ∙ c.requires.new in
-    let counts : Counts = record { givers = g.givers; held = g.held; falls = g.falls } in
+    let counts : Counts = record { givers = g.givers; held = g.held; loses_link = g.loses_link } in
     ap listed c.in_ok-_none.ensures.entries ∙ added (key_of g.object) counts es off
     ∙ is_added (listed es) g (sym c.is_live.ensures ∙ c.if-not-is_live.false)
     ∙ ap (λ gs. with_live gs g) c.self.view_is

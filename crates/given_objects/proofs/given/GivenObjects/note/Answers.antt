@@ -20,7 +20,7 @@ pub returns : goal.returns
 returns c =
     let es = c.self.inside.table.entries in
     let counts : Counts = c.index.result.now in
-    written (λ (g : Gift). record g { held = c.args.held; falls = false }) (key_of c.args.object.now) counts (record counts { held = c.args.held; falls = false }) refl es c.in-Some.place c.get_index_of.ensures.unique
+    written (λ (g : Gift). record g { held = c.args.held; loses_link = false }) (key_of c.args.object.now) counts (record counts { held = c.args.held; loses_link = false }) refl es c.in-Some.place c.get_index_of.ensures.unique
     (entry_at (key_of c.args.object.now) es c.in-Some.place counts (sym c.in-Some.ensures.index) c.index.ensures)
     ∙ ap (λ gs. noted gs c.args.object.now c.args.held) c.self.view_is
 
@@ -30,7 +30,7 @@ go_on-requires c =
     let o = c.args.object.now in
     let held = c.args.held in
     let counts : Counts = c.index.result.now in
-    let is = written (λ (g : Gift). record g { held = held; falls = false }) (key_of o) counts (record counts { held = held; falls = false }) refl es c.in-Some.place c.get_index_of.ensures.unique
+    let is = written (λ (g : Gift). record g { held = held; loses_link = false }) (key_of o) counts (record counts { held = held; loses_link = false }) refl es c.in-Some.place c.get_index_of.ensures.unique
     (entry_at (key_of o) es c.in-Some.place counts (sym c.in-Some.ensures.index) c.index.ensures) in
     subst AreGifts (sym is) (note_gifts (listed es) o held c.self.invariant.gifts)
 
@@ -41,10 +41,10 @@ invariant_of-self c =
     let o = c.args.object.now in
     let held = c.args.held in
     let counts : Counts = c.index.result.now in
-    let w : Counts = record counts { held = held; falls = false } in
-    let is = written (λ (g : Gift). record g { held = held; falls = false }) (key_of o) counts w refl es c.in-Some.place c.get_index_of.ensures.unique
+    let w : Counts = record counts { held = held; loses_link = false } in
+    let is = written (λ (g : Gift). record g { held = held; loses_link = false }) (key_of o) counts w refl es c.in-Some.place c.get_index_of.ensures.unique
     (entry_at (key_of o) es c.in-Some.place counts (sym c.in-Some.ensures.index) c.index.ensures) in
-    let size = as_many_still es (set_value_at es c.in-Some.place w) (λ (g : Gift). record g { held = held; falls = false }) o is in
+    let size = as_many_still es (set_value_at es c.in-Some.place w) (λ (g : Gift). record g { held = held; loses_link = false }) o is in
     let was_due = λ (on : c.is_due-was_due.result ≡ true). due_there gs c.self.invariant.gifts (key_of o) es refl held c.in-Some.place c.gift_at.result (sym c.in-Some.ensures.index) c.gift_at.ensures
     (ap (λ turn. is_due turn c.gift_at.result) (sym c.turn_of-turn.ensures) ∙ sym c.is_due-was_due.ensures ∙ on) in
     let left : IsOrder c.go_on.new.order (listed (set_value_at es c.in-Some.place w)) = c.go_on.ensures.order (record {

@@ -1,6 +1,6 @@
 use Rattle.std.proofs.Common.{arith}
 use Rattle.given_objects.proofs.DueLemmas.{alone_few, due_of_gifts}
-use Rattle.graph_settle.proofs.CourseLemmas.{due_is}
+use Rattle.graph_settle.proofs.SettlingStateLemmas.{due_is}
 use Rattle.graph_settle.proofs.settling.GraphSettling.due.Goals as goal
 
 pub overflow_add-result : goal.overflow_add-result

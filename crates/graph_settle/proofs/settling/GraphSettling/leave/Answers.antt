@@ -11,7 +11,7 @@ use Rattle.graph_settle.proofs.LeaveLemmas.{size_told, told_step, told_to_end, l
 use Rattle.graph_settle.proofs.settling.GraphSettling.leave.Goals as goal
 
 pub loop-place-init : goal.loop-place-init
-loop-place-init g c = record { gifts = refl; graph = c.set_absent.ensures.state; may_fall = refl }
+loop-place-init g c = record { gifts = refl; graph = c.set_absent.ensures.state; may_lose_link = refl }
 
 pub let_go-requires : goal.let_go-requires
 let_go-requires g c =
@@ -25,7 +25,7 @@ loop-place-preserved g c =
       gifts = told_step (left_gift (absent_after c.args.self.now.graph c.args.id.0)) c.loop-place.place c.args.self.now.gifts gs c.let_go.new.gifts c.loop-place.invariant.gifts (omega (arith, c.len-place-end.ensures.length))
           (subst (λ (s : State). (x : Gift) → slice_get gs c.loop-place.place ≡ Some x → c.let_go.new.gifts ≡ slice_set gs c.loop-place.place (left_gift s x)) c.loop-place.invariant.graph c.let_go.ensures);
       graph = c.loop-place.invariant.graph;
-      may_fall = c.loop-place.invariant.may_fall;
+      may_lose_link = c.loop-place.invariant.may_lose_link;
     }
 
 pub returns-clause-held : goal.returns-clause-held

@@ -9,5 +9,5 @@ abbrev pub invariant-loop-place : goal.invariant-loop-place
 invariant-loop-place g l = record {
   gifts : l.self.gifts ≡ told (left_gift (absent_after l.fn.self.graph l.fn.id.0)) l.place l.fn.self.gifts;
   graph : l.self.graph ≡ absent_after l.fn.self.graph l.fn.id.0;
-  may_fall : l.self.may_fall ≡ l.fn.self.may_fall;
+  may_lose_link : l.self.may_lose_link ≡ l.fn.self.may_lose_link;
 }

@@ -2,7 +2,7 @@ use Rattle.std.proofs.Common.{arith, ◌≡◌, drop, sym, refl, ap, subst, ◌�
 use Rattle.net_settle.specs.Outside.{outside_of}
 use Rattle.net_settle.specs.Settle.{SettledAlone, StopsAtCall}
 use Rattle.net_settle.proofs.SettleLemmas.{nothing_settled, settled_more, stops_at_line, stops_at_call}
-use Rattle.graph_settle.specs.Course.{Course, calls_of, IsReady, IsAlike, HoldsAs}
+use Rattle.graph_settle.specs.SettlingState.{SettlingState, calls_of, IsReady, IsAlike, HoldsAs}
 use Rattle.graph_settle.proofs.MadeLemmas.{first_and_rest, is_admitted}
 use Rattle.graph_settle.proofs.EndLemmas.{none_left, is_reached, ready_at_end, admits, alike_itself, alike_on, holds_then}
 use Rattle.graph_settle.proofs.settling.GraphSettling.settle.Goals as goal
@@ -12,11 +12,11 @@ loop-call-init g c =
     let same : c.args.self.now ≡ c.prepare.new.self = sym c.prepare.ensures in
     let first = outside_of g.O.Sink g.K.Kernel c.args.out.now c.args.kernel.now in
     record {
-      settled = subst (λ (s : Course). SettledAlone (calls_of c.args.self.now) (calls_of s) first first) same (nothing_settled (calls_of c.args.self.now) first);
+      settled = subst (λ (s : SettlingState). SettledAlone (calls_of c.args.self.now) (calls_of s) first first) same (nothing_settled (calls_of c.args.self.now) first);
       ready = subst IsReady same c.requires.ready;
       of = subst (HoldsAs g.K.Kernel c.args.kernel.now) same c.requires.of;
       stays = subst (IsAlike c.args.self.now) same (alike_itself c.args.self.now);
-      may_fall = ap (λ (s : Course). s.may_fall) c.prepare.ensures;
+      may_lose_link = ap (λ (s : SettlingState). s.may_lose_link) c.prepare.ensures;
       kernel_later = omega arith;
       out_later = omega arith;
     }
@@ -44,7 +44,7 @@ loop-call-preserved g c =
       ready = c.did.ensures.ready;
       of = holds_then g.K.Kernel c.loop-call.kernel c.apply.new.self c.loop-call.self c.did.new.self c.in-Some.call c.loop-call.invariant.of c.in-Ok.ensures.devices c.in-Ok.ensures.did c.did.ensures.held c.did.ensures.stays.known;
       stays = alike_on c.args.self.now c.loop-call.self c.did.new.self c.loop-call.invariant.stays c.did.ensures.stays;
-      may_fall = c.did.ensures.may_fall ∙ c.loop-call.invariant.may_fall;
+      may_lose_link = c.did.ensures.may_lose_link ∙ c.loop-call.invariant.may_lose_link;
       kernel_later = omega arith;
       out_later = omega arith;
     }
@@ -84,7 +84,7 @@ pub returns-in_default-write_line-clause-stays : goal.returns-in_default-write_l
 returns-in_default-write_line-clause-stays g c = alike_on c.args.self.now c.loop-call.self c.did.new.self c.loop-call.invariant.stays c.did.ensures.stays
 
 pub returns-in_default-write_line-clause-stopped : goal.returns-in_default-write_line-clause-stopped
-returns-in_default-write_line-clause-stopped g c = c.did.ensures.may_fall ∙ c.loop-call.invariant.may_fall
+returns-in_default-write_line-clause-stopped g c = c.did.ensures.may_lose_link ∙ c.loop-call.invariant.may_lose_link
 
 pub returns-clause-ends : goal.returns-clause-ends
 returns-clause-ends g c =

@@ -24,8 +24,8 @@ invariant_of-self c =
     let k = c.self.inside in
     record {
       once = subst (λ es. StandOnce (record (inputs_in k) { devices = es })) (sym c.change.ensures.items) (stands_happened (inputs_in k) c.args.event.now c.self.invariant.once);
-      commands = c.self.invariant.commands;
-      asks = c.self.invariant.asks;
+      operator_states = c.self.invariant.operator_states;
+      requests = c.self.invariant.requests;
     }
 
 pub returns : goal.returns

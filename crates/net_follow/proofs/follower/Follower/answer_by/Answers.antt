@@ -4,25 +4,25 @@ use Rattle.net_rules.specs.declared.event.Event.TheVariants as event
 use Rattle.net_rules.specs.After.{changed}
 use Rattle.net_rules.proofs.EventLemmas.{history_reached}
 use Rattle.net_rules.proofs.TouchEventLemmas.{answer_after, answer_silent}
-use Rattle.state_asks.specs.Course.{held_of}
+use Rattle.state_requests.specs.SettlingState.{held_of}
 use Rattle.known_inputs.specs.Known.{Known}
 use Rattle.net_reach.specs.Reach.{IsReachOf}
-use Rattle.state_asks.specs.States.{States}
+use Rattle.state_requests.specs.States.{States}
 use Rattle.net_follow.specs.declared.follower.Follower.{Follower}
 use Rattle.net_follow.specs.InStep.{inputs_of}
 use Rattle.net_follow.proofs.CalmLemmas.{calm_of_ready, calm_counts, held_counts}
-use Rattle.net_follow.proofs.CommandLemmas.{place_within}
+use Rattle.net_follow.proofs.OperatorStateLemmas.{place_within}
 use Rattle.net_follow.proofs.KeptLemmas.{room_kept}
-use Rattle.net_follow.proofs.AnsweredLemmas.{IsDown, one_within, down_at, layer_room, tells, all_down}
+use Rattle.net_follow.proofs.AnsweredLemmas.{IsDown, one_within, down_at, l3_device_room, tells, all_down}
 use Rattle.net_follow.proofs.StepLemmas.{moment_of, HasCome, step_now, followed_now}
 use Rattle.net_follow.proofs.follower.Follower.answer_by.Goals as goal
 
 pub let_down-requires-clause-place : goal.let_down-requires-clause-place
 let_down-requires-clause-place g c = place_within (inputs_of c.args.self.now).conf c.args.interface.now c.args.place c.requires.place
 
-pub set_layer-requires : goal.set_layer-requires
-set_layer-requires g c = record {
-  room = layer_room c.args.self.now c.args.place c.args.interface.now c.args.number c.args.answer c.requires.step c.requires.place c.requires.free c.requires.room c.let_down.new.self.reach
+pub set_l3_device-requires : goal.set_l3_device-requires
+set_l3_device-requires g c = record {
+  room = l3_device_room c.args.self.now c.args.place c.args.interface.now c.args.number c.args.answer c.requires.step c.requires.place c.requires.free c.requires.room c.let_down.new.self.reach
       (ap (λ (s : States). s.reach) c.let_down.ensures.kept);
 }
 
@@ -46,13 +46,13 @@ refresh-requires-clause-tied g c =
     let is : c.answer.new.self.inputs ≡ then = ap (λ (k : Known). k.inputs) c.answer.ensures in
     let d = c.let_down.ensures in
     let telling = tells old c.args.place c.args.interface.now c.args.number c.args.answer c.requires.step c.requires.place c.requires.free c.requires.room c.conf-rows.ensures.once c.let_down.new.self c.let_down.new.settling d.tied d.counted
-    d.list d.stays c.layer_told-was.result c.layer_told-was.ensures in
-    let reaches : IsReachOf then c.set_layer.new.self = c.set_layer.ensures.told (inputs_of old) then c.args.interface.now d.tied.reach c.requires.place telling in
-    let states : States = record c.let_down.new.self { reach = c.set_layer.new.self } in
+    d.list d.stays c.l3_device_told-was.result c.l3_device_told-was.ensures in
+    let reaches : IsReachOf then c.set_l3_device.new.self = c.set_l3_device.ensures.told (inputs_of old) then c.args.interface.now d.tied.reach c.requires.place telling in
+    let states : States = record c.let_down.new.self { reach = c.set_l3_device.new.self } in
     let down : IsDown c.answer.new.self.inputs c.deref.result.now states c.let_down.new.settling = down_at c.answer.new.self.inputs
     then c.deref.result.now (c.args.place ∷ []) states c.let_down.new.settling is (c.deref.ensures.value ∙ c.touch_one.ensures.touched)
     (all_down old c.args.place c.args.interface.now c.args.number c.args.answer c.requires.step c.requires.place c.requires.free c.requires.room c.conf-rows.ensures.once c.let_down.new.self c.let_down.new.settling d.tied d.counted d.list
-    d.stays c.set_layer.new.self reaches) in
+    d.stays c.set_l3_device.new.self reaches) in
     down.tied
 
 pub refresh-requires-clause-counted : goal.refresh-requires-clause-counted
@@ -63,13 +63,13 @@ refresh-requires-clause-counted g c =
     let is : c.answer.new.self.inputs ≡ then = ap (λ (k : Known). k.inputs) c.answer.ensures in
     let d = c.let_down.ensures in
     let telling = tells old c.args.place c.args.interface.now c.args.number c.args.answer c.requires.step c.requires.place c.requires.free c.requires.room c.conf-rows.ensures.once c.let_down.new.self c.let_down.new.settling d.tied d.counted
-    d.list d.stays c.layer_told-was.result c.layer_told-was.ensures in
-    let reaches : IsReachOf then c.set_layer.new.self = c.set_layer.ensures.told (inputs_of old) then c.args.interface.now d.tied.reach c.requires.place telling in
-    let states : States = record c.let_down.new.self { reach = c.set_layer.new.self } in
+    d.list d.stays c.l3_device_told-was.result c.l3_device_told-was.ensures in
+    let reaches : IsReachOf then c.set_l3_device.new.self = c.set_l3_device.ensures.told (inputs_of old) then c.args.interface.now d.tied.reach c.requires.place telling in
+    let states : States = record c.let_down.new.self { reach = c.set_l3_device.new.self } in
     let down : IsDown c.answer.new.self.inputs c.deref.result.now states c.let_down.new.settling = down_at c.answer.new.self.inputs
     then c.deref.result.now (c.args.place ∷ []) states c.let_down.new.settling is (c.deref.ensures.value ∙ c.touch_one.ensures.touched)
     (all_down old c.args.place c.args.interface.now c.args.number c.args.answer c.requires.step c.requires.place c.requires.free c.requires.room c.conf-rows.ensures.once c.let_down.new.self c.let_down.new.settling d.tied d.counted d.list
-    d.stays c.set_layer.new.self reaches) in
+    d.stays c.set_l3_device.new.self reaches) in
     down.counted
 
 pub refresh-requires-clause-follow : goal.refresh-requires-clause-follow
@@ -80,13 +80,13 @@ refresh-requires-clause-follow g c =
     let is : c.answer.new.self.inputs ≡ then = ap (λ (k : Known). k.inputs) c.answer.ensures in
     let d = c.let_down.ensures in
     let telling = tells old c.args.place c.args.interface.now c.args.number c.args.answer c.requires.step c.requires.place c.requires.free c.requires.room c.conf-rows.ensures.once c.let_down.new.self c.let_down.new.settling d.tied d.counted
-    d.list d.stays c.layer_told-was.result c.layer_told-was.ensures in
-    let reaches : IsReachOf then c.set_layer.new.self = c.set_layer.ensures.told (inputs_of old) then c.args.interface.now d.tied.reach c.requires.place telling in
-    let states : States = record c.let_down.new.self { reach = c.set_layer.new.self } in
+    d.list d.stays c.l3_device_told-was.result c.l3_device_told-was.ensures in
+    let reaches : IsReachOf then c.set_l3_device.new.self = c.set_l3_device.ensures.told (inputs_of old) then c.args.interface.now d.tied.reach c.requires.place telling in
+    let states : States = record c.let_down.new.self { reach = c.set_l3_device.new.self } in
     let down : IsDown c.answer.new.self.inputs c.deref.result.now states c.let_down.new.settling = down_at c.answer.new.self.inputs
     then c.deref.result.now (c.args.place ∷ []) states c.let_down.new.settling is (c.deref.ensures.value ∙ c.touch_one.ensures.touched)
     (all_down old c.args.place c.args.interface.now c.args.number c.args.answer c.requires.step c.requires.place c.requires.free c.requires.room c.conf-rows.ensures.once c.let_down.new.self c.let_down.new.settling d.tied d.counted d.list
-    d.stays c.set_layer.new.self reaches) in
+    d.stays c.set_l3_device.new.self reaches) in
     down.follow
 
 pub look-requires : goal.look-requires

@@ -17,16 +17,16 @@ returns-in_default-clause-looks c = record { inputs = refl; held = held_same c.a
 
 pub returns-clause-room : goal.returns-clause-room
 returns-clause-room c =
-    on_ok c.reserve_layer.result
-    (room_for c.args.self.now c.args.place c.args.interface.now c.args.number c.args.answer.now c.requires.place c.requires.free c.expect_answer.new.gifts c.reserve_layer.new.reach c.in-Ok.ensures.places)
-    c.reserve_layer.ensures.room
+    on_ok c.reserve_l3_device.result
+    (room_for c.args.self.now c.args.place c.args.interface.now c.args.number c.args.answer.now c.requires.place c.requires.free c.expect_answer.new.gifts c.reserve_l3_device.new.reach c.in-Ok.ensures.places)
+    c.reserve_l3_device.ensures.room
 
 pub returns-clause-step : goal.returns-clause-step
 returns-clause-step c =
     let old : Follower = c.args.self.now in
     let with_gifts : Follower = record old { settling = record old.settling { gifts = c.expect_answer.new.gifts } } in
     let there : IsInStep with_gifts = step_more old c.expect_answer.new.gifts c.expect_answer.ensures.more c.requires.step in
-    step_reached with_gifts c.reserve_layer.new.reach (c.reserve_layer.ensures.stays (inputs_of old) c.requires.step.states.tied.reach) there
+    step_reached with_gifts c.reserve_l3_device.new.reach (c.reserve_l3_device.ensures.stays (inputs_of old) c.requires.step.states.tied.reach) there
 
 pub returns-clause-looks : goal.returns-clause-looks
 returns-clause-looks c = record { inputs = refl; held = held_same c.args.self.now c.expect_answer.new.gifts c.expect_answer.ensures.more; told = refl; loads = refl }

@@ -1,4 +1,4 @@
-use Rattle.state_asks.specs.Course.{held_of}
+use Rattle.state_requests.specs.SettlingState.{held_of}
 use Rattle.net_follow.specs.declared.follower.Follower.{Follower}
 use Rattle.net_follow.specs.InStep.{inputs_of}
 use Rattle.net_follow.proofs.RoomLemmas.{step_reached}

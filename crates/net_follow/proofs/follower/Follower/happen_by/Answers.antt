@@ -5,7 +5,7 @@ use Rattle.net_rules.specs.declared.event.Event.TheVariants as event
 use Rattle.net_rules.specs.After.{changed}
 use Rattle.net_rules.proofs.RefusalLemmas.{device_may}
 use Rattle.net_rules.proofs.EventLemmas.{history_reached}
-use Rattle.state_asks.specs.Course.{held_of}
+use Rattle.state_requests.specs.SettlingState.{held_of}
 use Rattle.known_inputs.specs.Known.{Known}
 use Rattle.net_reach.specs.Reach.{IsReachOf, AreTouched}
 use Rattle.touch_laws.proofs.DeviceLemmas.{follows}

@@ -2,9 +2,9 @@ use Rattle.std.proofs.Common.{ap, sym, ◌∙◌}
 use Rattle.kern_model.specs.ObjectOrder.{Objects, set_of}
 use Rattle.kern_calls.specs.Due.{due_count}
 use Rattle.kern_calls.proofs.CountLemmas.{set_of_items}
-use Rattle.net_anew.specs.Course.{held_of}
+use Rattle.net_rebuild.specs.SettlingState.{held_of}
 use Rattle.net_rules.specs.Moment.{want_of}
-use Rattle.net_anew.specs.InStep.{inputs_of}
+use Rattle.net_rebuild.specs.InStep.{inputs_of}
 use Rattle.net_plane.specs.Network.{Network}
 use Rattle.net_plane.proofs.SettledLemmas.{wants_seen}
 use Rattle.net_plane.proofs.net.Net.due.Goals as goal

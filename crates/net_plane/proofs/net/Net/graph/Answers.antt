@@ -1,7 +1,7 @@
 use Rattle.std.proofs.Common.{sym, subst}
 use Rattle.net_rules.proofs.HistoryLemmas.{orderly}
 use Rattle.graph_rules.specs.State.{State}
-use Rattle.net_anew.specs.InStep.{inputs_of}
+use Rattle.net_rebuild.specs.InStep.{inputs_of}
 use Rattle.net_plane.specs.Network.{Network}
 use Rattle.net_plane.specs.Lent.{Lends}
 use Rattle.net_plane.specs.Seen.{network_of}

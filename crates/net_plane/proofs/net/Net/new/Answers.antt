@@ -1,6 +1,6 @@
 use Rattle.std.proofs.Common.{ap}
-use Rattle.net_anew.specs.Course.{Course}
-use Rattle.net_anew.specs.Follower.{Follower}
+use Rattle.net_rebuild.specs.SettlingState.{SettlingState}
+use Rattle.net_rebuild.specs.Follower.{Follower}
 use Rattle.net_plane.proofs.NewLemmas.{new_in_step, new_seen}
 use Rattle.net_plane.proofs.net.Net.new.Goals as goal
 
@@ -15,4 +15,4 @@ returns-clause-new c =
     new_seen f c.new.ensures c.new-2.ensures.bare c.new-3.ensures c.new-5.ensures.items
 
 pub returns-clause-loads : goal.returns-clause-loads
-returns-clause-loads c = ap (λ (course : Course). course.graph.loads) c.new-2.ensures.bare
+returns-clause-loads c = ap (λ (settling_state : SettlingState). settling_state.graph.loads) c.new-2.ensures.bare

@@ -1,6 +1,6 @@
 use Rattle.std.proofs.Common.{◌≡◌, subst}
 use Rattle.net_reach.specs.Reach.{interface_place}
-use Rattle.net_anew.specs.InStep.{inputs_of}
+use Rattle.net_rebuild.specs.InStep.{inputs_of}
 use Rattle.net_plane.specs.Network.{Network}
 use Rattle.net_plane.proofs.net.Net.place_of.Goals as goal
 

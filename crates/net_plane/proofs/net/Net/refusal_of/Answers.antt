@@ -2,9 +2,9 @@ use Rattle.std.proofs.Common.{ap, ◌∙◌}
 use Rattle.kern_model.specs.ObjectOrder.{Objects}
 use Rattle.net_rules.specs.declared.event.Event.TheVariants as event
 use Rattle.net_rules.specs.Refusal.{is_held_link}
-use Rattle.net_anew.proofs.LowerLemmas.{links_lower}
-use Rattle.net_anew.specs.Course.{held_of}
-use Rattle.net_anew.proofs.LentLemmas.{holds_below}
+use Rattle.net_rebuild.proofs.LowerLemmas.{links_lower}
+use Rattle.net_rebuild.specs.SettlingState.{held_of}
+use Rattle.net_rebuild.proofs.LentLemmas.{holds_below}
 use Rattle.known_inputs.specs.Steps.{name_of}
 use Rattle.net_plane.proofs.SeenLemmas.{refusal_is}
 use Rattle.net_plane.proofs.net.Net.refusal_of.Goals as goal

@@ -2,9 +2,9 @@ use Rattle.std.proofs.Common.{List, ap, sym, subst, ◌∙◌}
 use Rattle.plane_words.specs.Growth.{Grows}
 use Rattle.kern_model.specs.declared.object.Call.{Call}
 use Rattle.net_settle.specs.Outside.{outside_of}
-use Rattle.net_anew.proofs.CourseLemmas.{beside_then}
-use Rattle.net_anew.specs.InStep.{inputs_of}
-use Rattle.net_anew.specs.Course.{held_of}
+use Rattle.net_rebuild.proofs.SettlingStateLemmas.{beside_then}
+use Rattle.net_rebuild.specs.InStep.{inputs_of}
+use Rattle.net_rebuild.specs.SettlingState.{held_of}
 use Rattle.net_plane.specs.Network.{Network, IsOf, calls_of}
 use Rattle.net_plane.specs.Settled.{Settles, HasMade}
 use Rattle.net_plane.proofs.MomentLemmas.{fresh_same}

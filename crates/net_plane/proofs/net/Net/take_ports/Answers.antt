@@ -10,8 +10,8 @@ of-requires-clause-free c = free_below c.args.self.now c.self.inside.follower c.
 pub of-requires-clause-few : goal.of-requires-clause-few
 of-requires-clause-few c = few_in_step c.self.inside.follower c.self.invariant
 
-pub join_ports-requires-clause-anew : goal.join_ports-requires-clause-anew
-join_ports-requires-clause-anew c = (c.args.radio, c.args.number, c.args.ports, c.in-Ok.ensures)
+pub join_ports-requires-clause-rebuild : goal.join_ports-requires-clause-rebuild
+join_ports-requires-clause-rebuild c = (c.args.radio, c.args.number, c.args.ports, c.in-Ok.ensures)
 
 pub returns-clause-ok : goal.returns-clause-ok
 returns-clause-ok c =

@@ -17,7 +17,7 @@ give_all-requires-clause-places c =
     let found = at_within inputs.conf.interfaces c.args.place c.requires.place in
     let same : c.index-as_slice-place.result ≡ found.0 = read_same inputs.conf.interfaces c.as_slice.result.now c.args.place c.index-as_slice-place.result found.0 all c.requires.place c.index-as_slice-place.is found.1 in
     let up : c.args.state.now.is_up ≡ true = c.if-not-state.false in
-    subst (λ (os : List Object). HavePlaces c.args.settling.now.gifts os) (gives_up inputs c.index-as_slice-place.result c.args.state.now c.in-Some.layer up c.in-Some.is)
+    subst (λ (os : List Object). HavePlaces c.args.settling.now.gifts os) (gives_up inputs c.index-as_slice-place.result c.args.state.now c.in-Some.l3_device up c.in-Some.is)
     (subst (λ (row : InterfaceRow). HavePlaces c.args.settling.now.gifts (gives (facts_of inputs) row c.args.state.now)) (sym same)
     (c.requires.places found.0 found.1))
 
@@ -28,7 +28,7 @@ give_all-requires-clause-few c = λ o member.
     let found = at_within inputs.conf.interfaces c.args.place c.requires.place in
     let same : c.index-as_slice-place.result ≡ found.0 = read_same inputs.conf.interfaces c.as_slice.result.now c.args.place c.index-as_slice-place.result found.0 all c.requires.place c.index-as_slice-place.is found.1 in
     let up : c.args.state.now.is_up ≡ true = c.if-not-state.false in
-    subst (λ (os : List Object). givers_of c.args.settling.now.gifts o + length os ≤ 2 ^ 62) (gives_up inputs c.index-as_slice-place.result c.args.state.now c.in-Some.layer up c.in-Some.is)
+    subst (λ (os : List Object). givers_of c.args.settling.now.gifts o + length os ≤ 2 ^ 62) (gives_up inputs c.index-as_slice-place.result c.args.state.now c.in-Some.l3_device up c.in-Some.is)
     (subst (λ (row : InterfaceRow). givers_of c.args.settling.now.gifts o + length (gives (facts_of inputs) row c.args.state.now) ≤ 2 ^ 62) (sym same)
     (c.requires.few found.0 o found.1))
 
@@ -39,5 +39,5 @@ returns-clause-gifts c = λ row there.
     let same : c.index-as_slice-place.result ≡ row = read_same inputs.conf.interfaces c.as_slice.result.now c.args.place c.index-as_slice-place.result row all c.requires.place c.index-as_slice-place.is there in
     let up : c.args.state.now.is_up ≡ true = c.if-not-state.false in
     c.give_all.ensures
-    ∙ ap (λ (os : List Object). fold given_once_more c.args.settling.now.gifts os) (sym (gives_up inputs c.index-as_slice-place.result c.args.state.now c.in-Some.layer up c.in-Some.is))
+    ∙ ap (λ (os : List Object). fold given_once_more c.args.settling.now.gifts os) (sym (gives_up inputs c.index-as_slice-place.result c.args.state.now c.in-Some.l3_device up c.in-Some.is))
     ∙ ap (λ (x : InterfaceRow). fold given_once_more c.args.settling.now.gifts (gives (facts_of inputs) x c.args.state.now)) same

@@ -2,7 +2,7 @@ use Rattle.std.proofs.Common.{◌≡◌, ap, sym, ◌∙◌}
 use Rattle.net_rows.specs.declared.rows.Conf.{Conf}
 use Rattle.net_rows.specs.declared.rows.InterfaceRow.{InterfaceRow}
 use Rattle.net_rules.specs.Inputs.{facts_of}
-use Rattle.net_rules.specs.Interfaces.{is_claimed, is_up, layer_of}
+use Rattle.net_rules.specs.Interfaces.{is_claimed, is_up, l3_device_of}
 use Rattle.net_rules.specs.declared.state.InterfaceState.{InterfaceState}
 use Rattle.net_rules.proofs.MoveLemmas.{some_is}
 use Rattle.net_states.proofs.PlaceLemmas.{read_same}
@@ -19,7 +19,7 @@ returns c = λ row st there is first.
     record {
       is = record {
         device = ap (λ (s : InterfaceState). s.device) same ∙ device_noted inputs states c.requires.tied c.args.place row st there is first;
-        layer = c.layer_of.ensures ∙ ap (λ (x : InterfaceRow). layer_of (facts_of inputs) x) read;
+        l3_device = c.l3_device_of.ensures ∙ ap (λ (x : InterfaceRow). l3_device_of (facts_of inputs) x) read;
         claimed = c.is_claimed.ensures ∙ ap (λ (x : InterfaceRow). is_claimed (facts_of inputs) x) read;
         up = c.is_up.ensures ∙ ap (λ (x : InterfaceRow). is_up (facts_of inputs) x) read;
       };

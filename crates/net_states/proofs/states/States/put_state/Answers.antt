@@ -1,6 +1,6 @@
 use Rattle.std.proofs.Common.{arith, ◌≤◌, ◌+◌, ◌^◌, length, refl, sym, subst}
 use Rattle.net_rules.specs.Inputs.{facts_of}
-use Rattle.graph_settle.specs.Course.{Course}
+use Rattle.graph_settle.specs.SettlingState.{SettlingState}
 use Rattle.given_objects.specs.Gifts.{Gifts, givers_of}
 use Rattle.net_gifts.specs.Giving.{gives}
 use Rattle.claim_moves.specs.Claiming.{CanMove}
@@ -23,7 +23,7 @@ move_claims-requires g c =
     let found = at_within inputs.conf.interfaces c.args.place c.requires.place in
     let can = c.requires.can found.0 c.index.result.now found.1 is in
     let few : length states.list.items ≤ 1024 = omega (arith, c.requires.tied.noted.size, c.requires.counted.room.rows) in
-    subst (λ (s : Course). CanMove s.graph.known c.index.result.now c.args.new) (sym c.withdraw.ensures.kept)
+    subst (λ (s : SettlingState). CanMove s.graph.known c.index.result.now c.args.new) (sym c.withdraw.ensures.kept)
     (can_move states.list.items c.args.place c.index.result.now c.args.new is c.args.settling.now.graph.known few c.requires.counted.counted.claims can.device can.known)
 
 pub give-requires-clause-places : goal.give-requires-clause-places

@@ -17,7 +17,7 @@ withdraw_all-requires-clause-given c = λ o.
     let found = at_within inputs.conf.interfaces c.args.place c.requires.place in
     let same : c.index-as_slice-place.result ≡ found.0 = read_same inputs.conf.interfaces c.as_slice.result.now c.args.place c.index-as_slice-place.result found.0 all c.requires.place c.index-as_slice-place.is found.1 in
     let up : c.args.state.now.is_up ≡ true = c.if-not-state.false in
-    subst (λ (os : List Object). times_in o os ≤ givers_of c.args.settling.now.gifts o) (gives_up inputs c.index-as_slice-place.result c.args.state.now c.in-Some.layer up c.in-Some.is)
+    subst (λ (os : List Object). times_in o os ≤ givers_of c.args.settling.now.gifts o) (gives_up inputs c.index-as_slice-place.result c.args.state.now c.in-Some.l3_device up c.in-Some.is)
     (subst (λ (row : InterfaceRow). times_in o (gives (facts_of inputs) row c.args.state.now) ≤ givers_of c.args.settling.now.gifts o) (sym same)
     (c.requires.given found.0 o found.1))
 
@@ -28,5 +28,5 @@ returns-clause-gifts c = λ row there.
     let same : c.index-as_slice-place.result ≡ row = read_same inputs.conf.interfaces c.as_slice.result.now c.args.place c.index-as_slice-place.result row all c.requires.place c.index-as_slice-place.is there in
     let up : c.args.state.now.is_up ≡ true = c.if-not-state.false in
     c.withdraw_all.ensures
-    ∙ ap (λ (os : List Object). fold given_once_less c.args.settling.now.gifts os) (sym (gives_up inputs c.index-as_slice-place.result c.args.state.now c.in-Some.layer up c.in-Some.is))
+    ∙ ap (λ (os : List Object). fold given_once_less c.args.settling.now.gifts os) (sym (gives_up inputs c.index-as_slice-place.result c.args.state.now c.in-Some.l3_device up c.in-Some.is))
     ∙ ap (λ (x : InterfaceRow). fold given_once_less c.args.settling.now.gifts (gives (facts_of inputs) x c.args.state.now)) same

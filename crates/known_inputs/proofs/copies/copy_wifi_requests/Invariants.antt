@@ -1,0 +1,6 @@
+use Rattle.std.proofs.Common.{◌≡◌, take}
+use Rattle.known_inputs.proofs.copies.copy_wifi_requests.Given as goal
+
+-- the copies so far
+abbrev pub invariant-loop-request : goal.invariant-loop-request
+invariant-loop-request l = l.copies ≡ take l.request-index l.requests

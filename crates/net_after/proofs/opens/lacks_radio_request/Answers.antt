@@ -1,0 +1,10 @@
+use Rattle.std.proofs.Common.{ap, ◌∙◌}
+use Rattle.std.specs.Prelude.{is_some, not}
+use Rattle.net_rules.specs.declared.inputs.OpenRadio.{OpenRadio}
+use Rattle.net_rules.specs.Inputs.{open_radio}
+use Rattle.net_view.proofs.PlaceLemmas.{place_is_found}
+use Rattle.net_after.proofs.AskedLemmas.{none_is_not_some}
+use Rattle.net_after.proofs.opens.lacks_radio_request.Goals as goal
+
+pub returns : goal.returns
+returns c = ap not (c.contains_key.ensures ∙ ap is_some (c.requires c.args.name.now) ∙ place_is_found (λ (o : OpenRadio). o.request.name) c.args.current.now c.args.name.now) ∙ none_is_not_some (open_radio c.args.current.now c.args.name.now)

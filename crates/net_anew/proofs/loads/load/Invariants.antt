@@ -1,4 +1,0 @@
-use Rattle.net_anew.proofs.loads.load.Given as goal
-
-abbrev pub ghosts-begin : goal.ghosts-begin
-ghosts-begin a = record { name = a.blank.name; parts = a.blank.parts }

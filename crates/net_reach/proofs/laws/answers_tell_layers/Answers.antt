@@ -1,5 +1,0 @@
-use Rattle.net_reach.proofs.AlikeLemmas.{answer_tells, closed_tells}
-use Rattle.net_reach.proofs.laws.answers_tell_layers.Goals as goal
-
-pub returns : goal.returns
-returns c = record { answer = answer_tells; closed = closed_tells }

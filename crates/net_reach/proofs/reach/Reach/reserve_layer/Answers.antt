@@ -1,5 +1,0 @@
-use Rattle.net_reach.proofs.LayerLemmas.{room_taken}
-use Rattle.net_reach.proofs.reach.Reach.reserve_layer.Goals as goal
-
-pub returns-clause-stays : goal.returns-clause-stays
-returns-clause-stays c = λ inputs is. room_taken inputs c.args.self.now c.reserve_place.new.groups is c.reserve_place.ensures.places

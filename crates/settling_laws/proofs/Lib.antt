@@ -1,0 +1,10 @@
+pub mod TimesLemmas
+pub mod GivenLemmas
+pub mod SettlingStateLemmas
+pub mod DeviceLemmas
+pub mod LoadLemmas
+pub mod ClaimLemmas
+pub mod FurtherLemmas
+pub mod QuietLemmas
+pub mod LentLemmas
+pub mod CountedLemmas
