@@ -17,8 +17,8 @@ use Rattle.net_rules.specs.Inputs.{no_inputs}
 use Rattle.net_rules.specs.Moment.{Moment, want_of, devices_of}
 use Rattle.net_settle.specs.Outside.{Outside}
 use Rattle.net_plane.specs.Network.{Network, IsNew, HasSameKernel, moment_of}
-use Rattle.step_net.specs.declared.told.Told.{Told}
-use Rattle.step_net.specs.Taken.{IsActed}
+use Rattle.step_net.specs.declared.taken.Taken.{Taken}
+use Rattle.step_net.specs.Taken.{IsNoted}
 use Rattle.step_net.specs.NetLine.{load_within, load_line}
 use Rattle.step_net.specs.Acted.{acted}
 use Rattle.step_net.specs.Effects.{Effects, Leaves}
@@ -157,9 +157,9 @@ nothing_held count =
     no_package (passed_limit (conf (network standing.All count) no_package)) refl
 
 -- the plane behind its first load
-pub first_load : (count : ℕ) (new now : Network) (rows nothing : Package) (told : Told)
+pub first_load : (count : ℕ) (new now : Network) (rows nothing : Package) (told : Taken)
     → IsNew new → rows ≡ network standing.All count → nothing ≡ no_package
-    → IsActed (acted (moment_of new) (load_line rows nothing) false) now told
+    → IsNoted (acted (moment_of new) (load_line rows nothing) false) now told
     → moment_of now ≡ loaded count
 first_load count new now rows nothing told is_new is none acts =
     let start : moment_of new ≡ record { inputs = no_inputs; held = set.empty } =

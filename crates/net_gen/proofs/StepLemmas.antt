@@ -14,13 +14,13 @@ use Rattle.net_rules.specs.Moment.{Moment}
 use Rattle.net_settle.specs.Outside.{Outside}
 use Rattle.net_settle.specs.Settle.{done_call}
 use Rattle.net_plane.specs.Network.{Network, moment_of, IsOf, HasSameKernel}
-use Rattle.step_net.specs.declared.told.Told.{Told}
+use Rattle.step_net.specs.declared.taken.Taken.{Taken}
 use Rattle.step_net.specs.NetLine.{NetLine, load_within, load_line}
 use Rattle.step_net.specs.Acted.{Acted, acted}
 use Rattle.step_net.specs.Effects.{Effects, no_effects, joined, Leaves}
 use Rattle.step_net.specs.Moved.{Luck, failures_of, moved, due, made, settled, asked_in, once_if}
 use Rattle.step_net.specs.Taken as step
-use Rattle.step_net.specs.Taken.{Telled, Asks, Takes, Tries, IsLeft}
+use Rattle.step_net.specs.Taken.{Telled, Asks, TakesEvent, TriesEvent, IsLeft}
 use Rattle.step_net.proofs.GrowthLemmas.{grows_none, grows_more, grows_to_front, records_none, records_more}
 use Rattle.net_gen.specs.declared.steps.Step.{Step}
 use Rattle.net_gen.specs.Counted.{IsCounted, IsBrokenOff, CountEnds}
@@ -47,8 +47,8 @@ loads_asked rows wireless old kernel asked faults = record {
 
 pub load_tries : {M : Type 0} (rows wireless : Package) (old new : Network) (kernel : Telled)
     → kernel.asked_now ≡ kernel.asked → kernel.faults_now ≡ kernel.faults
-    → (result : Result Told M) → Takes (load_line rows wireless) old new result
-    → Tries (load_line rows wireless) old new kernel result
+    → (result : Result Taken M) → TakesEvent (load_line rows wireless) old new result
+    → TriesEvent (load_line rows wireless) old new kernel result
 load_tries rows wireless old new kernel asked faults (Ok told) is = record {
   failed = false;
   is = is;
@@ -83,7 +83,7 @@ between f b = record {
 
 -- a step that was done, and then settled
 module _ (rows : Package) (which : Step) (old mid : Network) (f b a : Outside)
-    (calls : b.calls ≡ f.calls) (told : Told)
+    (calls : b.calls ≡ f.calls) (told : Taken)
     (t : step.IsTaken (line_of rows which) old mid (between f b) told) where
   abbrev done : Acted
   done = acted (moment_of old) (line_of rows which) t.failed

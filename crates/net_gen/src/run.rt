@@ -65,7 +65,7 @@ fn load_all(alloc: Global, count: u32) -> Result<Net, Memory>
     };
     let mut net = Net::new(alloc);
     let nothing = no_package(alloc);
-    let Ok(_told) = take_load(alloc, &mut net, &rows, &nothing) else {
+    let Ok(_taken) = take_load(alloc, &mut net, &rows, &nothing) else {
         return Err(Memory);
     };
     Ok(net)

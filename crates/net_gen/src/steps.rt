@@ -1,7 +1,7 @@
 ghost use Rattle.std.specs.Prelude.{◌≡◌, ◌≤◌, [], length, OnOk};
 ghost use Rattle.net_rules.specs.Moment.{want_of};
 ghost use Rattle.net_plane.specs.Network.{IsOf, moment_of};
-ghost use Rattle.step_net.specs.Taken.{Tries, telled_of};
+ghost use Rattle.step_net.specs.Taken.{TriesEvent, telled_of};
 ghost use Rattle.step_net.specs.Finished.{HoldsOrFailed};
 ghost use Rattle.net_gen.specs.Counted.{kernel_alone};
 ghost use Rattle.net_gen.specs.Steps as spec;
@@ -14,7 +14,7 @@ use net_plane::Net;
 use net_start::ETHERNET_MTU;
 use plane_io::Memory;
 use std::alloc::Global;
-use step_net::{Told, take_device, take_load};
+use step_net::{Taken, take_device, take_load};
 use uci_tree::Package;
 
 /// A step of a run.
@@ -63,7 +63,7 @@ pub(crate) fn take_step<K: Kernel>(
         (K.faults kernel.old) (K.faults kernel.new)) }
     ensures silent { OnOk result (net.new.notices ≡ []) }
 {
-    let Ok(_told) = act(alloc, rows, step, net, kernel) else {
+    let Ok(_taken) = act(alloc, rows, step, net, kernel) else {
         return Err(Memory);
     };
     settle_and_count(net, kernel)
@@ -76,10 +76,10 @@ fn act<K: Kernel>(
     step: Step,
     net: &mut Net,
     kernel: &mut K,
-) -> Result<Told, Memory>
+) -> Result<Taken, Memory>
     requires told { net.old.notices ≡ [] }
     requires of { IsOf K.Kernel kernel.old net.old }
-    ensures tries { Tries (spec.line_of rows.now step) net.old net.new
+    ensures tries { TriesEvent (spec.line_of rows.now step) net.old net.new
         (telled_of K.Kernel kernel.old kernel.new) result }
     ensures of { IsOf K.Kernel kernel.new net.new }
     ensures calls { K.calls kernel.new ≡ K.calls kernel.old }

@@ -9,25 +9,13 @@ use Rattle.script_lines.specs.declared.line_error.LineError.{LineError}
 use Rattle.step_net.specs.declared.told.Told.{Told}
 use Rattle.step_net.specs.NetLine.{NetLine, refused as refuses}
 use Rattle.step_net.specs.Acted.{acted}
-use Rattle.step_net.specs.Taken.{telling_in, Takes, Shows, Tries, Telled, Asks, IsLeft}
+use Rattle.step_net.specs.Taken.{telling_in, IsActed, Shows, Tries, Telled, Asks, IsLeft}
 use Rattle.step_net.specs.Told.{refused}
 use Rattle.plane_step.specs.Ground.{Ground}
 use Rattle.plane_step.specs.Means.{Means, bad_line}
 use Rattle.plane_step.specs.LineDone.{Front, Read, ground_at, IsNetUndone, NetDoes, IsOfNet}
 use Rattle.step_net.specs.ReloadTaken.{TakesOne}
-
--- a line at which the kernel is asked nothing
-pub tries_alone : {M : Type 0} (act : NetLine) (before now : Network) (kernel : Telled)
-    (result : Result Told M) → (acted (moment_of before) act false).asked ≡ [] → Asks [] false kernel
-    → Takes act before now result → Tries act before now kernel result
-tries_alone act before now kernel (Ok told) none nothing takes = record {
-  failed = false;
-  is = takes;
-  requests = subst (λ what. Asks what false kernel) (sym none) nothing;
-}
-tries_alone act before now kernel (Err lacks) none nothing (inl same) = IsLeft.in_front same nothing
-tries_alone act before now kernel (Err lacks) none nothing (inr net) =
-    IsLeft.behind false net (subst (λ what. Asks what false kernel) (sym none) nothing)
+use Rattle.step_net.proofs.TakenLemmas.{tries_alone}
 
 -- a line that shows something
 pub tries_shown : {M : Type 0} (act : NetLine) (now : Network) (kernel : Telled)
@@ -57,13 +45,13 @@ pub does_one : {M : Type 0} (read : Read) (Asked : NetLine → Type 0) (net : Ne
 does_one {M} read Asked net kernel (Ok told) means nothing takes = record {
   act = takes.0;
   means = means takes.0 takes.1;
-  taken = tries_alone {M = M} takes.0 read.front.net net kernel (Ok told) takes.2.none nothing takes.2.is;
+  taken = tries_alone {M = M} IsActed takes.0 read.front.net net kernel (Ok told) takes.2.none nothing takes.2.is;
 }
 does_one {M} read Asked net kernel (Err lacks) means nothing (inl same) =
     IsNetUndone.unasked same nothing
 does_one {M} read Asked net kernel (Err lacks) means nothing (inr takes) =
     IsNetUndone.asked takes.0 (means takes.0 takes.1)
-    (tries_alone {M = M} takes.0 read.front.net net kernel (Err lacks) takes.2.none nothing takes.2.is)
+    (tries_alone {M = M} IsActed takes.0 read.front.net net kernel (Err lacks) takes.2.none nothing takes.2.is)
 
 -- a line that is refused before the plane is asked
 pub tries_refused : {M : Type 0} (e : LineError) (now : Network) (kernel : Telled)

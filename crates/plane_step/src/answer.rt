@@ -14,7 +14,7 @@ use plane_io::{Memory, Text};
 use script_lines::LineError;
 use serde_json::Value;
 use std::alloc::Global;
-use step_net::{Told, refuse, take_answer, take_radio};
+use step_net::{Told, refuse, take_answer, take_radio, tell};
 
 /// The handler of an interface answers a request, in a line at this number of the script.
 pub(crate) fn answer_interface(
@@ -39,7 +39,7 @@ pub(crate) fn answer_interface(
         return Err(Memory);
     };
     match read {
-        Some(answer) => take_answer(alloc, net, interface, request, answer),
+        Some(answer) => tell(alloc, take_answer(alloc, net, interface, request, answer)),
         None => refuse_line(alloc, number),
     }
 }
@@ -67,7 +67,7 @@ pub(crate) fn answer_radio(
         return Err(Memory);
     };
     match read {
-        Some(ports) => take_radio(alloc, net, radio, request, ports),
+        Some(ports) => tell(alloc, take_radio(alloc, net, radio, request, ports)),
         None => refuse_line(alloc, number),
     }
 }

@@ -23,6 +23,7 @@ use script_lines::ScriptLine;
 use std::alloc::Global;
 use step_net::{
     Told, reload, show_device, show_dump, show_interface, show_radio, take_device, take_operator,
+    tell,
 };
 use uci_store::Store;
 
@@ -102,7 +103,7 @@ fn act_on_net<K: Kernel>(
     ensures calls { K.calls kernel.new ≡ K.calls kernel.old }
 {
     match line {
-        ScriptLine::Device(event) => take_device(alloc, net, kernel, &event),
+        ScriptLine::Device(event) => tell(alloc, take_device(alloc, net, kernel, &event)),
         ScriptLine::Answer {
             interface,
             number: request,
@@ -113,8 +114,10 @@ fn act_on_net<K: Kernel>(
             number: request,
             json,
         } => answer_radio(alloc, net, number, radio, request, &json),
-        ScriptLine::Operator { interface, up } => take_operator(alloc, net, interface, up),
-        ScriptLine::Reload => reload(alloc, store, net),
+        ScriptLine::Operator { interface, up } => {
+            tell(alloc, take_operator(alloc, net, interface, up))
+        }
+        ScriptLine::Reload => tell(alloc, reload(alloc, store, net)),
         ScriptLine::Dump => show_dump(alloc, net),
         ScriptLine::InterfaceStatus { name } => show_interface(alloc, net, &name),
         ScriptLine::DeviceStatus { name } => show_device(alloc, net, &name),

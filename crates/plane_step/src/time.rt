@@ -14,7 +14,7 @@ use net_plane::Net;
 use plane_disk::Disk;
 use script_lines::LineError;
 use std::alloc::Global;
-use step_net::{Told, refuse, reload, tell_nothing};
+use step_net::{Told, refuse, reload, tell, tell_nothing};
 use uci_store::Store;
 
 /// The moment becomes this one, unless it is before the last. An apply whose deadline has come is
@@ -50,7 +50,7 @@ pub(crate) fn go_to<D: Disk>(
     match store.tick(files, next) {
         Ok(true) => {
             *moment = next;
-            match reload(alloc, store, net) {
+            match tell(alloc, reload(alloc, store, net)) {
                 Ok(told) => Ok(told),
                 Err(_) => Err(Stop::Memory),
             }

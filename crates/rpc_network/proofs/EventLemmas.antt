@@ -1,275 +1,54 @@
--- Events that are taken or refused, and what is answered.
-use Rattle.std.proofs.Common.{arith, ℕ, ◌≡◌, ◌≤◌, List, [], Option, Some, None, Bool, false, true, inl, inr, refl, ap, sym, subst, ◌∙◌}
-use Rattle.std.specs.Prelude.{Result, Ok, Err, OnOk, OnErr, IfOk, ◌⊎◌}
-use Rattle.kern_model.specs.declared.object.DevEvent.{DevEvent}
-use Rattle.kern_model.specs.declared.kernel.Asked.{Asked}
-use Rattle.kern_model.specs.Kernel.{Records}
+-- Calls that are answered by what their events came to.
+use Rattle.std.proofs.Common.{ℕ, ◌≡◌, [], Bool, false, Option, Some, None, refl, ap, sym, subst, ◌∙◌}
+use Rattle.std.specs.Prelude.{Result, Ok, Err}
 use Rattle.uci_tree.specs.declared.package.Package.{Package}
 use Rattle.net_conf.specs.Conf.{conf}
 use Rattle.net_conf.specs.Limits.{passed_limit}
-use Rattle.net_rules.specs.declared.event.Event.{Event}
-use Rattle.net_rules.specs.declared.event.Event.TheVariants as event
-use Rattle.net_rules.specs.declared.refusal.Refusal.{Refusal}
-use Rattle.net_rules.specs.declared.refusal.Refusal.TheVariants as why
-use Rattle.net_rules.specs.Moment.{Moment, moment_after}
-use Rattle.net_rules.specs.Refusal.{refusal}
-use Rattle.net_plane.specs.declared.net_error.NetError.{NetError}
-use Rattle.net_plane.specs.declared.net_error.NetError.TheVariants as net_error
-use Rattle.net_plane.specs.NetError as plane
+use Rattle.uci_tool.specs.Folder.{Folder}
+use Rattle.net_rules.specs.Moment.{Moment}
 use Rattle.net_plane.specs.Network.{Network, moment_of}
-use Rattle.net_plane.specs.Taken.{IsAfter, Answers, AnswersOrFails, TellsOnce}
+use Rattle.step_net.specs.declared.taken.Taken.{Taken}
 use Rattle.step_net.specs.NetLine.{NetLine, load_within}
-use Rattle.step_net.specs.Acted.{Acted, acted, error_of, took, took_free, took_or_refused, refused_for, failed_at, lines_of_requests}
-use Rattle.step_net.specs.Taken.{Telled, Asks, IsLeft}
-use Rattle.step_net.proofs.GrowthLemmas.{records_none}
-use Rattle.step_net.proofs.EventLemmas.{taken_net}
+use Rattle.step_net.specs.Acted.{Acted, acted}
+use Rattle.step_net.specs.Taken.{IsNoted, TakesEvent, TriesEvent, Telled, Asks, IsLeft}
+use Rattle.step_net.specs.Reload.{ReloadAsks}
 use Rattle.rpc_network.specs.declared.net_answer.NetAnswer.{NetAnswer}
-use Rattle.rpc_network.specs.Answered.{answered, of_acted, status_of, status_of_net, refused_as}
-use Rattle.rpc_network.specs.Told.{IsAnswered, Takes, IsTaken, Tries, TellsStatus, TellsError, AsksOnly, Ends}
+use Rattle.rpc_network.specs.Answered.{Answered, answered, of_acted, ended}
+use Rattle.rpc_network.specs.Told.{IsAnswered, IsTaken, Tries, IsAnswerTo}
 
--- where the kernel does not fail, an event that nothing refuses is taken
-free_is_taken : (net : Moment) (what : Event) → took_free net what false ≡ took net what
-free_is_taken net (event.Load rows) = refl
-free_is_taken net (event.Device what) = refl
-free_is_taken net (event.Operator interface up) = refl
-free_is_taken net (event.Answer interface number answer) = refl
-free_is_taken net (event.Radio radio number ports) = refl
-
--- a refusal is told as the plane tells it
-told_alike : (reason : Refusal) → status_of_net (plane.error_of reason) ≡ Some (status_of (error_of reason))
-told_alike why.NoInterface = refl
-told_alike why.NoRadio = refl
-told_alike (why.Stale given current) = refl
-told_alike why.NoDevice = refl
-told_alike why.Known = refl
-told_alike (why.WrongPorts wanted) = refl
-told_alike (why.Limit number) = refl
-
--- at a refused event the kernel is asked nothing
-not_asked : (X : Type 0) (what : DevEvent) (before now : Option (List Asked)) (reason : Refusal)
-    → TellsOnce {X = X} what before now (Err (plane.error_of reason)) → now ≡ before
-not_asked X what before now why.NoInterface h = h
-not_asked X what before now why.NoRadio h = h
-not_asked X what before now (why.Stale given current) h = h
-not_asked X what before now why.NoDevice h = h
-not_asked X what before now why.Known h = h
-not_asked X what before now (why.WrongPorts wanted) h = h
-not_asked X what before now (why.Limit number) h = h
-
--- the event was taken, and what is to be told of requests is kept
-taken_answered : (what : Event) (old mid new : Network) → IsAfter old what mid → new.inputs ≡ mid.inputs
-    → new.held ≡ mid.held → (told : NetAnswer) → AsksOnly (lines_of_requests mid.inputs.conf mid.notices) told
-    → new.notices ≡ [] → IsAnswered (of_acted (took (moment_of old) what)) new told
-taken_answered what old mid new after inputs held told is silent = record {
-  net = taken_net what old mid new after inputs held;
-  requests = is.requests
-      ∙ ap (λ (m : Moment). lines_of_requests m.inputs.conf mid.notices) after.moment
-      ∙ ap (λ told. lines_of_requests (moment_after (moment_of old) what).inputs.conf told) after.notices;
-  answer = is.answer;
-  silent = silent;
+-- what was kept of an event is answered
+answered_by : (done : Acted) (now : Network) (taken : Taken) (told : NetAnswer) → IsNoted done now taken
+    → told ≡ record { requests = taken.requests; answer = ended taken.refusal } → IsAnswered (of_acted done) now told
+answered_by done now taken told is tells = record {
+  net = is.net;
+  requests = ap (λ (t : NetAnswer). t.requests) tells ∙ is.requests;
+  answer = ap (λ (t : NetAnswer). t.answer) tells ∙ ap ended is.refusal;
+  silent = is.silent;
 }
 
--- the call was refused, and its status is kept
-refused_answered : (old new : Network) (reason : Refusal) (told : NetAnswer) → new ≡ old
-    → old.notices ≡ [] → TellsError (plane.error_of reason) told
-    → IsAnswered (of_acted (refused_for (moment_of old) (error_of reason))) new told
-refused_answered old new reason told same silent tells =
-    let is : told ≡ refused_as (status_of (error_of reason)) = subst (λ s. TellsStatus s told) (told_alike reason) tells in
-    record {
-      net = ap moment_of same;
-      requests = ap (λ (t : NetAnswer). t.requests) is;
-      answer = ap (λ (t : NetAnswer). t.answer) is;
-      silent = ap (λ (n : Network). n.notices) same ∙ silent;
-    }
+-- a call that means the line is answered by what that line does
+abbrev pub AnswersAlike : Moment → NetLine → Type 0
+AnswersAlike net line = (b : Bool) → answered net line b ≡ of_acted (acted net line b)
 
--- an event at which the kernel cannot fail
-takes_by : {X M : Type 0} (what : Event) (o : Option Refusal) (old mid new : Network)
-    (ended : Result X NetError) (result : Result NetAnswer M)
-    → OnOk ended (o ≡ None) → OnOk ended (IsAfter old what mid) → Answers o ended
-    → OnErr ended (mid ≡ old) → old.notices ≡ [] → Ends ended mid new result
-    → new.inputs ≡ mid.inputs → new.held ≡ mid.held → (line : NetLine)
-    → answered (moment_of old) line false ≡ of_acted (acted (moment_of old) line false)
-    → acted (moment_of old) line false ≡ took_or_refused (moment_of old) what false o
-    → Takes line old new result
-takes_by what None old mid new (Ok x) (Ok told) free after answers err silent ends inputs held line via is =
-    subst (λ done. IsAnswered done new told) (sym (via ∙ ap of_acted (is ∙ free_is_taken (moment_of old) what)))
-    (taken_answered what old mid new after inputs held told ends.0 ends.1)
-takes_by what None old mid new (Ok x) (Err lacks) free after answers err silent ends inputs held line via is =
-    inr (taken_net what old mid new after inputs held
-    ∙ ap (λ (done : Acted). done.net) (sym (is ∙ free_is_taken (moment_of old) what)))
-takes_by what (Some reason) old mid new (Ok x) result free after answers err silent ends inputs held line via is =
-    absurd (cc free)
-takes_by what None old mid new (Err e) (Ok told) free after answers err silent ends inputs held line via is =
-    absurd (subst (λ e. TellsError e told) answers ends.0)
-takes_by what (Some reason) old mid new (Err e) (Ok told) free after answers err silent ends inputs held line via is =
-    let same : e ≡ plane.error_of reason = cc answers in
-    subst (λ done. IsAnswered done new told) (sym (via ∙ ap of_acted is))
-    (refused_answered old new reason told (ends.1 ∙ err) silent
-    (subst (λ e. TellsError e told) same ends.0))
-takes_by what o old mid new (Err e) (Err lacks) free after answers err silent ends inputs held line via is =
-    inl (ends ∙ err)
+pub answer_tries : {M N : Type 0} (line : NetLine) (before now : Network) (kernel : Telled) (taken : Result Taken M)
+    (told : Result NetAnswer N) → AnswersAlike (moment_of before) line → TriesEvent line before now kernel taken
+    → IsAnswerTo taken told → Tries line before now kernel told
+answer_tries line before now kernel (Ok taken) (Ok told) alike tries tells = record {
+  failed = tries.failed;
+  is = subst (λ done. IsAnswered done now told) (sym (alike tries.failed))
+      (answered_by (acted (moment_of before) line tries.failed) now taken told tries.is tells);
+  requests = subst (λ (done : Answered). Asks done.asked tries.failed kernel) (sym (alike tries.failed)) tries.requests;
+}
+answer_tries line before now kernel (Ok taken) (Err lacks) alike tries tells = absurd tells
+answer_tries line before now kernel (Err lacks) (Ok told) alike tries tells = absurd tells
+answer_tries line before now kernel (Err lacks) (Err none) alike tries tells = tries
 
-pub takes : {X M : Type 0} (what : Event) (old mid new : Network) (ended : Result X NetError)
-    (result : Result NetAnswer M) → OnOk ended (IsAfter old what mid)
-    → Answers (refusal (moment_of old) what) ended → OnErr ended (mid ≡ old) → old.notices ≡ []
-    → Ends ended mid new result → new.inputs ≡ mid.inputs → new.held ≡ mid.held
-    → Takes (NetLine.happens what) old new result
-takes what old mid new (Ok x) result after answers err silent ends inputs held =
-    takes_by what (refusal (moment_of old) what) old mid new (Ok x) result after.free after answers
-    err silent ends inputs held (NetLine.happens what) refl refl
-takes what old mid new (Err e) result after answers err silent ends inputs held =
-    takes_by what (refusal (moment_of old) what) old mid new (Err e) result after after answers
-    err silent ends inputs held (NetLine.happens what) refl refl
+load_alike : (net : Moment) (network wireless : Package) (p : Option ℕ) → AnswersAlike net (load_within network wireless p)
+load_alike net network wireless None b = refl
+load_alike net network wireless (Some number) b = refl
 
--- rows that are loaded, or of which a list is too long
-loads_by : {X M : Type 0} (network wireless : Package) (p : Option ℕ) (old mid new : Network)
-    (ended : Result X NetError) (result : Result NetAnswer M)
-    → OnOk ended (IsAfter old (event.Load (conf network wireless)) mid) → OnOk ended (p ≡ None)
-    → ((e : NetError) → ended ≡ Err e → (e ≡ net_error.Memory)
-    ⊎ ((number : ℕ) × (e ≡ net_error.Limit number) × (p ≡ Some number)))
-    → OnErr ended (mid ≡ old) → old.notices ≡ [] → Ends ended mid new result
-    → new.inputs ≡ mid.inputs → new.held ≡ mid.held
-    → Takes (load_within network wireless p) old new result
-loads_by network wireless None old mid new (Ok x) result after free reason err silent ends inputs held =
-    takes (event.Load (conf network wireless)) old mid new (Ok x) result after tt err silent ends
-    inputs held
-loads_by network wireless (Some number) old mid new (Ok x) result after free reason err silent ends inputs held =
-    absurd (cc free)
-loads_by network wireless p old mid new (Err e) (Err lacks) after free reason err silent ends inputs held =
-    inl (ends ∙ err)
-loads_by {X} {M} network wireless p old mid new (Err e) (Ok told) after free reason err silent ends inputs held =
-    elim (reason e refl) as (λ _. Takes {M = M} (load_within network wireless p) old new (Ok told)) [
-      | inl memory ↦ absurd (subst (λ e. TellsError e told) memory ends.0)
-      | inr limit ↦ subst (λ p. Takes {M = M} (load_within network wireless p) old new (Ok told))
-          (sym limit.2)
-          (refused_answered old new (why.Limit limit.0) told (ends.1 ∙ err) silent
-          (subst (λ e. TellsError e told) limit.1 ends.0))
-    ]
-
-pub loads : {X M : Type 0} (network wireless : Package) (old mid new : Network)
-    (ended : Result X NetError) (result : Result NetAnswer M)
-    → OnOk ended (IsAfter old (event.Load (conf network wireless)) mid)
-    → OnOk ended (passed_limit (conf network wireless) ≡ None)
-    → ((e : NetError) → ended ≡ Err e → (e ≡ net_error.Memory) ⊎ ((number : ℕ)
-    × (e ≡ net_error.Limit number) × (passed_limit (conf network wireless) ≡ Some number)))
-    → OnErr ended (mid ≡ old) → old.notices ≡ [] → Ends ended mid new result
-    → new.inputs ≡ mid.inputs → new.held ≡ mid.held
-    → Takes (load_within network wireless (passed_limit (conf network wireless))) old new result
-loads network wireless = loads_by network wireless (passed_limit (conf network wireless))
-
--- what happens to a device, at which the kernel may fail
-module _ (what : DevEvent) (old mid new : Network) (kernel : Telled)
-    (later : kernel.faults ≤ kernel.faults_now) (silent : old.notices ≡ [])
-    (inputs : new.inputs ≡ mid.inputs) (held : new.held ≡ mid.held) where
-  abbrev line : NetLine
-  line = NetLine.happens (event.Device what)
-
-  abbrev done : Bool → Option Refusal → Acted
-  done failed o = took_or_refused (moment_of old) (event.Device what) failed o
-
-  asked_nothing : kernel.asked_now ≡ kernel.asked → Asks [] false kernel
-  asked_nothing same = record {
-    asked = subst (λ now. Records kernel.asked now []) (sym same) (records_none kernel.asked);
-    cause = omega arith;
-  }
-
-  taken_by : (o : Option Refusal) → ((b : Bool) → acted (moment_of old) line b ≡ done b o)
-      → (b : Bool) (told : NetAnswer) → IsAnswered (of_acted (done b o)) new told → Asks (done b o).asked b kernel
-      → IsTaken line old new kernel told
-  taken_by o is b told answers requests = record {
-    failed = b;
-    is = subst (λ d. IsAnswered (of_acted d) new told) (sym (is b)) answers;
-    requests = subst (λ (d : Acted). Asks d.asked b kernel) (sym (is b)) requests;
-  }
-
-  left_by : (o : Option Refusal) → ((b : Bool) → acted (moment_of old) line b ≡ done b o)
-      → (b : Bool) → moment_of new ≡ (done b o).net → Asks (done b o).asked b kernel
-      → IsLeft line old new kernel
-  left_by o is b net requests = IsLeft.behind b
-      (net ∙ ap (λ (d : Acted). d.net) (sym (is b)))
-      (subst (λ (d : Acted). Asks d.asked b kernel) (sym (is b)) requests)
-
-  failed_answered : (told : NetAnswer) → new ≡ old → TellsError net_error.KernelFailed told
-      → IsAnswered (of_acted (failed_at (moment_of old) what)) new told
-  failed_answered told same tells = record {
-    net = ap moment_of same;
-    requests = ap (λ (t : NetAnswer). t.requests) tells;
-    answer = ap (λ (t : NetAnswer). t.answer) tells;
-    silent = ap (λ (n : Network). n.notices) same ∙ silent;
-  }
-
-  tries_by : {X M : Type 0} (o : Option Refusal)
-      → ((b : Bool) → acted (moment_of old) line b ≡ done b o) → (ended : Result X NetError)
-      (result : Result NetAnswer M) → OnOk ended (o ≡ None) → OnOk ended (IsAfter old (event.Device what) mid)
-      → AnswersOrFails o kernel.faults kernel.faults_now ended → OnErr ended (mid ≡ old)
-      → TellsOnce what kernel.asked kernel.asked_now ended → Ends ended mid new result
-      → Tries line old new kernel result
-  tries_by {X} {M} None is (Ok x) (Ok told) free after answers err tells ends =
-      taken_by None is false told
-      (taken_answered (event.Device what) old mid new after inputs held told ends.0 ends.1)
-      (record { asked = tells; cause = omega arith })
-  tries_by {X} {M} None is (Ok x) (Err lacks) free after answers err tells ends =
-      left_by None is false (taken_net (event.Device what) old mid new after inputs held)
-      (record { asked = tells; cause = omega arith })
-  tries_by {X} {M} (Some reason) is (Ok x) result free after answers err tells ends = absurd (cc free)
-  tries_by {X} {M} (Some reason) is (Err e) (Ok told) free after answers err tells ends =
-      let same : e ≡ plane.error_of reason = cc answers in
-      taken_by (Some reason) is false told
-      (refused_answered old new reason told (ends.1 ∙ err) silent
-      (subst (λ e. TellsError e told) same ends.0))
-      (asked_nothing (not_asked X what kernel.asked kernel.asked_now reason
-      (subst (λ e. TellsOnce {X = X} what kernel.asked kernel.asked_now (Err e)) same tells)))
-  tries_by {X} {M} (Some reason) is (Err e) (Err lacks) free after answers err tells ends =
-      let same : e ≡ plane.error_of reason = cc answers in
-      IsLeft.in_front (ends ∙ err) (asked_nothing (not_asked X what kernel.asked kernel.asked_now reason
-      (subst (λ e. TellsOnce {X = X} what kernel.asked kernel.asked_now (Err e)) same tells)))
-  tries_by {X} {M} None is (Err e) (Ok told) free after (inl memory) err tells ends =
-      absurd (subst (λ e. TellsError e told) memory ends.0)
-  tries_by {X} {M} None is (Err e) (Ok told) free after (inr failed) err tells ends =
-      let rose = failed.1 in
-      taken_by None is true told
-      (failed_answered told (ends.1 ∙ err) (subst (λ e. TellsError e told) failed.0 ends.0))
-      (record {
-        asked = subst (λ e. TellsOnce {X = X} what kernel.asked kernel.asked_now (Err e)) failed.0 tells;
-        cause = omega arith;
-      })
-  tries_by {X} {M} None is (Err e) (Err lacks) free after (inl memory) err tells ends =
-      IsLeft.in_front (ends ∙ err)
-      (asked_nothing (subst (λ e. TellsOnce {X = X} what kernel.asked kernel.asked_now (Err e)) memory tells))
-  tries_by {X} {M} None is (Err e) (Err lacks) free after (inr failed) err tells ends =
-      let rose = failed.1 in
-      left_by None is true (ap moment_of (ends ∙ err))
-      (record {
-        asked = subst (λ e. TellsOnce {X = X} what kernel.asked kernel.asked_now (Err e)) failed.0 tells;
-        cause = omega arith;
-      })
-
-  pub tries : {X M : Type 0} (ended : Result X NetError) (result : Result NetAnswer M)
-      → OnOk ended (IsAfter old (event.Device what) mid)
-      → AnswersOrFails (refusal (moment_of old) (event.Device what)) kernel.faults kernel.faults_now ended
-      → OnErr ended (mid ≡ old) → TellsOnce what kernel.asked kernel.asked_now ended
-      → Ends ended mid new result → Tries line old new kernel result
-  tries (Ok x) result after answers err tells ends =
-      tries_by (refusal (moment_of old) (event.Device what)) (λ b. refl) (Ok x) result after.free
-      after answers err tells ends
-  tries (Err e) result after answers err tells ends =
-      tries_by (refusal (moment_of old) (event.Device what)) (λ b. refl) (Err e) result after
-      after answers err tells ends
-
--- how an event ended is answered, by how it ended
-pub ends_taken : {X M : Type 0} (ended : Result X NetError) (x : X) (mid new : Network)
-    (result : Result NetAnswer M) → ended ≡ Ok x
-    → IfOk result (AsksOnly (lines_of_requests mid.inputs.conf mid.notices))
-    → OnOk result (new.notices ≡ []) → Ends ended mid new result
-ends_taken {X} {M} ended x mid new (Ok told) is tells silent =
-    subst (λ e. Ends {M = M} e mid new (Ok told)) (sym is) (tells, silent)
-ends_taken {X} {M} ended x mid new (Err lacks) is tells silent =
-    subst (λ e. Ends {M = M} e mid new (Err lacks)) (sym is) tt
-
-pub ends_refused : {X M : Type 0} (ended : Result X NetError) (e : NetError) (mid : Network)
-    (result : Result NetAnswer M) → ended ≡ Err e → IfOk result (TellsError e)
-    → Ends ended mid mid result
-ends_refused {X} {M} ended e mid (Ok told) is tells =
-    subst (λ e. Ends {M = M} e mid mid (Ok told)) (sym is) (tells, refl)
-ends_refused {X} {M} ended e mid (Err lacks) is tells =
-    subst (λ e. Ends {M = M} e mid mid (Err lacks)) (sym is) refl
+pub reload_alike : (net : Moment) (folder : Folder) (act : NetLine) → ReloadAsks folder act → AnswersAlike net act
+reload_alike net folder act (ReloadAsks.loaded network wireless found there) =
+    load_alike net network wireless (passed_limit (conf network wireless))
+reload_alike net folder act (ReloadAsks.no_network fault refused) = λ b. refl
+reload_alike net folder act (ReloadAsks.no_wireless network found fault refused) = λ b. refl

@@ -14,7 +14,5 @@ pub mod Reading
 pub mod Answered
 -- what the code made of it
 pub mod Told
--- a call at which the kernel is asked nothing
-pub mod Taken
 -- what a call means, and what comes of it
 pub mod NetCalls

@@ -6,10 +6,10 @@ use Rattle.net_plane.specs.declared.net_error.NetError.{NetError}
 use Rattle.net_plane.specs.Network.{Network, moment_of}
 use Rattle.script_lines.specs.declared.call_status.CallStatus.{CallStatus}
 use Rattle.step_net.specs.NetLine.{NetLine}
-use Rattle.step_net.specs.Acted.{acted, lines_of_requests}
-use Rattle.step_net.specs.Taken.{Telled, Asks, IsHalted, IsLeft}
+use Rattle.step_net.specs.declared.taken.Taken.{Taken}
+use Rattle.step_net.specs.Taken.{Telled, Asks, IsLeft}
 use Rattle.rpc_network.specs.declared.net_answer.NetAnswer.{NetAnswer}
-use Rattle.rpc_network.specs.Answered.{Answered, answered, status_of_net, refused_as, payload_of}
+use Rattle.rpc_network.specs.Answered.{Answered, answered, ended, status_of_net, refused_as, payload_of}
 
 -- the call was carried out, and is answered so; nothing else is left to be told
 pub record IsAnswered (done : Answered) (now : Network) (told : NetAnswer) : Type 0 where
@@ -17,11 +17,6 @@ pub record IsAnswered (done : Answered) (now : Network) (told : NetAnswer) : Typ
   pub requests : told.requests ≡ done.requests
   pub answer : told.answer ≡ done.answer
   pub silent : now.notices ≡ []
-
--- a call at which the kernel cannot fail; there may be no memory, before anything was done or for the answer
-abbrev pub Takes : {M : Type 0} → NetLine → Network → Network → Result NetAnswer M → Type 0
-Takes line before now (Ok told) = IsAnswered (answered (moment_of before) line false) now told
-Takes line before now (Err lacks) = IsHalted (acted (moment_of before) line false) before now
 
 -- a call at which the kernel may have failed
 pub record IsTaken (line : NetLine) (before now : Network) (kernel : Telled) (told : NetAnswer) : Type 0 where
@@ -33,6 +28,14 @@ abbrev pub Tries : {M : Type 0} → NetLine → Network → Network → Telled �
 Tries line before now kernel (Ok told) = IsTaken line before now kernel told
 Tries line before now kernel (Err lacks) = IsLeft line before now kernel
 
+-- A call is answered by what its event came to: the lines of requests and an empty payload, or the status of its
+-- refusal.
+abbrev pub IsAnswerTo : {M N : Type 0} → Result Taken M → Result NetAnswer N → Type 0
+IsAnswerTo (Ok taken) (Ok told) = told ≡ record { requests = taken.requests; answer = ended taken.refusal }
+IsAnswerTo (Ok taken) (Err lacks) = ⊥
+IsAnswerTo (Err lacks) (Ok told) = ⊥
+IsAnswerTo (Err lacks) (Err none) = ⊤
+
 -- the error is told as a status
 abbrev pub TellsStatus : Option CallStatus → NetAnswer → Type 0
 TellsStatus None told = ⊥
@@ -40,20 +43,6 @@ TellsStatus (Some why) told = told ≡ refused_as why
 
 abbrev pub TellsError : NetError → NetAnswer → Type 0
 TellsError e told = TellsStatus (status_of_net e) told
-
--- these lines of requests, and an empty payload
-pub record AsksOnly (lines : List ℕ) (told : NetAnswer) : Type 0 where
-  pub requests : told.requests ≡ lines
-  pub answer : told.answer ≡ Ok []
-
--- How an event ended is answered. Where it was taken, all that is to be told of requests is handed out. Where it was
--- refused, its error is told, and nothing changes. Either may want memory.
-abbrev pub Ends : {X M : Type 0} → Result X NetError → Network → Network → Result NetAnswer M → Type 0
-Ends (Ok taken) before now (Ok told) =
-    AsksOnly (lines_of_requests before.inputs.conf before.notices) told × (now.notices ≡ [])
-Ends (Err e) before now (Ok told) = TellsError e told × (now ≡ before)
-Ends (Ok taken) before now (Err lacks) = ⊤
-Ends (Err e) before now (Err lacks) = now ≡ before
 
 -- this value is the payload, and nothing is asked
 pub record ShowsValue (value : Data) (told : NetAnswer) : Type 0 where

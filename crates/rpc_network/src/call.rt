@@ -5,11 +5,10 @@ ghost use Rattle.net_plane.specs.Network.{IsOf};
 ghost use Rattle.step_net.specs.Taken.{telled_of};
 ghost use Rattle.rpc_network.specs.NetCalls.{Answers, Carries};
 
-use crate::reloading::reload;
+use crate::net_answer::answer_event;
 use crate::{
-    NetAnswer, NetCall, NetCallError, NetObject, answer_device, answer_device_status, answer_dump,
-    answer_interface_status, answer_operator, answer_radio, answer_radio_status, answer_request,
-    read_call, refuse,
+    NetAnswer, NetCall, NetCallError, NetObject, answer_device_status, answer_dump,
+    answer_interface_status, answer_radio_status, read_call, refuse,
 };
 use blob_codec::Attr;
 use kern_model::Kernel;
@@ -17,6 +16,7 @@ use net_plane::Net;
 use plane_io::Memory;
 use script_lines::CallStatus;
 use std::alloc::Global;
+use step_net::{reload, take_answer, take_device, take_operator, take_radio};
 use uci_store::Store;
 
 /// Carries a call of a method of this object out. A method that the object does not have has status
@@ -67,22 +67,24 @@ fn carry_out<K: Kernel>(
     ensures calls { K.calls kernel.new ≡ K.calls kernel.old }
 {
     match call {
-        NetCall::Reload => reload(alloc, store, net),
+        NetCall::Reload => answer_event(alloc, reload(alloc, store, net)),
         NetCall::Dump => answer_dump(alloc, net),
         NetCall::InterfaceStatus { name } => answer_interface_status(alloc, net, &name),
-        NetCall::Operator { interface, up } => answer_operator(alloc, net, interface, up),
+        NetCall::Operator { interface, up } => {
+            answer_event(alloc, take_operator(alloc, net, interface, up))
+        }
         NetCall::Answer {
             interface,
             number,
             answer,
-        } => answer_request(alloc, net, interface, number, answer),
+        } => answer_event(alloc, take_answer(alloc, net, interface, number, answer)),
         NetCall::DeviceStatus { name } => answer_device_status(alloc, net, &name),
-        NetCall::Device(event) => answer_device(alloc, net, kernel, &event),
+        NetCall::Device(event) => answer_event(alloc, take_device(alloc, net, kernel, &event)),
         NetCall::RadioStatus { name } => answer_radio_status(alloc, net, &name),
         NetCall::Radio {
             radio,
             number,
             ports,
-        } => answer_radio(alloc, net, radio, number, ports),
+        } => answer_event(alloc, take_radio(alloc, net, radio, number, ports)),
     }
 }

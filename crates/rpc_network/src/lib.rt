@@ -3,7 +3,6 @@
 //! at hand, and what they answer.
 #![tactic(auto)]
 
-mod answering;
 mod arguments;
 mod call;
 mod device_event;
@@ -12,10 +11,8 @@ mod net_answer;
 mod net_call;
 mod net_object;
 mod reading;
-mod reloading;
 mod showing;
 
-pub use answering::{answer_device, answer_load, answer_operator, answer_radio, answer_request};
 pub use call::call_network;
 pub use net_answer::{NetAnswer, refuse};
 pub use net_call::{NetCall, NetCallError};

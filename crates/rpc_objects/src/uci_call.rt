@@ -23,7 +23,7 @@ use plane_disk::Disk;
 use rpc_session::Sessions;
 use rpc_uci::serve;
 use std::alloc::Global;
-use step_net::reload;
+use step_net::{reload, tell};
 use uci_store::Store;
 
 /// Carries a call of the object `uci` out. Behind an apply and a rollback the files are loaded
@@ -107,7 +107,7 @@ fn reload_after(
     if !anew {
         return Ok(Outcome::quiet(alloc, answer.answer));
     }
-    match reload(alloc, store, net) {
+    match tell(alloc, reload(alloc, store, net)) {
         Ok(told) => Ok(Outcome::of_reload(answer.answer, told)),
         Err(_) => Err(CallStop::Memory),
     }

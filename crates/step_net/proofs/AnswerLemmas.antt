@@ -5,18 +5,18 @@ use Rattle.net_plane.specs.Network.{Network, moment_of}
 use Rattle.script_lines.specs.declared.line_error.LineError.{LineError}
 use Rattle.step_net.specs.declared.told.Told.{Told}
 use Rattle.step_net.specs.NetLine.{NetLine, refused as refuses}
-use Rattle.step_net.specs.Acted.{acted}
+use Rattle.step_net.specs.Acted.{Acted, acted}
 use Rattle.step_net.specs.Told.{refused}
-use Rattle.step_net.specs.Taken.{telling_in, Takes}
-use Rattle.step_net.specs.ReloadTaken.{TakesOne}
+use Rattle.step_net.specs.Taken.{telling_in, TakesAs}
+use Rattle.step_net.specs.ReloadTaken.{TakesOneAs, TakesOne}
 
 -- it asks this, and the kernel is asked nothing
-pub takes_this : {M : Type 0} (Asked : NetLine → Type 0) (act : NetLine) (before now : Network)
-    (result : Result Told M) → Asked act → (acted (moment_of before) act false).asked ≡ []
-    → Takes act before now result → TakesOne Asked before now result
-takes_this Asked act before now (Ok told) is none takes =
+pub takes_this : {T M : Type 0} (Is : Acted → Network → T → Type 0) (Asked : NetLine → Type 0) (act : NetLine)
+    (before now : Network) (result : Result T M) → Asked act → (acted (moment_of before) act false).asked ≡ []
+    → TakesAs Is act before now result → TakesOneAs Is Asked before now result
+takes_this Is Asked act before now (Ok kept) is none takes =
     (act, is, record { is = takes; none = none })
-takes_this Asked act before now (Err lacks) is none takes =
+takes_this Is Asked act before now (Err lacks) is none takes =
     inr (act, is, record { is = takes; none = none })
 
 -- it is refused with this error

@@ -6,6 +6,8 @@ pub mod EventLemmas
 pub mod FloatLemmas
 -- what is shown, or told to be absent
 pub mod ShowLemmas
+-- what is told of an event
+pub mod TakenLemmas
 -- settlings and answers
 pub mod SettleLemmas
 -- events at which the kernel is asked nothing

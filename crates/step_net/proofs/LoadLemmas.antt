@@ -10,14 +10,13 @@ use Rattle.uci_store.specs.Refusals.{IsCommitted, HasNoFile, DoesNotRead}
 use Rattle.uci_tool.specs.Folder.{Folder, folder_of}
 use Rattle.net_plane.specs.Network.{Network}
 use Rattle.script_lines.specs.declared.line_error.LineError.TheVariants as error
-use Rattle.step_net.specs.declared.told.Told.{Told}
+use Rattle.step_net.specs.declared.taken.Taken.{Taken}
 use Rattle.step_net.specs.NetLine.{refused as refuses}
-use Rattle.step_net.specs.Told.{refused}
-use Rattle.step_net.specs.Taken.{telling_in}
+use Rattle.step_net.specs.Taken.{refused_as}
 use Rattle.step_net.specs.Loaded.{no_package, IsLoaded, DoesNotLoad, LoadRefuses}
 use Rattle.step_net.specs.Reload.{ReloadAsks}
-use Rattle.step_net.specs.ReloadTaken.{TakesOne, RefusesUnread}
-use Rattle.step_net.proofs.AnswerLemmas.{takes_refused}
+use Rattle.step_net.specs.ReloadTaken.{TakesOneEvent, RefusesUnread}
+use Rattle.step_net.proofs.EventLemmas.{refused_noted}
 
 pub loaded : (store : Store) (name : List ℕ) (tree : Package) → IsCommitted store name tree
     → IsLoaded (folder_of store) name tree
@@ -40,25 +39,28 @@ unread store name e d = unread_by store name e (fault_of e) refl d
 
 -- a file that is no package refuses a reload
 unread_told : {M : Type 0} (folder : Folder) (why : TreeError) (before : Network)
-    (result : Result Told M) (o : Option Fault) → fault_of why ≡ o
+    (result : Result Taken M) (o : Option Fault) → fault_of why ≡ o
     → ((fault : Fault) → fault_of why ≡ Some fault → ReloadAsks folder (refuses error.Parse))
-    → before.notices ≡ [] → IfOk result (λ answer. IsSomeAnd o (λ fault. telling_in answer ≡ refused error.Parse))
-    → TakesOne (ReloadAsks folder) before before result
-unread_told folder why before (Ok answer) None is requests silent tells = absurd tells
-unread_told {M} folder why before (Ok answer) (Some fault) is requests silent tells =
-    takes_refused {M = M} (ReloadAsks folder) error.Parse before (Ok answer) (requests fault is) silent tells
+    → before.notices ≡ [] → IfOk result (λ taken. IsSomeAnd o (λ fault. taken ≡ refused_as error.Parse))
+    → TakesOneEvent (ReloadAsks folder) before before result
+unread_told folder why before (Ok taken) None is requests silent tells = absurd tells
+unread_told folder why before (Ok taken) (Some fault) is requests silent tells = (
+  refuses error.Parse,
+  requests fault is,
+  record { is = refused_noted before before error.Parse taken refl silent tells; none = refl },
+)
 unread_told folder why before (Err lacks) o is requests silent tells = inl refl
 
-ok_alone : {M : Type 0} (why : TreeError) (result : Result Told M) → RefusesUnread why result
-    → IfOk result (λ answer. IsSomeAnd (fault_of why) (λ fault. telling_in answer ≡ refused error.Parse))
+ok_alone : {M : Type 0} (why : TreeError) (result : Result Taken M) → RefusesUnread why result
+    → IfOk result (λ taken. IsSomeAnd (fault_of why) (λ fault. taken ≡ refused_as error.Parse))
 ok_alone why (Ok answer) tells = tells
 ok_alone why (Err lacks) tells = tt
 
 pub takes_unread : {M : Type 0} (folder : Folder) (why : TreeError) (before : Network)
-    (result : Result Told M)
+    (result : Result Taken M)
     → ((fault : Fault) → fault_of why ≡ Some fault → ReloadAsks folder (refuses error.Parse))
     → before.notices ≡ [] → RefusesUnread why result
-    → TakesOne (ReloadAsks folder) before before result
+    → TakesOneEvent (ReloadAsks folder) before before result
 takes_unread folder why before result requests silent tells =
     unread_told folder why before result (fault_of why) refl requests silent (ok_alone why result tells)
 

@@ -7,6 +7,7 @@ mod loading;
 mod requests;
 mod show;
 mod take;
+mod taken;
 mod told;
 
 pub use finishing::{finish, settle_and_show};
@@ -14,4 +15,5 @@ pub use loading::{load_package, reload};
 pub use requests::lines_of_requests;
 pub use show::{show_device, show_dump, show_interface, show_radio};
 pub use take::{take_answer, take_device, take_load, take_operator, take_radio};
-pub use told::{Told, refuse, tell_nothing, tell_text};
+pub use taken::Taken;
+pub use told::{Told, line_error, refuse, tell, tell_nothing, tell_text};

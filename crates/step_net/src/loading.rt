@@ -5,9 +5,9 @@ ghost use Rattle.net_plane.specs.Network.{HasSameKernel};
 ghost use Rattle.step_net.specs.Loaded as spec;
 ghost use Rattle.step_net.specs.Loaded.{IsLoaded, LoadRefuses};
 ghost use Rattle.step_net.specs.Reload.{ReloadAsks};
-ghost use Rattle.step_net.specs.ReloadTaken.{TakesOne, RefusesUnread};
+ghost use Rattle.step_net.specs.ReloadTaken.{TakesOneEvent, RefusesUnread};
 
-use crate::{Told, refuse, take_load};
+use crate::{Taken, take_load};
 use net_plane::Net;
 use plane_io::{Items, Memory, Text};
 use script_lines::LineError;
@@ -20,10 +20,10 @@ use uci_tree::{Package, TreeError};
 /// # Errors
 ///
 /// Want of memory, before anything is done or for what is to be told of it.
-pub fn reload(alloc: Global, store: &Store, net: &mut Net) -> Result<Told, Memory>
+pub fn reload(alloc: Global, store: &Store, net: &mut Net) -> Result<Taken, Memory>
     requires store { IsStore store.now }
     requires told { net.old.notices ≡ [] }
-    ensures takes { TakesOne (ReloadAsks (folder_of store.now)) net.old net.new result }
+    ensures takes { TakesOneEvent (ReloadAsks (folder_of store.now)) net.old net.new result }
     ensures kernel { HasSameKernel net.old net.new }
 {
     let network = match load_package(alloc, store, b"network") {
@@ -55,12 +55,12 @@ pub fn load_package(alloc: Global, store: &Store, name: &[u8]) -> Result<Package
     }
 }
 
-// A file that is no package refuses the line.
-fn refuse_unread(alloc: Global, error: TreeError) -> Result<Told, Memory>
+// A file that is no package is not loaded.
+fn refuse_unread(alloc: Global, error: TreeError) -> Result<Taken, Memory>
     ensures { RefusesUnread error result }
 {
     match error.fault() {
-        Some(_) => refuse(alloc, &LineError::Parse),
+        Some(_) => Ok(Taken::refused(alloc, LineError::Parse)),
         None => Err(Memory),
     }
 }

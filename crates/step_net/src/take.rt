@@ -3,11 +3,13 @@ ghost use Rattle.net_rules.specs.declared.event.Event.TheVariants as event_of;
 ghost use Rattle.net_plane.specs.Network.{IsOf, HasSameKernel};
 ghost use Rattle.step_net.specs.NetLine.{NetLine, load_line};
 ghost use Rattle.step_net.specs.Acted.{lines_of_requests as lines_of};
-ghost use Rattle.step_net.specs.Told as spec;
-ghost use Rattle.step_net.specs.Taken.{telling_in, Takes, Tries, Ends, telled_of};
+ghost use Rattle.step_net.specs.Told as told_spec;
+ghost use Rattle.step_net.specs.Taken as spec;
+ghost use Rattle.step_net.specs.Taken.{TakesEvent, TriesEvent, Ends, IsRefusedFor, telled_of};
 
 use crate::requests::lines_of_requests;
-use crate::told::{Told, refuse_or};
+use crate::taken::Taken;
+use crate::told::line_error;
 use kern_model::{DevEvent, DevName, Kernel};
 use net_plane::{Net, NetError};
 use net_rules::Answer;
@@ -25,16 +27,16 @@ pub fn take_device<K: Kernel>(
     net: &mut Net,
     kernel: &mut K,
     event: &DevEvent,
-) -> Result<Told, Memory>
+) -> Result<Taken, Memory>
     requires told { net.old.notices ≡ [] }
     requires of { IsOf K.Kernel kernel.old net.old }
-    ensures tries { Tries (NetLine.happens (event_of.Device event.now)) net.old net.new
+    ensures tries { TriesEvent (NetLine.happens (event_of.Device event.now)) net.old net.new
         (telled_of K.Kernel kernel.old kernel.new) result }
     ensures of { IsOf K.Kernel kernel.new net.new }
     ensures calls { K.calls kernel.new ≡ K.calls kernel.old }
 {
     let ended = net.device(alloc, kernel, event);
-    tell(alloc, net, ended)
+    note(alloc, net, ended)
 }
 
 /// An interface is brought up or down by hand.
@@ -47,14 +49,14 @@ pub fn take_operator(
     net: &mut Net,
     interface: Text,
     up: bool,
-) -> Result<Told, Memory>
+) -> Result<Taken, Memory>
     requires { net.old.notices ≡ [] }
-    ensures takes { Takes (NetLine.happens (event_of.Operator interface up)) net.old net.new
+    ensures takes { TakesEvent (NetLine.happens (event_of.Operator interface up)) net.old net.new
         result }
     ensures kernel { HasSameKernel net.old net.new }
 {
     let ended = net.operator(interface, up);
-    tell(alloc, net, ended)
+    note(alloc, net, ended)
 }
 
 /// The handler of an interface answers the request of this number.
@@ -68,14 +70,14 @@ pub fn take_answer(
     interface: Text,
     number: u64,
     answer: Answer,
-) -> Result<Told, Memory>
+) -> Result<Taken, Memory>
     requires { net.old.notices ≡ [] }
-    ensures takes { Takes (NetLine.happens (event_of.Answer interface number answer)) net.old
+    ensures takes { TakesEvent (NetLine.happens (event_of.Answer interface number answer)) net.old
         net.new result }
     ensures kernel { HasSameKernel net.old net.new }
 {
     let ended = net.answer(alloc, interface, number, answer);
-    tell(alloc, net, ended)
+    note(alloc, net, ended)
 }
 
 /// The handler of a radio answers the request of this number.
@@ -89,14 +91,14 @@ pub fn take_radio(
     radio: Text,
     number: u64,
     ports: Items<Option<DevName>>,
-) -> Result<Told, Memory>
+) -> Result<Taken, Memory>
     requires { net.old.notices ≡ [] }
-    ensures takes { Takes (NetLine.happens (event_of.Radio radio number ports)) net.old net.new
+    ensures takes { TakesEvent (NetLine.happens (event_of.Radio radio number ports)) net.old net.new
         result }
     ensures kernel { HasSameKernel net.old net.new }
 {
     let ended = net.radio(alloc, radio, number, ports);
-    tell(alloc, net, ended)
+    note(alloc, net, ended)
 }
 
 /// The rows of a `network` and of a `wireless` package are loaded.
@@ -109,38 +111,48 @@ pub fn take_load(
     net: &mut Net,
     network: &Package,
     wireless: &Package,
-) -> Result<Told, Memory>
+) -> Result<Taken, Memory>
     requires { net.old.notices ≡ [] }
-    ensures takes { Takes (load_line network.now wireless.now) net.old net.new result }
+    ensures takes { TakesEvent (load_line network.now wireless.now) net.old net.new result }
     ensures kernel { HasSameKernel net.old net.new }
 {
     let ended = net.load(alloc, network, wireless);
-    tell(alloc, net, ended)
+    note(alloc, net, ended)
 }
 
-// What is to be told of an event that was taken, or refused.
-fn tell(alloc: Global, net: &mut Net, ended: Result<(), NetError>) -> Result<Told, Memory>
+// What an event comes to that was taken, or refused.
+fn note(alloc: Global, net: &mut Net, ended: Result<(), NetError>) -> Result<Taken, Memory>
     ensures ends { Ends ended net.old net.new result }
     ensures stays { (net.new.inputs ≡ net.old.inputs) × (net.new.held ≡ net.old.held) }
 {
     match ended {
-        Ok(()) => tell_requests(alloc, net),
-        Err(error) => refuse_or(alloc, error),
+        Ok(()) => note_requests(alloc, net),
+        Err(error) => refuse_event(alloc, error),
     }
 }
 
 // The lines of all that is to be told of requests.
-fn tell_requests(alloc: Global, net: &mut Net) -> Result<Told, Memory>
-    ensures told { IfOk result (λ told. telling_in told
-        ≡ spec.shown (lines_of net.old.inputs.conf net.old.notices)) }
+fn note_requests(alloc: Global, net: &mut Net) -> Result<Taken, Memory>
+    ensures told { IfOk result (λ taken. taken
+        ≡ spec.asking (lines_of net.old.inputs.conf net.old.notices)) }
     ensures silent { OnOk result (net.new.notices ≡ []) }
     ensures stays { (net.new.inputs ≡ net.old.inputs) × (net.new.held ≡ net.old.held) }
 {
     let Ok(lines) = lines_of_requests(alloc, net) else {
         return Err(Memory);
     };
-    Ok(Told {
-        shown: Text::from_vec(lines),
+    Ok(Taken {
+        requests: Text::from_vec(lines),
         refusal: None,
     })
+}
+
+// The event is refused, where its error is told by a line.
+fn refuse_event(alloc: Global, error: NetError) -> Result<Taken, Memory>
+    ensures { IfOk result (IsRefusedFor (told_spec.line_error error)) }
+{
+    match line_error(error) {
+        Some(error) => Ok(Taken::refused(alloc, error)),
+        None => Err(Memory),
+    }
 }

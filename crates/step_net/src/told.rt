@@ -1,7 +1,8 @@
 ghost use Rattle.std.specs.Prelude.{◌≡◌, [], IfOk};
-ghost use Rattle.step_net.specs.Taken.{telling_in, Tells};
+ghost use Rattle.step_net.specs.Taken.{telling_in, Tells, IsToldOf};
 ghost use Rattle.step_net.specs.Told as spec;
 
+use crate::taken::Taken;
 use net_plane::NetError;
 use plane_io::{Memory, Text};
 use script_lines::{LineError, append_error_line};
@@ -47,6 +48,20 @@ pub fn tell_text(alloc: Global, shown: Text, refusal: Option<LineError>) -> Resu
     })
 }
 
+/// A line is told of an event: its requests are shown, or the line is refused.
+///
+/// # Errors
+///
+/// Want of memory, for the event or for what is to be told of it.
+pub fn tell(alloc: Global, taken: Result<Taken, Memory>) -> Result<Told, Memory>
+    ensures { IsToldOf taken result }
+{
+    let Ok(taken) = taken else {
+        return Err(Memory);
+    };
+    tell_text(alloc, taken.requests, taken.refusal)
+}
+
 /// The line is refused.
 ///
 /// # Errors
@@ -78,7 +93,7 @@ pub(crate) fn refuse_or(alloc: Global, error: NetError) -> Result<Told, Memory>
 }
 
 /// The error of the plane, as a line tells it. Two are told by no line.
-fn line_error(error: NetError) -> Option<LineError>
+pub fn line_error(error: NetError) -> Option<LineError>
     ensures { result ≡ spec.line_error error }
 {
     match error {

@@ -8,7 +8,9 @@ use Rattle.script_lines.specs.declared.line_error.LineError.TheVariants as error
 use Rattle.net_plane.specs.Network.{moment_of}
 use Rattle.step_net.specs.NetLine.{NetLine}
 use Rattle.plane_step.specs.Means.{json_of, RadioRequests}
+use Rattle.step_net.specs.Taken.{IsActed}
 use Rattle.step_net.proofs.RequestLemmas.{happening_requests}
+use Rattle.step_net.proofs.TakenLemmas.{told_takes}
 use Rattle.step_net.proofs.AnswerLemmas.{takes_this, takes_refused}
 use Rattle.plane_step.proofs.answer.answer_radio.Goals as goal
 
@@ -23,11 +25,12 @@ pub returns-in-Some-read-clause-takes : goal.returns-in-Some-read-clause-takes
 returns-in-Some-read-clause-takes c =
     let json : Some (view c.in-Some.value) ≡ json_of c.args.json.now = sym (ap (option_map view) c.in-Some.is) ∙ c.in-Ok.ensures in
     let what = event.Radio c.args.radio c.args.request c.in-Some-read.ports in
-    takes_this (RadioRequests c.args.number c.args.radio c.args.request c.args.json.now)
-    (NetLine.happens what) c.args.net.now c.take_radio.new.net c.take_radio.result
+    takes_this IsActed (RadioRequests c.args.number c.args.radio c.args.request c.args.json.now)
+    (NetLine.happens what) c.args.net.now c.take_radio.new.net c.tell.result
     (RadioRequests.answer (view c.in-Some.value) c.in-Some-read.ports (sym json)
     (subst (λ read. IfSome read (ArePorts (view c.in-Some.value))) c.in-Some-read.is c.in-Ok-read_ports.ensures.found))
-    (happening_requests (moment_of c.args.net.now) what tt) c.take_radio.ensures.takes
+    (happening_requests (moment_of c.args.net.now) what tt)
+    (told_takes (NetLine.happens what) c.args.net.now c.take_radio.new.net c.take_radio.result c.tell.result c.take_radio.ensures.takes c.tell.ensures)
 
 pub returns-in-None-clause-takes : goal.returns-in-None-clause-takes
 returns-in-None-clause-takes c =

@@ -5,14 +5,15 @@ use Rattle.net_plane.specs.Network.{moment_of}
 use Rattle.script_lines.specs.declared.script_line.ScriptLine.TheVariants as line
 use Rattle.script_lines.specs.declared.line_error.LineError.TheVariants as error
 use Rattle.step_net.specs.NetLine.{NetLine}
-use Rattle.step_net.specs.Taken.{telled_of}
+use Rattle.step_net.specs.Taken.{telled_of, IsNoted}
 use Rattle.uci_tool.specs.Folder.{folder_of}
 use Rattle.plane_step.specs.LineDone.{Front, Read, ground_at}
 use Rattle.plane_step.specs.Means.{AnswerAsks, RadioRequests}
 use Rattle.step_net.specs.Reload.{ReloadAsks}
 use Rattle.step_net.proofs.RequestLemmas.{asks_nothing, interface_requests, interface_stays, device_requests, device_stays, radio_requests, radio_stays}
-use Rattle.plane_step.proofs.ActLemmas.{tries_alone, net_does, does_one, refused_does, not_yet, read_does, shows_does}
+use Rattle.plane_step.proofs.ActLemmas.{net_does, does_one, refused_does, not_yet, read_does, shows_does}
 use Rattle.step_net.proofs.RequestLemmas.{happening_requests}
+use Rattle.step_net.proofs.TakenLemmas.{tries_alone, told_tries, told_one}
 use Rattle.plane_step.proofs.plain_line.act_on_net.Goals as goal
 
 pub returns-in-Device-clause-does : goal.returns-in-Device-clause-does
@@ -20,9 +21,11 @@ returns-in-Device-clause-does g c of now =
     let front : Front = record { now = now; store = c.args.store.now; net = c.args.net.now } in
     let kernel = telled_of g.K.Kernel c.args.kernel.now c.take_device.new.kernel in
     let read : Read = record { front = front; number = c.args.number; line = Some (line.Device c.in-Device.event) } in
-    read_does front c.args.number c.args.line (line.Device c.in-Device.event) c.take_device.new.net kernel c.take_device.result c.in-Device.is
+    read_does front c.args.number c.args.line (line.Device c.in-Device.event) c.take_device.new.net kernel c.tell.result c.in-Device.is
     (net_does read (NetLine.happens (event.Device c.in-Device.event)) c.take_device.new.net kernel
-    c.take_device.result refl c.take_device.ensures.tries)
+    c.tell.result refl
+    (told_tries (NetLine.happens (event.Device c.in-Device.event)) c.args.net.now c.take_device.new.net kernel
+    c.take_device.result c.tell.result c.take_device.ensures.tries c.tell.ensures))
 
 pub returns-in-Answer-clause-does : goal.returns-in-Answer-clause-does
 returns-in-Answer-clause-does g c of now =
@@ -51,24 +54,27 @@ returns-in-Operator-clause-does g c of now =
     let front : Front = record { now = now; store = c.args.store.now; net = c.args.net.now } in
     let kernel = telled_of g.K.Kernel c.args.kernel.now c.args.kernel.now in
     let read : Read = record { front = front; number = c.args.number; line = Some (line.Operator c.in-Operator.interface c.in-Operator.up) } in
-    read_does front c.args.number c.args.line (line.Operator c.in-Operator.interface c.in-Operator.up) c.take_operator.new.net kernel c.take_operator.result c.in-Operator.is
+    read_does front c.args.number c.args.line (line.Operator c.in-Operator.interface c.in-Operator.up) c.take_operator.new.net kernel c.tell-in-Operator.result c.in-Operator.is
     (let what = event.Operator c.in-Operator.interface c.in-Operator.up in
-    net_does read (NetLine.happens what) c.take_operator.new.net kernel c.take_operator.result refl
-    (tries_alone (NetLine.happens what) c.args.net.now c.take_operator.new.net kernel
+    net_does read (NetLine.happens what) c.take_operator.new.net kernel c.tell-in-Operator.result refl
+    (told_tries (NetLine.happens what) c.args.net.now c.take_operator.new.net kernel c.take_operator.result
+    c.tell-in-Operator.result
+    (tries_alone IsNoted (NetLine.happens what) c.args.net.now c.take_operator.new.net kernel
     c.take_operator.result (happening_requests (moment_of c.args.net.now) what tt)
     (asks_nothing (g.K.Kernel.asked c.args.kernel.now) (g.K.Kernel.faults c.args.kernel.now))
-    c.take_operator.ensures.takes))
+    c.take_operator.ensures.takes) c.tell-in-Operator.ensures))
 
 pub returns-in-Reload-clause-does : goal.returns-in-Reload-clause-does
 returns-in-Reload-clause-does g c of now =
     let front : Front = record { now = now; store = c.args.store.now; net = c.args.net.now } in
     let kernel = telled_of g.K.Kernel c.args.kernel.now c.args.kernel.now in
     let read : Read = record { front = front; number = c.args.number; line = Some (line.Reload) } in
-    read_does front c.args.number c.args.line (line.Reload) c.reload.new.net kernel c.reload.result c.in-Reload.is
-    (does_one read (ReloadAsks (folder_of c.args.store.now)) c.reload.new.net kernel c.reload.result
+    read_does front c.args.number c.args.line (line.Reload) c.reload.new.net kernel c.tell-in-Reload.result c.in-Reload.is
+    (does_one read (ReloadAsks (folder_of c.args.store.now)) c.reload.new.net kernel c.tell-in-Reload.result
     (λ act requests. requests)
     (asks_nothing (g.K.Kernel.asked c.args.kernel.now) (g.K.Kernel.faults c.args.kernel.now))
-    c.reload.ensures.takes)
+    (told_one (ReloadAsks (folder_of c.args.store.now)) c.args.net.now c.reload.new.net c.reload.result
+    c.tell-in-Reload.result c.reload.ensures.takes c.tell-in-Reload.ensures))
 
 pub returns-in-Dump-clause-does : goal.returns-in-Dump-clause-does
 returns-in-Dump-clause-does g c of now =

@@ -2,6 +2,7 @@ use Rattle.net_plane.specs.Network.{moment_of}
 use Rattle.step_net.specs.NetLine.{load_line}
 use Rattle.uci_tool.specs.Folder.{folder_of}
 use Rattle.step_net.specs.Loaded.{network_name, wireless_name}
+use Rattle.step_net.specs.Taken.{IsNoted}
 use Rattle.step_net.specs.Reload.{ReloadAsks}
 use Rattle.step_net.proofs.RequestLemmas.{load_requests}
 use Rattle.step_net.proofs.AnswerLemmas.{takes_this}
@@ -28,7 +29,7 @@ pub returns-clause-takes : goal.returns-clause-takes
 returns-clause-takes c =
     let network = c.in-Ok.network in
     let wireless = c.in-Ok-load_package.wireless in
-    takes_this (ReloadAsks (folder_of c.args.store.now)) (load_line network wireless) c.args.net.now
+    takes_this IsNoted (ReloadAsks (folder_of c.args.store.now)) (load_line network wireless) c.args.net.now
     c.take_load.new.net c.take_load.result
     (ReloadAsks.loaded network wireless c.in-Ok.ensures.found c.in-Ok-load_package.ensures.found)
     (load_requests (moment_of c.args.net.now) network wireless) c.take_load.ensures.takes

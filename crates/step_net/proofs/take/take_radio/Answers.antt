@@ -5,11 +5,11 @@ use Rattle.step_net.proofs.take.take_radio.Goals as goal
 pub returns-clause-takes : goal.returns-clause-takes
 returns-clause-takes c =
     takes (event.Radio c.args.radio c.args.number c.args.ports) c.args.net.now c.radio-ended.new.self
-    c.tell.new.net c.radio-ended.result c.tell.result c.radio-ended.ensures.ok
-    c.radio-ended.ensures.refused c.radio-ended.ensures.err c.requires c.tell.ensures.ends
-    c.tell.ensures.stays.0 c.tell.ensures.stays.1
+    c.note.new.net c.radio-ended.result c.note.result c.radio-ended.ensures.ok
+    c.radio-ended.ensures.refused c.radio-ended.ensures.err c.requires c.note.ensures.ends
+    c.note.ensures.stays.0 c.note.ensures.stays.1
 
 pub returns-clause-kernel : goal.returns-clause-kernel
 returns-clause-kernel c =
-    same_kernel c.args.net.now c.radio-ended.new.self c.tell.new.net c.radio-ended.ensures.kernel
-    c.tell.ensures.stays.0 c.tell.ensures.stays.1
+    same_kernel c.args.net.now c.radio-ended.new.self c.note.new.net c.radio-ended.ensures.kernel
+    c.note.ensures.stays.0 c.note.ensures.stays.1
