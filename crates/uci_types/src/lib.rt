@@ -1,0 +1,12 @@
+//! Datatypes: which values an option may have, as expressions that are read from text, and rules
+//! that tell which options of a package have another value (the datatypes of OpenWrt's `uci`
+//! validation).
+#![tactic(auto)]
+
+mod address;
+mod datatype;
+mod judge;
+mod number;
+
+pub use datatype::{Datatype, Kind};
+pub use judge::accepts;
