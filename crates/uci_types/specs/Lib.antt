@@ -6,3 +6,5 @@ pub mod Number
 pub mod Address
 -- the values of a datatype
 pub mod Values
+-- which options of a package break which rule
+pub mod Faults

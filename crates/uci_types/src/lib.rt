@@ -5,8 +5,12 @@
 
 mod address;
 mod datatype;
+mod fault;
 mod judge;
 mod number;
+mod rule;
 
 pub use datatype::{Datatype, Kind};
+pub use fault::{Fault, check};
 pub use judge::accepts;
+pub use rule::Rule;
