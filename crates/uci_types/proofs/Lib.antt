@@ -1,0 +1,4 @@
+pub mod SetLemmas
+pub mod NumberLemmas
+pub mod AddressLemmas
+pub mod WordLemmas

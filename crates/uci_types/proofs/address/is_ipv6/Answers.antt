@@ -1,0 +1,9 @@
+use Rattle.std.proofs.Common.{sym}
+use Rattle.uci_types.proofs.AddressLemmas.{ipv6_from, no_ipv6}
+use Rattle.uci_types.proofs.address.is_ipv6.Goals as goal
+
+pub returns-in-Ok : goal.returns-in-Ok
+returns-in-Ok c = sym (ipv6_from c.args.text.now _ c.in-Ok.ensures)
+
+pub returns-in-Err : goal.returns-in-Err
+returns-in-Err c = no_ipv6 c.args.text.now c.in-Err.ensures
