@@ -17,7 +17,8 @@ pub struct Fault {
     pub section: usize,
     /// The place of the rule, from 0.
     pub rule: usize,
-    /// Whether the option is required and absent. Else its value, or an item of it, is not accepted.
+    /// Whether the option is required and absent. Else its value, or an item of it, is not
+    /// accepted.
     pub missing: bool,
 }
 
