@@ -1,0 +1,5 @@
+pub mod LengthLemmas
+pub mod HeadLemmas
+pub mod FrontLemmas
+pub mod LookLemmas
+pub mod AskedLemmas
