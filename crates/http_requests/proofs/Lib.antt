@@ -3,3 +3,5 @@ pub mod HeadLemmas
 pub mod FrontLemmas
 pub mod LookLemmas
 pub mod AskedLemmas
+pub mod NextLemmas
+pub mod ResponseLemmas

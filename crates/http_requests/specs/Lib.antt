@@ -16,3 +16,7 @@ pub mod Front
 pub mod Look
 -- the requests of a connection, and its end
 pub mod Asked
+-- what a source gives, and what is held of it
+pub mod Next
+-- the bytes of responses
+pub mod Response
