@@ -34,7 +34,8 @@ none_left bytes bodies end (spent b) = (refl, refl)
 abbrev OneEnd : ℕ → Type 0
 OneEnd n = (bytes : List ℕ) (bodies others : List (List ℕ)) (end another_end : ConnectionEnd) → AskedWithin n bytes bodies end → AskedWithin n bytes others another_end → (bodies ≡ others) × (end ≡ another_end)
 
-next_same : (c : Bool) (n : ℕ) (bytes : List ℕ) (request : Request) (bodies others : List (List ℕ)) (end another_end : ConnectionEnd) → OneEnd n → Next c n bytes request bodies end → Next c n bytes request others another_end → (bodies ≡ others) × (end ≡ another_end)
+next_same : (c : Bool) (n : ℕ) (bytes : List ℕ) (request : Request) (bodies others : List (List ℕ)) (end another_end : ConnectionEnd) → OneEnd n → Next c n bytes request bodies end → Next c n bytes request others another_end →
+    (bodies ≡ others) × (end ≡ another_end)
 next_same true n bytes request bodies others end another_end ih one other = (one.0 ∙ sym other.0, one.1 ∙ sym other.1)
 next_same false n bytes request bodies others end another_end ih one other =
     let same = ih (behind request bytes) one.0 other.0 end another_end one.2 other.2 in

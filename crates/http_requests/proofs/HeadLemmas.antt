@@ -24,7 +24,8 @@ parts bytes front back n front_is back_is =
     ap (λ xs. xs ++ back) front_is ∙ (ap (λ xs. take n bytes ++ xs) back_is ∙ take-append-drop n bytes)
 
 -- the wish that is read of spans is that of the head
-wish_is : (front : List ℕ) (headers : List HeaderSpan) (r : RequestSpans) (h : RequestHead) → IsRequestAt front headers r h → wish (span_bytes front r.method) (span_bytes front r.path) (map (header_bytes front) (take r.headers headers)) ≡ wish_of h
+wish_is : (front : List ℕ) (headers : List HeaderSpan) (r : RequestSpans) (h : RequestHead) → IsRequestAt front headers r h → wish (span_bytes front r.method) (span_bytes front r.path) (map (header_bytes front)
+    (take r.headers headers)) ≡ wish_of h
 wish_is front headers r h at =
     ap (λ p. wish (span_bytes front r.method) (span_bytes front r.path) p) at.fields
     ∙ (ap (λ t. wish (span_bytes front r.method) t (map name_and_value h.fields)) at.path
@@ -36,7 +37,8 @@ closes_is front headers r h at =
     ap (λ p. closes_after r.version p) at.fields ∙ ap (λ v. closes_after v (map name_and_value h.fields)) at.version
 
 -- a head that is read of a front is the head of all bytes
-pub head_here : (front back : List ℕ) (headers : List HeaderSpan) (r : RequestSpans) → IsRequestOf front headers r → r.len ≤ length front → r.headers ≤ length headers → length headers ≤ 64 → length front ≤ 8192 → HasHead (front ++ back) r.len (wish (span_bytes front r.method) (span_bytes front r.path) (map (header_bytes front) (take r.headers headers))) (closes_after r.version (map (header_bytes front) (take r.headers headers)))
+pub head_here : (front back : List ℕ) (headers : List HeaderSpan) (r : RequestSpans) → IsRequestOf front headers r → r.len ≤ length front → r.headers ≤ length headers → length headers ≤ 64 → length front ≤ 8192 → HasHead
+    (front ++ back) r.len (wish (span_bytes front r.method) (span_bytes front r.path) (map (header_bytes front) (take r.headers headers))) (closes_after r.version (map (header_bytes front) (take r.headers headers)))
 head_here front back headers r of inside written room short =
     let h = of.0 in
     let at = of.1 in

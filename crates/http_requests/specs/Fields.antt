@@ -1,6 +1,7 @@
 -- What the fields of a head state (RFC 9112, section 6). Names are compared without regard to case. A value has no
 -- white space around it.
-use Rattle.std.specs.Prelude.{ℕ, List, [], ◌∷◌, Option, Some, None, Bool, false, map, codes, if◌then◌else◌, bytes_eq, length, nat_lt, ◌==◌}
+use Rattle.std.specs.Prelude.{ℕ, List, [], ◌∷◌, Option, Some, None, Bool, false, map, codes, if◌then◌else◌, bytes_eq}
+use Rattle.std.specs.Prelude.{length, nat_lt, ◌==◌}
 use Rattle.std.specs.List.{list_all, list_any}
 use Rattle.std.specs.Char.{is_ascii_digit, to_ascii_lowercase}
 use Rattle.std.specs.Str.Parse.{digits_value}
@@ -43,4 +44,5 @@ body_length fields =
 
 -- a field `Connection` has the value `close`, in any case
 abbrev pub asks_for_close : List NamedValue → Bool
-asks_for_close fields = list_any (λ value. same_without_case value (codes "close")) (values_of (codes "connection") fields)
+asks_for_close fields =
+    list_any (λ value. same_without_case value (codes "close")) (values_of (codes "connection") fields)

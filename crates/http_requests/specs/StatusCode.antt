@@ -1,7 +1,8 @@
 -- Status codes with their reason phrases (RFC 9110, section 15.5).
 use Rattle.std.specs.Prelude.{ℕ, List, codes}
 use Rattle.http_requests.specs.declared.status_code.StatusCode.{StatusCode}
-use Rattle.http_requests.specs.declared.status_code.StatusCode.TheVariants.{BadRequest, NotFound, MethodNotAllowed, LengthRequired, ContentTooLarge}
+use Rattle.http_requests.specs.declared.status_code.StatusCode.TheVariants.{BadRequest, NotFound, MethodNotAllowed}
+use Rattle.http_requests.specs.declared.status_code.StatusCode.TheVariants.{LengthRequired, ContentTooLarge}
 
 -- the number of a code
 abbrev pub number_of : StatusCode → ℕ

@@ -1,8 +1,10 @@
 -- What a head comes to: a refusal, or a body that is read; and whether the connection ends behind that.
-use Rattle.std.specs.Prelude.{ℕ, List, Option, Some, None, Bool, not, map, codes, bytes_eq, if◌then◌else◌, nat_lt, ◌==◌, ◌||◌}
+use Rattle.std.specs.Prelude.{ℕ, List, Option, Some, None, Bool, not, map, codes, bytes_eq, if◌then◌else◌, nat_lt, ◌==◌}
+use Rattle.std.specs.Prelude.{◌||◌}
 use Rattle.httparse.specs.Grammar.{RequestHead}
 use Rattle.httparse.specs.Spans.{name_and_value}
-use Rattle.http_requests.specs.declared.status_code.StatusCode.TheVariants.{NotFound, MethodNotAllowed, LengthRequired, ContentTooLarge}
+use Rattle.http_requests.specs.declared.status_code.StatusCode.TheVariants.{NotFound, MethodNotAllowed, LengthRequired}
+use Rattle.http_requests.specs.declared.status_code.StatusCode.TheVariants.{ContentTooLarge}
 use Rattle.http_requests.specs.declared.wish.Wish.{Wish}
 use Rattle.http_requests.specs.declared.wish.Wish.TheVariants.{Refusal, Body}
 use Rattle.http_requests.specs.declared.wish.TheConstants.{BODY_LIMIT}

@@ -1,4 +1,5 @@
-ghost use Rattle.std.specs.Prelude.{◌≡◌, ◌≤◌, ◌+◌, ◌++◌, [], OnOk, OnErr, drop, length, slice_range};
+ghost use Rattle.std.specs.Prelude.{◌≡◌, ◌≤◌, ◌+◌, ◌++◌, [], OnOk, OnErr, drop, length};
+ghost use Rattle.std.specs.Prelude.{slice_range};
 ghost use Rattle.http_requests.specs.Asked as spec;
 
 use crate::Request;

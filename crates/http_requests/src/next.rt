@@ -6,8 +6,8 @@ ghost use Rattle.http_requests.specs.Look.{IfDecided, IfWaiting, Awaits};
 ghost use Rattle.http_requests.specs.Next.{Keeps, StandsBefore};
 ghost use Rattle.http_requests.specs.declared.front.Front.{Front};
 
-use crate::front::{Front, Look, look_at};
 use crate::Held;
+use crate::front::{Front, Look, look_at};
 use plane_io::Source;
 use thiserror::Error;
 

@@ -33,9 +33,11 @@ returns-then-are_all-2-clause-decides c = λ more all.
 
 pub returns-else-are_all-2-clause-waits : goal.returns-else-are_all-2-clause-waits
 returns-else-are_all-2-clause-waits c =
-    let lacks : length c.args.bytes.now - c.in-Read.size < c.in-Body.body_size = search (rules, arith) in
-    (c.if-are_all-2.false, body_waits c.args.bytes.now c.in-Read.size c.in-Body.body_size c.in-Read.closes
-    (subst (λ w. HasHead c.args.bytes.now c.in-Read.size w c.in-Read.closes) c.in-Body.is c.in-Read.ensures) lacks)
+    let lacks : length c.args.bytes.now - c.in-Read.size < c.in-Body.body_size = search (rules, arith) in (
+      c.if-are_all-2.false,
+      body_waits c.args.bytes.now c.in-Read.size c.in-Body.body_size c.in-Read.closes
+          (subst (λ w. HasHead c.args.bytes.now c.in-Read.size w c.in-Read.closes) c.in-Body.is c.in-Read.ensures) lacks,
+    )
 
 pub returns-then-are_all-3-clause-decides : goal.returns-then-are_all-3-clause-decides
 returns-then-are_all-3-clause-decides c = λ more all.

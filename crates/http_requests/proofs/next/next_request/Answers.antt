@@ -24,7 +24,8 @@ loop-front-preserved-then-count-eq0 g c =
     let none : c.in-Ok.count ≡ 0 = search (rules, arith) in
     let nothing = ap (λ n. held ++ take n c.read.new.into) none ∙ append-nil held in
     record {
-      kept = subst (λ b. Keeps (g.S.Source.left c.args.input.now) (g.S.Source.left c.read.new.self) c.args.held.now b) nothing (keeps_on (g.S.Source.left c.args.input.now) (g.S.Source.left c.loop-front.input) (g.S.Source.left c.read.new.self) c.args.held.now held (take c.in-Ok.count c.read.new.into) old.kept c.in-Ok.ensures.gives);
+      kept = subst (λ b. Keeps (g.S.Source.left c.args.input.now) (g.S.Source.left c.read.new.self) c.args.held.now b) nothing (keeps_on (g.S.Source.left c.args.input.now) (g.S.Source.left c.loop-front.input)
+          (g.S.Source.left c.read.new.self) c.args.held.now held (take c.in-Ok.count c.read.new.into) old.kept c.in-Ok.ensures.gives);
       ended = λ over. empty_stays (g.S.Source.left c.loop-front.input) (g.S.Source.left c.read.new.self) (take c.in-Ok.count c.read.new.into) (c.in-Ok.ensures.end (ap Ok none)) c.in-Ok.ensures.gives;
       waits = λ few. awaits;
       calm = inr (none_was_held held c.args.held.now old.calm (unfinished_alone held c.in-Waiting.least awaits));
@@ -42,7 +43,8 @@ loop-front-preserved g c =
     let long = ap length added ∙ length-append held given in
     let few : c.in-Ok.count ≤ 8192 = search (rules, arith) in
     record {
-      kept = subst (λ b. Keeps (g.S.Source.left c.args.input.now) (g.S.Source.left c.read.new.self) c.args.held.now b) (sym (added ∙ ap (λ z. held ++ z) c.split_at.ensures.front)) (keeps_on (g.S.Source.left c.args.input.now) (g.S.Source.left c.loop-front.input) (g.S.Source.left c.read.new.self) c.args.held.now held (take c.in-Ok.count c.read.new.into) old.kept c.in-Ok.ensures.gives);
+      kept = subst (λ b. Keeps (g.S.Source.left c.args.input.now) (g.S.Source.left c.read.new.self) c.args.held.now b) (sym (added ∙ ap (λ z. held ++ z) c.split_at.ensures.front)) (keeps_on (g.S.Source.left c.args.input.now)
+          (g.S.Source.left c.loop-front.input) (g.S.Source.left c.read.new.self) c.args.held.now held (take c.in-Ok.count c.read.new.into) old.kept c.in-Ok.ensures.gives);
       ended = λ over. absurd (let both : true ≡ false = sym over ∙ c.in-Waiting.ensures.waits.0 in cc);
       waits = λ short. subst (λ b. Awaits b c.in-Waiting.least) (sym added) (awaits_more held given c.in-Waiting.least awaits (subst (λ z. length z < c.in-Waiting.least) added short));
       calm = inr (none_was_held held c.args.held.now old.calm (unfinished_alone held c.in-Waiting.least awaits));
