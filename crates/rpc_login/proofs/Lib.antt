@@ -1,1 +1,2 @@
-pub mod PasswordLemmas
+mod PasswordLemmas
+mod ReadLemmas

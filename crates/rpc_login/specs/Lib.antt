@@ -4,3 +4,7 @@
 pub mod Password
 -- how they are taken apart
 pub mod Stored
+-- numbers of errors of groups
+pub mod GroupError
+-- which texts are groups
+pub mod Form
