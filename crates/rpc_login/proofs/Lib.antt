@@ -1,2 +1,3 @@
 mod PasswordLemmas
 mod ReadLemmas
+mod BadLemmas

@@ -12,7 +12,6 @@ use Rattle.rpc_login.specs.declared.group_error.GroupError.{GroupError}
 use Rattle.rpc_login.specs.declared.group.Group.{Group}
 use Rattle.std.specs.Prelude.{IfOk, codes}
 use Rattle.std.specs.Option.{option_map}
-use Rattle.plane_io.specs.declared.outcome.Memory.{Memory}
 use Rattle.rpc_session.specs.declared.grant.Grant.{Grant}
 use Rattle.rpc_session.specs.Grant.{grant_of}
 use Rattle.rpc_login.specs.declared.group.Perm.{Perm}

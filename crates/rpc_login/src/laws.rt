@@ -1,4 +1,7 @@
-ghost use Rattle.std.specs.Prelude.{◌≡◌, ℕ, List};
+ghost use Rattle.std.specs.Prelude.{◌≡◌, ℕ, List, Err};
+ghost use Rattle.serde_json.specs.Data.{Items};
+ghost use Rattle.rpc_login.specs.declared.group_error.GroupError.TheVariants.{BadGroup};
+ghost use Rattle.rpc_login.specs.Form.{groups_from, IsFirstBad};
 ghost use Rattle.rpc_login.specs.Password.{IsSalt, PasswordFits, digest_of, stored_text};
 
 /// A stored text fits the password that it was made of.
@@ -18,4 +21,10 @@ pub fn one_digest()
     ensures { (stored first second : List ℕ) →
         (one : PasswordFits stored first) → (other : PasswordFits stored second) →
         digest_of one.salt first ≡ digest_of other.salt second }
+{}
+
+/// The element that is told is of another form, and each one before it is of the form.
+pub fn first_bad_group()
+    ensures { (items : Items) (index : ℕ) → groups_from 0 items ≡ Err (BadGroup index) →
+        IsFirstBad items index }
 {}

@@ -10,5 +10,5 @@ mod read;
 
 pub use group::{Group, Groups, Perm};
 pub use group_error::GroupError;
-pub use laws::{one_digest, one_salt, stored_text_fits};
+pub use laws::{first_bad_group, one_digest, one_salt, stored_text_fits};
 pub use password::{MOST_SALT, hash_password, password_fits};

@@ -1,9 +1,9 @@
-use Rattle.std.proofs.Common.{◌≡◌, List, Some, ◌∷◌, [], ◌++◌, ◌∙◌, ap, sym, string_bytes}
+use Rattle.std.proofs.Common.{◌≡◌, List, ◌∙◌, ap, sym, string_bytes}
 use Rattle.serde_json.proofs.Views.{Entry}
 use Rattle.serde_json.specs.View.{view, members_view}
 use Rattle.ubus_acl.specs.Form.{in_front}
 use Rattle.rpc_login.specs.Form as spec
-use Rattle.rpc_login.proofs.ReadLemmas.{behind, goes_on, joins_on}
+use Rattle.rpc_login.proofs.ReadLemmas.{behind, goes_on}
 use Rattle.rpc_login.proofs.read.read_groups.Goals as goal
 
 pub loop-name-preserved : goal.loop-name-preserved

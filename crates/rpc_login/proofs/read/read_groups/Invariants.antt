@@ -1,6 +1,5 @@
-use Rattle.std.proofs.Common.{◌≡◌, drop}
-use Rattle.std.specs.Option.{option_map}
-use Rattle.serde_json.specs.View.{items_view, members_view}
+use Rattle.std.proofs.Common.{◌≡◌}
+use Rattle.serde_json.specs.View.{members_view}
 use Rattle.rpc_login.specs.Form as spec
 use Rattle.rpc_login.proofs.ReadLemmas.{behind}
 use Rattle.rpc_login.proofs.read.read_groups.Given as goal
