@@ -84,7 +84,7 @@ between f b = record {
 -- a step that was done, and then settled
 module _ (rows : Package) (which : Step) (old mid : Network) (f b a : Outside)
     (calls : b.calls ≡ f.calls) (told : Taken)
-    (t : step.IsTaken (line_of rows which) old mid (between f b) told) where
+    (t : step.IsTakenAs step.IsNoted (line_of rows which) old mid (between f b) told) where
   abbrev done : Acted
   done = acted (moment_of old) (line_of rows which) t.failed
 

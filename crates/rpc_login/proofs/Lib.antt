@@ -1,0 +1,3 @@
+mod PasswordLemmas
+mod ReadLemmas
+mod BadLemmas
