@@ -7,13 +7,13 @@ use Rattle.script_lines.specs.declared.script_line.ScriptLine.TheVariants as lin
 use Rattle.uci_store.specs.declared.store.Store.{Store}
 use Rattle.uci_tool.specs.Folder.{Folder, folder_of}
 use Rattle.step_net.specs.declared.told.Told.{Told}
-use Rattle.step_net.specs.Taken.{Telled, Asks}
+use Rattle.step_net.specs.Taken.{IsActed, Telled, Asks}
 use Rattle.plane_step.specs.declared.stop.Stop.{Stop}
 use Rattle.plane_step.specs.declared.stop.Stop.TheVariants as stop
 use Rattle.plane_step.specs.FilesMoved.{FilesMoved, stays, files_moved}
 use Rattle.plane_step.specs.Faults.{DiskFaults}
 use Rattle.plane_step.specs.LineDone.{Front, Read, Behind, Does, NetDoes, IsNetUndone, IsOfNet, or_memory, GoesTo}
-use Rattle.plane_step.proofs.ActLemmas.{tries_alone}
+use Rattle.step_net.proofs.TakenLemmas.{tries_alone}
 
 -- any other line leaves the moment and the files
 pub other_stays : (now : ℕ) (folder : Folder) (read : ScriptLine) → IsOfNet read
@@ -93,7 +93,7 @@ at_lifts front number next now store net kernel disks (Ok told) nothing goes = r
   means = goes.requests;
   moment = goes.moment;
   files = goes.files;
-  taken = tries_alone {M = Stop} goes.act front.net net kernel (Ok told) goes.taken.none nothing goes.taken.is;
+  taken = tries_alone {M = Stop} IsActed goes.act front.net net kernel (Ok told) goes.taken.none nothing goes.taken.is;
 }
 at_lifts front number next now store net kernel disks (Err stop.WriteFailed) nothing goes = absurd goes
 at_lifts front number next now store net kernel disks (Err stop.DiskFailed) nothing goes =
@@ -102,7 +102,7 @@ at_lifts front number next now store net kernel disks (Err stop.Memory) nothing 
   net = elim goes.net as (λ _. IsNetUndone (record { front = front; number = number; line = Some (line.At next) }) net kernel) [
     | inl same ↦ IsNetUndone.unasked same nothing
     | inr h ↦ IsNetUndone.asked h.0 h.1
-        (tries_alone {M = Stop} h.0 front.net net kernel (Err stop.Memory) h.2.none nothing h.2.is)
+        (tries_alone {M = Stop} IsActed h.0 front.net net kernel (Err stop.Memory) h.2.none nothing h.2.is)
   ];
   files = goes.files;
 }
